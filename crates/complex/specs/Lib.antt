@@ -1,0 +1,5 @@
+-- definitions
+pub mod Complex
+pub mod View
+-- laws
+pub mod Words
