@@ -36,7 +36,6 @@ power f a = add f (mul f (a .re) (a .re)) (mul f (a .im) (a .im))
 
 -- 'quotient: re = (a.re·b.re + a.im·b.im)/power(b), im = (a.im·b.re − a.re·b.im)/power(b)'
 unfoldable pub quotient : Format → Complex → Complex → Complex
-unfolding power
 quotient f a b =
     record {
       re = div f (add f (mul f (a .re) (b .re)) (mul f (a .im) (b .im))) (power f b);
@@ -63,7 +62,6 @@ unscaled f a r = record { re = div f (a .re) r; im = div f (a .im) r }
 
 -- '`norm`: the f64 nearest the exact root of the rounded f64 power'
 unfoldable pub norm : Complex → Float
-unfolding power
 norm a = rooted (power binary64 a)
 
 -- both parts rounded to f32

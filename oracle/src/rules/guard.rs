@@ -1,0 +1,22 @@
+//! **Guard.**
+
+use super::Sample;
+
+/// "A part is usable if its size is at most 1.0e17 (the f32 constant); NaN isn't."
+pub fn part_usable(part: f32) -> bool {
+    part.abs() <= 1.0e17_f32
+}
+
+/// Both parts are.
+pub fn usable(x: Sample) -> bool {
+    part_usable(x.re) && part_usable(x.im)
+}
+
+/// "Guarding replaces unusable samples by 0 and counts them." The samples and the count.
+pub fn guarded(xs: &[Sample]) -> (Vec<Sample>, u64) {
+    let kept = |&x: &Sample| if usable(x) { x } else { Sample::ZERO };
+    (
+        xs.iter().map(kept).collect(),
+        xs.iter().filter(|&&x| !usable(x)).count() as u64,
+    )
+}

@@ -1,0 +1,183 @@
+//! **Impulse** (half window 16, window 33, trim 8, longest run 4, lookahead 21).
+//!
+//! `xs` are all samples so far, numbered from 0; `flags` is [`flags`] of them, a value for each
+//! judged sample; `block` is the block length. One more sample changes none of what was said.
+
+use super::Sample;
+
+pub const HALF: usize = 16;
+pub const TRIM: usize = 8;
+pub const LONGEST: usize = 4;
+pub const LOOKAHEAD: usize = 21;
+
+/// A run of samples: its start and its length.
+pub type Span = (u64, u64);
+
+/// "powers are f32"; "power: re·re + im·im"
+pub fn power(x: Sample) -> f32 {
+    let (re, im) = (x.re * x.re, x.im * x.im);
+    re + im
+}
+
+/// How many samples are judged once `n` have arrived: "Sample j is judged when j+16 arrives."
+pub fn judged(n: usize) -> usize {
+    n.saturating_sub(HALF)
+}
+
+/// "Its window is samples j−16 to j+16, cut at 0; powers are f32."
+pub fn window(xs: &[Sample], j: usize) -> Vec<f32> {
+    let first = j.saturating_sub(HALF);
+    let end = (j + HALF + 1).min(xs.len());
+    xs[first..end].iter().map(|&x| power(x)).collect()
+}
+
+/// "Sort ascending, drop the 8 strongest, sum the rest in that order in f64, divide by their
+/// number: the reference."
+pub fn reference(xs: &[Sample], j: usize) -> f64 {
+    let mut powers = window(xs, j);
+    powers.sort_unstable_by(|a, b| a.partial_cmp(b).expect("usable samples have a power"));
+    let rest = &powers[..powers.len() - TRIM];
+    let mut sum = 0.0_f64;
+    for &p in rest {
+        sum += f64::from(p);
+    }
+    sum / rest.len() as f64
+}
+
+/// "j is flagged exactly if reference > 0 and power > 144 × reference."
+pub fn flagged(xs: &[Sample], j: usize) -> bool {
+    let reference = reference(xs, j);
+    reference > 0.0 && f64::from(power(xs[j])) > 144.0 * reference
+}
+
+/// [`flagged`] of each judged sample.
+pub fn flags(xs: &[Sample]) -> Vec<bool> {
+    (0..judged(xs.len())).map(|j| flagged(xs, j)).collect()
+}
+
+/// How many flagged samples stand right before `j`.
+pub fn before(flags: &[bool], j: usize) -> usize {
+    flags[..j].iter().rev().take_while(|&&f| f).count()
+}
+
+/// "A run of flagged samples ends at the next unflagged one, its right neighbour." The run that
+/// ends at the judged sample `j`.
+pub fn closes(flags: &[bool], j: usize) -> Option<Span> {
+    let len = before(flags, j);
+    (!flags[j] && len > 0).then_some(((j - len) as u64, len as u64))
+}
+
+/// "block length, fs rounded half away from zero"
+pub fn block_length(fs: f64) -> u64 {
+    let below = fs.floor();
+    let up = fs - below >= 0.5;
+    below as u64 + u64::from(up)
+}
+
+/// "A block is paused exactly if the one before had more than 0.001 × block length flagged
+/// (f64)."
+pub fn paused(flags: &[bool], block: u64, b: u64) -> bool {
+    if b == 0 {
+        return false;
+    }
+    let place = |j: u64| (j.min(flags.len() as u64)) as usize;
+    let one_before = &flags[place((b - 1) * block)..place(b * block)];
+    let count = one_before.iter().filter(|&&f| f).count();
+    count as f64 > 0.001 * block as f64
+}
+
+/// "Block of j: j divided by block length"; whether it is paused.
+pub fn pauses(flags: &[bool], block: u64, j: u64) -> bool {
+    paused(flags, block, j / block)
+}
+
+/// A run "with any sample in a paused block".
+pub fn touches_paused(flags: &[bool], block: u64, (start, len): Span) -> bool {
+    (start..start + len).any(|j| pauses(flags, block, j))
+}
+
+/// The run that ends at `j` is neither over 4 nor touches a paused block: it is mended where the
+/// stage applies.
+pub fn mendable(flags: &[bool], block: u64, j: usize) -> Option<Span> {
+    closes(flags, j).filter(|&run| run.1 <= LONGEST as u64 && !touches_paused(flags, block, run))
+}
+
+/// "each sample t (0 first) becomes left + (right − left) × ((t+1)/(len+1)) in f32"; "left is the
+/// last raw unflagged sample before, or right if none". The sample right before a run is
+/// unflagged, or the run would have begun earlier.
+pub fn mended(xs: &[Sample], (start, len): Span, t: u64) -> Sample {
+    let (start, len) = (start as usize, len as usize);
+    let right = xs[start + len];
+    let left = if start == 0 { right } else { xs[start - 1] };
+    let share = (t + 1) as f32 / (len + 1) as f32;
+    let part = |left: f32, right: f32| {
+        let step = right - left;
+        left + step * share
+    };
+    Sample::new(part(left.re, right.re), part(left.im, right.im))
+}
+
+/// Sample `k` as an applying stage hands it on: mended if it lies in a mended run, else raw.
+/// "A run still open is unmarked", and unmended.
+pub fn value(xs: &[Sample], flags: &[bool], block: u64, k: usize) -> Sample {
+    if k >= flags.len() || !flags[k] {
+        return xs[k];
+    }
+    let end = (k..flags.len()).find(|&j| !flags[j]);
+    match end.and_then(|j| mendable(flags, block, j)) {
+        Some(run) => mended(xs, run, k as u64 - run.0),
+        None => xs[k],
+    }
+}
+
+/// The marks of the ring Uncertain: "Each judged j of a paused block is marked Uncertain."
+pub fn uncertain(flags: &[bool], block: u64) -> Vec<Span> {
+    (0..flags.len() as u64)
+        .filter(|&j| pauses(flags, block, j))
+        .map(|j| (j, 1))
+        .collect()
+}
+
+/// The runs that have ended, in order.
+fn runs(flags: &[bool]) -> impl Iterator<Item = (usize, Span)> + '_ {
+    (0..flags.len()).filter_map(|j| closes(flags, j).map(|run| (j, run)))
+}
+
+/// The marks of the ring Repaired, which is also the list of mended runs: an ended run that is
+/// not long, where the stage applies and no sample lies in a paused block.
+pub fn repaired(flags: &[bool], block: u64, applies: bool) -> Vec<Span> {
+    runs(flags)
+        .filter_map(|(j, _)| mendable(flags, block, j))
+        .filter(|_| applies)
+        .collect()
+}
+
+/// The marks of the ring Flagged: "Over 4: marked Flagged [..]. Else, observing or with any
+/// sample in a paused block: Flagged."
+pub fn kept(flags: &[bool], block: u64, applies: bool) -> Vec<Span> {
+    runs(flags)
+        .filter(|&(j, _)| !applies || mendable(flags, block, j).is_none())
+        .map(|(_, run)| run)
+        .collect()
+}
+
+/// "Over 4: [..] long-run count plus 1."
+pub fn long_runs(flags: &[bool]) -> u64 {
+    runs(flags)
+        .filter(|&(_, run)| run.1 > LONGEST as u64)
+        .count() as u64
+}
+
+/// "held min(21, seen) if impulse applies, else 0"
+pub fn held(applies: bool, seen: usize) -> usize {
+    if applies {
+        seen.min(LOOKAHEAD)
+    } else {
+        0
+    }
+}
+
+/// "If applying, sample k is released when k+21 arrives, otherwise with its own call."
+pub fn released(applies: bool, seen: usize) -> usize {
+    seen - held(applies, seen)
+}

@@ -1,0 +1,886 @@
+//! The original against the second reading, bit for bit, on random settings, samples, cuttings
+//! into calls and hops. The seeds are fixed.
+
+mod common;
+
+use common::*;
+use oracle::condition::dc::revert_dc;
+use oracle::condition::iq::{revert_iq, IqCorrector};
+use oracle::num_complex::Complex64;
+use oracle::rules::iq::{Coefficient, Settled};
+use oracle::rules::monitor::{self, Hop};
+use oracle::rules::refusals::{self, Answer, Refusal};
+use oracle::rules::{chain, dc, guard, impulse, iq, Calibration, Mode, Sample, Setting};
+use oracle::sample_guard::replace_unusable;
+
+/// How often what happened, so that a generator that no longer reaches a rule is seen.
+#[derive(Default)]
+struct Reached {
+    cases: u64,
+    samples: u64,
+    calls: u64,
+    points: u64,
+    repaired_runs: u64,
+    kept_runs: u64,
+    long_runs: u64,
+    uncertain: u64,
+    dropped_spans: u64,
+    dropped_repairs: u64,
+    correcting: u64,
+    withheld: u64,
+    hops: u64,
+    reports: u64,
+    suspected: u64,
+    refused_hops: u64,
+    inputs_undone: u64,
+}
+
+impl Reached {
+    /// Says what was reached, without what was not.
+    fn say(&self, name: &str) {
+        let reached = [
+            (self.cases, "cases"),
+            (self.samples, "samples"),
+            (self.calls, "calls"),
+            (self.points, "points between calls"),
+            (self.repaired_runs, "repaired runs"),
+            (self.kept_runs, "kept spans"),
+            (self.long_runs, "long runs"),
+            (self.uncertain, "uncertain samples"),
+            (self.dropped_spans, "dropped spans"),
+            (self.dropped_repairs, "dropped repairs"),
+            (self.correcting, "correcting"),
+            (self.withheld, "withheld"),
+            (self.hops, "hops"),
+            (self.reports, "reports"),
+            (self.suspected, "suspected"),
+            (self.refused_hops, "refused hops"),
+            (self.inputs_undone, "mended inputs undone"),
+        ];
+        let said: Vec<String> = reached
+            .iter()
+            .filter(|(count, _)| *count > 0)
+            .map(|(count, what)| format!("{count} {what}"))
+            .collect();
+        say(&format!("{name}: {}", said.join(", ")));
+    }
+}
+
+// ---- settings
+
+fn modes(rng: &mut Rng) -> [Mode; 3] {
+    loop {
+        let mode = [Mode::Off, Mode::Observe, Mode::Apply, Mode::Apply];
+        let modes = [rng.pick(&mode), rng.pick(&mode), rng.pick(&mode)];
+        if modes != [Mode::Off; 3] {
+            return modes;
+        }
+    }
+}
+
+fn rate(rng: &mut Rng) -> f64 {
+    match rng.below(6) {
+        0 => rng.pick(&[1.0, 1.5, 2.5, 7.5, 20.0, 48.0, 1000.0]),
+        1 => rng.pick(&[1.4999999999999998, 999.5, 1000.4, 2000.0, 3000.0, 1e7]),
+        2 => 1.0 + 99.0 * rng.unit(),
+        3 => 10f64.powf(7.0 * rng.unit()).clamp(1.0, 1e7),
+        4 => rng.pick(&[8000.0, 11025.0, 44100.0, 48000.0, 192000.0, 2.4e6]),
+        _ => rng.from(1, 60) as f64,
+    }
+}
+
+/// A value near the limit `at`: there, one place below or above, or some way off.
+fn near(rng: &mut Rng, at: f64) -> f64 {
+    match rng.below(4) {
+        0 => at,
+        1 => at.next_up(),
+        2 => at.next_down(),
+        _ => at + 0.01 * rng.both(),
+    }
+}
+
+fn odd(rng: &mut Rng) -> f64 {
+    rng.pick(&[
+        f64::NAN,
+        f64::INFINITY,
+        f64::NEG_INFINITY,
+        0.0,
+        -0.0,
+        -1.0,
+        f64::MIN_POSITIVE,
+        f64::MAX,
+    ])
+}
+
+fn some_calibration(rng: &mut Rng) -> Calibration {
+    let mut c = Calibration {
+        gain: 0.5 + 1.5 * rng.unit(),
+        phase: 45.0 * rng.both(),
+        centre: 1e8 * rng.unit() + 1.0,
+    };
+    match rng.below(12) {
+        0 => {
+            let limit = rng.pick(&[0.5, 1.0, 2.0]);
+            c.gain = near(rng, limit);
+        }
+        1 => {
+            let limit = rng.pick(&[-45.0, 0.0, 45.0]);
+            c.phase = near(rng, limit);
+        }
+        2 => c.centre = rng.pick(&[1.0, 0.5, 1e300, 5e-324, 2f64.powi(53)]),
+        3 => c.gain = odd(rng),
+        4 => c.phase = odd(rng),
+        5 => c.centre = odd(rng),
+        6 => (c.gain, c.phase) = (1.0, rng.pick(&[0.0, -0.0])),
+        7 => (c.gain, c.phase) = (rng.pick(&[0.5, 2.0]), rng.pick(&[-45.0, 45.0])),
+        _ => (),
+    }
+    c
+}
+
+/// A receiver centre: mostly at or near the calibrated one.
+fn receiver_centre(rng: &mut Rng, c: Option<Calibration>) -> f64 {
+    let at = c.map_or(1e6, |c| c.centre);
+    match rng.below(8) {
+        0 => at + 1.0,
+        1 => at - 1.0,
+        2 => at + rng.pick(&[1.5, -1.5, 1.0000001, -1.0000001]),
+        3 => odd(rng),
+        4 => at + 2.0 * rng.both(),
+        _ => at,
+    }
+}
+
+fn some_setting(rng: &mut Rng) -> Setting {
+    let [impulse, dc, iq] = modes(rng);
+    let calibration = (!rng.once_in(6)).then(|| some_calibration(rng));
+    Setting {
+        fs: rate(rng),
+        centre: receiver_centre(rng, calibration),
+        n: if rng.once_in(8) {
+            rng.below(8)
+        } else {
+            rng.from(8, 64)
+        },
+        impulse,
+        dc,
+        iq,
+        calibration,
+        spans: rng.pick(&[1, 2, 3, 5, 256, 256]),
+        repairs: rng.pick(&[1, 2, 3, 7, 4096, 4096]),
+    }
+}
+
+// ---- samples
+
+const MOST: f32 = 1.0e17;
+
+fn clipped(re: f64, im: f64) -> Sample {
+    let clip = |part: f64| (part as f32).clamp(-MOST, MOST);
+    Sample::new(clip(re), clip(im))
+}
+
+/// A ground of `n` samples, of one kind.
+fn ground(rng: &mut Rng, n: usize) -> Vec<Sample> {
+    let kind = rng.below(11);
+    let size = 10f64.powf(rng.both() * 5.0);
+    let turn = 7.0 * rng.unit();
+    (0..n)
+        .map(|k| match kind {
+            0 => Sample::new(1.0, 0.0),
+            1 => clipped(rng.both(), rng.both()),
+            2 => clipped(size * rng.both(), size * rng.both()),
+            3 => {
+                let t = turn * k as f64;
+                clipped(
+                    size * t.cos() + 0.01 * rng.both(),
+                    size * t.sin() + 0.01 * rng.both(),
+                )
+            }
+            4 => Sample::new(rng.pick(&[0.0, -0.0]), rng.pick(&[0.0, -0.0])),
+            5 => Sample::new(
+                f32::from_bits(rng.next() as u32 & 0x807f_ffff),
+                f32::from_bits(rng.next() as u32 & 0x807f_ffff),
+            ),
+            6 => clipped(
+                1e17 * rng.pick(&[1.0, -1.0, 0.9, 0.99999]),
+                1e17 * rng.both(),
+            ),
+            7 => {
+                let scale = 10f64.powf(62.0 * rng.unit() - 45.0);
+                clipped(scale * rng.both(), scale * rng.both())
+            }
+            8 => Sample::new(rng.from(0, 3) as f32, rng.from(0, 3) as f32),
+            9 => Sample::new(rng.pick(&[0.5, -0.5, 0.25, 0.0]), 0.0),
+            _ => Sample::new(
+                f32::from_bits(0x1a00_0000 + (rng.next() as u32 & 0x00ff_ffff)),
+                0.0,
+            ),
+        })
+        .collect()
+}
+
+/// Runs of stronger samples, dense or sparse, of lengths 1 to 8.
+fn add_clicks(rng: &mut Rng, xs: &mut [Sample]) {
+    let one_in = rng.pick(&[6, 12, 30, 30, 60, 200]);
+    let longest = rng.pick(&[1, 2, 4, 4, 5, 8]);
+    let mut k = if rng.once_in(4) {
+        0
+    } else {
+        rng.below(2 * one_in)
+    };
+    while k < xs.len() {
+        let len = rng.from(1, longest);
+        let factor = rng.pick(&[12.0, 13.0, 20.0, 100.0, 100.0, 1e4, 1e9]);
+        let alike = rng.once_in(2);
+        for x in xs.iter_mut().skip(k).take(len) {
+            *x = if alike {
+                clipped(factor, 0.0)
+            } else {
+                clipped(
+                    factor * (f64::from(x.re) + 0.3 * rng.both()),
+                    factor * (f64::from(x.im) + 0.3 * rng.both()),
+                )
+            };
+        }
+        k += len + rng.from(1, 2 * one_in);
+    }
+}
+
+/// Single samples whose power stands at the flag's limit, or a place or two off.
+fn add_limits(rng: &mut Rng, xs: &mut [Sample]) {
+    let mut j = rng.below(20);
+    while j + impulse::HALF < xs.len() {
+        xs[j] = Sample::new(MOST, 0.0);
+        let limit = (144.0 * impulse::reference(xs, j)).sqrt() as f32;
+        let off = rng.from(0, 4) as u32;
+        let re = f32::from_bits((limit.to_bits() + 2).saturating_sub(off));
+        xs[j] = Sample::new(re.min(MOST), 0.0);
+        j += rng.from(1, 50);
+    }
+}
+
+fn some_samples(rng: &mut Rng, n: usize) -> Vec<Sample> {
+    let mut xs = Vec::new();
+    while xs.len() < n {
+        let part = if rng.once_in(3) {
+            rng.from(1, 60).min(n - xs.len())
+        } else {
+            n - xs.len()
+        };
+        xs.extend(ground(rng, part));
+    }
+    match rng.below(6) {
+        0 => (),
+        1 => add_limits(rng, &mut xs),
+        _ => add_clicks(rng, &mut xs),
+    }
+    assert!(xs.iter().all(|&x| guard::usable(x)));
+    xs
+}
+
+// ---- hops
+
+/// What a hop was made to meet.
+#[derive(Debug, PartialEq)]
+enum Meant {
+    Accepted,
+    Nothing,
+    Nine,
+    Seven(usize),
+}
+
+fn some_channels(rng: &mut Rng, n: usize) -> Vec<Sample> {
+    let kind = rng.below(8);
+    let huge = 999_999_984_306_749_440_f32; // the greatest f32 within 1e18
+    let mut channels: Vec<Sample> = (0..n)
+        .map(|_| match kind {
+            0 => Sample::new(1.0, 0.0),
+            1 => Sample::new(rng.pick(&[0.0, -0.0]), rng.pick(&[0.0, -0.0])),
+            2 => clipped(1e-3 * rng.both(), 1e-3 * rng.both()),
+            3 => Sample::new(
+                f32::from_bits(rng.next() as u32 & 0x80ff_ffff),
+                f32::from_bits(rng.next() as u32 & 0x80ff_ffff),
+            ),
+            4 => Sample::new(rng.pick(&[huge, -huge, 1.0]), rng.pick(&[huge, 0.0, -0.0])),
+            5 => rng.pick(&[
+                Sample::new(1.0, 0.0),
+                Sample::new(1.0, 0.0),
+                Sample::new(30.0, 10.0),
+                Sample::new(2.0, 0.0),
+            ]),
+            _ => clipped(0.1 * rng.both(), 0.1 * rng.both()),
+        })
+        .collect();
+    // A strong channel and a weaker or equal mirror.
+    if n >= 12 && rng.below(3) > 0 {
+        let k = rng.from(3, n - 3);
+        let strong = rng.pick(&[31.0, 32.0, 100.0, 1e4]);
+        channels[k] = clipped(strong * rng.both(), strong);
+        let weak = rng.pick(&[2.0, 3.0, 10.0, strong]);
+        channels[(n - k) % n] = clipped(weak * rng.both(), weak);
+        if rng.once_in(3) {
+            channels[(n - k) % n] = channels[k];
+        }
+    }
+    channels
+}
+
+/// A hop after `end`, the end of the last accepted one, and what it should meet.
+fn some_hop(rng: &mut Rng, s: &Setting, end: u64) -> (Hop, Meant) {
+    let window = monitor::window_length(s.fs);
+    let mut start = match rng.below(12) {
+        0..=6 => end,
+        7 => end + rng.below(10) as u64,
+        8 => end + rng.below(window as usize + 1) as u64,
+        9 => end + rng.below(3 * window as usize) as u64,
+        10 if rng.once_in(20) => end + (rng.next() >> 20),
+        11 if rng.once_in(40) => refusals::TOTAL.max(end),
+        _ => end,
+    };
+    let mut n = s.n;
+    let mut meant = Meant::Accepted;
+    match rng.below(25) {
+        0 if end > 0 => (start, meant) = (rng.below(end as usize) as u64, Meant::Nine),
+        1 => (start, meant) = (refusals::TOTAL + 1 + (rng.next() >> 17), Meant::Nine),
+        2 => n = rng.pick(&[n + 1, n / 2, 0, 3 * n]),
+        _ if start > refusals::TOTAL => meant = Meant::Nine,
+        _ => (),
+    }
+    let mut channels = some_channels(rng, n);
+    if n > 0 && rng.once_in(25) {
+        let place = rng.below(n);
+        let bad = rng.pick(&[f32::NAN, f32::INFINITY, -f32::INFINITY, 1.0000001e18, -2e18]);
+        if rng.once_in(2) {
+            channels[place].re = bad;
+        } else {
+            channels[place].im = bad;
+        }
+        if meant == Meant::Accepted {
+            meant = Meant::Seven(place);
+        }
+    }
+    if s.iq == Mode::Off || n != s.n || n < 8 {
+        meant = Meant::Nothing;
+    }
+    (Hop { start, channels }, meant)
+}
+
+// ---- a case
+
+/// Lengths of calls that add up to `n`.
+fn cutting(rng: &mut Rng, n: usize) -> Vec<usize> {
+    let longest = rng.pick(&[1, 2, 5, 22, 40, 200, n.max(1)]);
+    let mut left = n;
+    let mut lengths = Vec::new();
+    while left > 0 {
+        let len = match rng.below(6) {
+            0 => 0,
+            1 => 1,
+            _ => rng.from(0, longest),
+        }
+        .min(left);
+        left -= len;
+        lengths.push(len);
+    }
+    if rng.once_in(2) {
+        lengths.push(0);
+    }
+    lengths
+}
+
+/// One case: the cut run beside the rules at some points and at the end, one call with all
+/// samples, and the undos.
+fn case(rng: &mut Rng, s: &Setting, xs: &[Sample], hops_wanted: usize, at: &str, r: &mut Reached) {
+    let lengths = cutting(rng, xs.len());
+    let mut chain = original(s).expect("not all off");
+    let (mut seen, mut end) = (0, 0);
+    let mut out = Vec::new();
+    let mut hops: Vec<Hop> = Vec::new();
+    let mut answered = Vec::new();
+    let mut tail: Vec<Sample> = Vec::new();
+    let mut hops_left = hops_wanted;
+    for (i, &len) in lengths.iter().enumerate() {
+        // Hops before this call; after the last call, the rest.
+        let calls_left = lengths.len() - i;
+        while hops_left > 0 && rng.below(calls_left + 1) == 0 {
+            hops_left -= 1;
+            one_hop(
+                rng,
+                s,
+                &mut chain,
+                &mut hops,
+                &mut end,
+                &mut answered,
+                at,
+                r,
+            );
+        }
+        let new = &xs[seen..seen + len];
+        if rng.once_in(3) {
+            // "held ones are never read": anything may stand there.
+            tail = vec![Sample::of_word(rng.next()); chain.held];
+        }
+        assert_eq!(
+            refusals::call(seen as u64, tail.len(), &[&tail, new].concat()),
+            None
+        );
+        let ready = call(&mut chain, &tail, new);
+        let slice = [&tail, new].concat();
+        assert_eq!(ready.len(), chain::ready(s, seen, len), "{at}: ready");
+        tail = slice[ready.len()..].to_vec();
+        out.extend(ready);
+        seen += len;
+        r.calls += 1;
+        if rng.below(lengths.len()) == 0 {
+            let record = chain::whole(s, &xs[..seen], &hops);
+            assert_eq!(words(&out), words(&record.out), "{at}: released at {seen}");
+            compare(&chain, s, &record, &hops, &format!("{at}, at {seen}"));
+            r.points += 1;
+        }
+    }
+    while hops_left > 0 {
+        hops_left -= 1;
+        one_hop(
+            rng,
+            s,
+            &mut chain,
+            &mut hops,
+            &mut end,
+            &mut answered,
+            at,
+            r,
+        );
+    }
+    let record = chain::whole(s, xs, &hops);
+    assert_eq!(words(&out), words(&record.out), "{at}: released");
+    compare(&chain, s, &record, &hops, at);
+    let answers: Vec<_> = monitor::answers(s.fs, s.n, &hops)
+        .iter()
+        .map(|e| e.as_ref().map(evidence_words))
+        .collect();
+    assert_eq!(answered, answers, "{at}: evidence of every hop");
+    compare_undos(&chain, s, &record, xs, rng, at);
+
+    // One call with all samples, the hops behind it.
+    let (mut one, one_out) = run_whole(s, xs);
+    for (hop, answer) in hops.iter().zip(&answered) {
+        let result = one.observe_hop(&all_c32(&hop.channels), hop.start);
+        assert_eq!(result.as_ref().map(result_words), *answer, "{at}: one call");
+    }
+    assert_eq!(words(&one_out), words(&out), "{at}: one call");
+    compare(&one, s, &record, &hops, &format!("{at}, one call"));
+
+    r.cases += 1;
+    r.samples += xs.len() as u64;
+    let runs =
+        |ring: usize| record.rings[ring].spans().len() as u64 + record.rings[ring].ring.dropped;
+    r.repaired_runs += record.repairs.held as u64 + record.repairs.dropped;
+    r.kept_runs += runs(1);
+    r.long_runs += record.long_runs;
+    r.uncertain += record.rings[3].count;
+    r.dropped_spans += record.spans_dropped();
+    r.dropped_repairs += record.repairs.dropped;
+    r.correcting += u64::from(matches!(record.iq, Settled::Correcting(_)));
+    r.withheld += u64::from(matches!(record.iq, Settled::Withheld));
+    r.inputs_undone += u64::from(
+        s.dc != Mode::Apply
+            && !matches!(record.iq, Settled::Correcting(_))
+            && record.repairs.dropped == 0
+            && record.repairs.held > 0,
+    );
+}
+
+/// One hop: given to the original where the rules accept it or answer nothing.
+#[allow(clippy::too_many_arguments)]
+fn one_hop(
+    rng: &mut Rng,
+    s: &Setting,
+    chain: &mut oracle::condition::InputConditioner,
+    hops: &mut Vec<Hop>,
+    end: &mut u64,
+    answered: &mut Vec<Option<[u64; 7]>>,
+    at: &str,
+    r: &mut Reached,
+) {
+    let (hop, meant) = some_hop(rng, s, *end);
+    let refused = |number, place| Answer::Refused(Refusal { number, place });
+    let answer = refusals::hop(s, *end, hop.start, &hop.channels);
+    let expected = match meant {
+        Meant::Accepted => Answer::Accepted,
+        Meant::Nothing => Answer::Nothing,
+        Meant::Nine => refused(9, None),
+        Meant::Seven(place) => refused(7, Some(place)),
+    };
+    assert_eq!(answer, expected, "{at}: hop at {}", hop.start);
+    match answer {
+        Answer::Refused(_) => r.refused_hops += 1,
+        Answer::Nothing => {
+            let result = chain.observe_hop(&all_c32(&hop.channels), hop.start);
+            assert!(result.is_none(), "{at}: answered by nothing");
+        }
+        Answer::Accepted => {
+            let result = chain.observe_hop(&all_c32(&hop.channels), hop.start);
+            r.hops += 1;
+            r.reports += u64::from(result.is_some());
+            r.suspected += u64::from(result.as_ref().is_some_and(|e| e.suspected));
+            answered.push(result.as_ref().map(result_words));
+            *end = monitor::end(s.n, &hop);
+            hops.push(hop);
+        }
+    }
+}
+
+#[test]
+fn short_inputs() {
+    let mut r = Reached::default();
+    for seed in 0..24_000 {
+        let rng = &mut Rng::new(seed);
+        let s = some_setting(rng);
+        let n = match rng.below(8) {
+            0 => rng.below(45),
+            1 => rng.from(300, 900),
+            _ => rng.below(300),
+        };
+        let xs = some_samples(rng, n);
+        let hops = if rng.once_in(3) { rng.below(30) } else { 0 };
+        case(rng, &s, &xs, hops, &format!("short {seed}"), &mut r);
+    }
+    r.say("short inputs");
+    assert!(r.repaired_runs > 1000 && r.kept_runs > 1000 && r.long_runs > 300);
+    assert!(r.uncertain > 1000 && r.dropped_spans > 1000 && r.dropped_repairs > 300);
+    assert!(r.correcting > 300 && r.withheld > 300 && r.suspected > 30);
+    assert!(r.inputs_undone > 300);
+}
+
+#[test]
+fn long_inputs() {
+    let mut r = Reached::default();
+    for seed in 0..240 {
+        let rng = &mut Rng::new(1_000_000 + seed);
+        let mut s = some_setting(rng);
+        if rng.once_in(2) {
+            s.fs = rng.pick(&[400.0, 998.5, 999.0, 999.5, 1000.0, 1000.49, 1999.0, 2000.0]);
+            s.impulse = Mode::Apply;
+        }
+        let n = rng.from(2000, 9000);
+        let mut xs = some_samples(rng, n);
+        if rng.once_in(2) {
+            // Few clicks among ones, so that blocks of 1000 have 0 to 3 flagged.
+            xs = vec![Sample::new(1.0, 0.0); n];
+            for _ in 0..n / 700 {
+                xs[rng.below(n)] = Sample::new(100.0, 0.0);
+            }
+        }
+        case(rng, &s, &xs, 20, &format!("long {seed}"), &mut r);
+    }
+    r.say("long inputs");
+    assert!(r.repaired_runs > 1000 && r.uncertain > 10_000);
+}
+
+#[test]
+fn order_of_the_sum() {
+    // The window of the bench mark on unsorted sums, in any order, at any scale: sample 16 stands
+    // at the flag's limit, and only the sum in ascending order says so.
+    let mut r = Reached::default();
+    let (tiny, below_one) = (2f32.powi(-12), 1.0 - 2f32.powi(-24));
+    for seed in 0..3000 {
+        let rng = &mut Rng::new(2_500_000 + seed);
+        let mut xs = vec![Sample::new(10.0, 0.0); 7];
+        xs.extend([Sample::new(1.0, 2.0); 4]);
+        xs.extend([(1.0, 1.0), (1.0, 0.0), (0.0, 1.0)].map(|(re, im)| Sample::new(re, im)));
+        xs.extend([
+            Sample::new(below_one, tiny),
+            Sample::new(tiny * below_one, tiny * tiny),
+        ]);
+        xs.extend([Sample::new(2f32.powi(-26), 0.0); 16]);
+        for i in (1..xs.len()).rev() {
+            xs.swap(i, rng.below(i + 1));
+        }
+        xs.insert(16, Sample::new(12.0, 0.0));
+        xs.extend([Sample::new(1.0, 0.0); 30]);
+        let scale = 2f32.powi(rng.from(0, 40) as i32 - 20);
+        for x in &mut xs {
+            *x = Sample::new(x.re * scale, x.im * scale);
+        }
+        assert!(!impulse::flagged(&xs, 16));
+        let mode = rng.pick(&[Mode::Observe, Mode::Apply]);
+        let s = setting(48000.0, mode, Mode::Off, Mode::Off);
+        case(rng, &s, &xs, 0, &format!("order {seed}"), &mut r);
+    }
+    r.say("order of the sum");
+}
+
+#[test]
+fn every_pattern_of_clicks() {
+    // Each set of the first twelve of 52 samples, and each set of twelve from place 17 on.
+    let mut r = Reached::default();
+    for pattern in 0..4096_usize {
+        let rng = &mut Rng::new(2_000_000 + pattern as u64);
+        for (fs, first, impulse) in [
+            (48000.0, 0, Mode::Apply),
+            (48000.0, 17, Mode::Apply),
+            (5.0, 17, Mode::Apply),
+            (5.0, 0, Mode::Observe),
+        ] {
+            let mut s = setting(fs, impulse, Mode::Off, Mode::Off);
+            s.spans = rng.pick(&[1, 2, 256]);
+            s.repairs = rng.pick(&[1, 2, 4096]);
+            let mut xs = vec![Sample::new(1.0, 0.5); 52];
+            for k in 0..12 {
+                if pattern >> k & 1 == 1 {
+                    xs[first + k] = Sample::new(100.0, k as f32);
+                }
+            }
+            let at = format!("pattern {pattern} at {first}, fs {fs}");
+            case(rng, &s, &xs, 0, &at, &mut r);
+        }
+    }
+    r.say("every pattern of clicks");
+}
+
+#[test]
+fn hops() {
+    let mut r = Reached::default();
+    for seed in 0..6000 {
+        let rng = &mut Rng::new(3_000_000 + seed);
+        let mut s = some_setting(rng);
+        s.iq = rng.pick(&[Mode::Observe, Mode::Observe, Mode::Apply]);
+        s.n = rng.from(8, 64);
+        if rng.below(3) > 0 {
+            s.fs = rng.pick(&[1.0, 1.5, 3.3, 7.5, 20.0]);
+        }
+        let n = rng.below(60);
+        let xs = some_samples(rng, n);
+        let hops = rng.from(1, 80);
+        case(rng, &s, &xs, hops, &format!("hops {seed}"), &mut r);
+    }
+    r.say("hops");
+    assert!(r.hops > 10_000 && r.reports > 3000 && r.suspected > 300);
+}
+
+/// The greatest f32 whose square is at most `r`.
+fn root_below(r: f64) -> f32 {
+    let mut root = r.sqrt() as f32;
+    while f64::from(root) * f64::from(root) > r {
+        root = root.next_down();
+    }
+    root
+}
+
+#[test]
+fn limits_of_a_suspected_window() {
+    // 12 channels at fs 1; two hops are a window. Floor 1, p in channel 9, q in channel 3: each
+    // at its limit, and one place below.
+    let mut r = Reached::default();
+    let most = oracle::num_complex::TEN_TO_0_6;
+    for (p, q, suspected) in [
+        (1000.0, most, true),
+        (1000.0, most.next_down(), false),
+        (1000.0, 4.0, true),
+        (999.9999999999999, 4.0, false),
+        (1000.0, 1000.0, true),
+    ] {
+        // The parts of both hops, so that the powers' sums are p and q.
+        let parts = |power: f64| {
+            let a = root_below(power);
+            let rest = power - f64::from(a) * f64::from(a);
+            let b = root_below(rest);
+            let c = root_below(rest - f64::from(b) * f64::from(b));
+            [Sample::new(a, b), Sample::new(c, 0.0)]
+        };
+        let mut hops = Vec::new();
+        for i in 0..2 {
+            let channel = Sample::new(if i == 0 { 1.0 } else { 0.0 }, 0.0);
+            let mut channels = vec![channel; 12];
+            channels[9] = parts(p)[i];
+            channels[3] = parts(q)[i];
+            let start = 3 * i as u64;
+            hops.push(Hop { start, channels });
+        }
+        let mut s = setting(1.0, Mode::Off, Mode::Off, Mode::Observe);
+        s.n = 12;
+        let mut chain = original(&s).expect("IQ observes");
+        let answers = monitor::answers(s.fs, s.n, &hops);
+        for (hop, answer) in hops.iter().zip(&answers) {
+            let result = chain.observe_hop(&all_c32(&hop.channels), hop.start);
+            let (result, answer) = (result.as_ref(), answer.as_ref());
+            assert_eq!(result.map(result_words), answer.map(evidence_words));
+        }
+        let e = answers[1].expect("a window");
+        assert_eq!((e.floor, e.strongest, e.mirror), (1.0, p, q));
+        assert_eq!(e.suspected, suspected, "{p} {q}");
+        compare(&chain, &s, &chain::whole(&s, &[], &hops), &hops, "limits");
+        r.cases += 1;
+        r.hops += 2;
+    }
+    r.say("limits of a suspected window");
+}
+
+#[test]
+fn hops_of_the_greatest_size() {
+    let mut r = Reached::default();
+    for seed in 0..12 {
+        let rng = &mut Rng::new(3_500_000 + seed);
+        let mut s = setting(1000.0, Mode::Off, Mode::Off, Mode::Observe);
+        s.n = rng.pick(&[2048, 2047, 512]);
+        case(rng, &s, &[], 30, &format!("great hops {seed}"), &mut r);
+    }
+    r.say("hops of the greatest size");
+}
+
+/// Anything at all, unusable parts among it.
+fn anything(rng: &mut Rng) -> f32 {
+    match rng.below(6) {
+        0 => f32::from_bits(rng.next() as u32),
+        1 => rng.pick(&[
+            f32::NAN,
+            f32::INFINITY,
+            f32::NEG_INFINITY,
+            MOST,
+            -MOST,
+            MOST.next_up(),
+            -MOST.next_up(),
+        ]),
+        _ => rng.both() as f32,
+    }
+}
+
+#[test]
+fn guarding() {
+    let (mut samples, mut replaced) = (0, 0);
+    for seed in 0..2000 {
+        let rng = &mut Rng::new(4_000_000 + seed);
+        let n = rng.below(100);
+        let xs: Vec<Sample> = (0..n)
+            .map(|_| Sample::new(anything(rng), anything(rng)))
+            .collect();
+        let mut slice = all_c32(&xs);
+        let count = replace_unusable(&mut slice);
+        let (guarded, expected) = guard::guarded(&xs);
+        assert_eq!(words_c32(&slice), words(&guarded), "guard {seed}");
+        assert_eq!(count, expected, "guard {seed}");
+        samples += xs.len();
+        replaced += count;
+    }
+    say(&format!(
+        "guarding: 2000 cases, {samples} samples, {replaced} replaced"
+    ));
+    assert!(replaced > 1000);
+}
+
+#[test]
+fn undoing_dc_of_anything_within() {
+    let mut samples = 0;
+    for seed in 0..2000 {
+        let rng = &mut Rng::new(5_000_000 + seed);
+        let fs = rate(rng);
+        let n = rng.below(200);
+        let mut ys = some_samples(rng, n);
+        if rng.once_in(3) {
+            ys.iter_mut().for_each(|y| y.re *= 9.9);
+        }
+        assert_eq!(refusals::dc_undo(fs, &ys, ys.len()), None);
+        let undone = revert_dc(&all_c32(&ys), fs);
+        assert_eq!(words_c32(&undone), words(&dc::undone(fs, &ys)), "{seed}");
+        samples += ys.len();
+    }
+    say(&format!("undoing DC: 2000 cases, {samples} samples"));
+}
+
+#[test]
+fn undoing_iq_with_any_coefficient() {
+    let (mut samples, mut unfit) = (0, 0);
+    for seed in 0..4000 {
+        let rng = &mut Rng::new(6_000_000 + seed);
+        let mut c = Coefficient {
+            re: rng.both(),
+            im: rng.both(),
+        };
+        match rng.below(5) {
+            0 => c = iq::coefficient(some_calibration(rng)),
+            1 => {
+                c.im = 0.0;
+                c.re = near(rng, (1.0_f64 - 1e-12).sqrt());
+            }
+            2 if rng.once_in(2) => c.re = odd(rng),
+            2 => c.im = odd(rng),
+            _ => (),
+        }
+        let n = rng.below(50);
+        let mut ys = some_samples(rng, n);
+        if rng.once_in(3) {
+            ys.iter_mut().for_each(|y| y.im *= 9.9);
+        }
+        let wide = Complex64::new(c.re, c.im);
+        assert_eq!(IqCorrector::new(wide).is_ok(), iq::accepted(c), "{seed}");
+        match refusals::iq_undo(c, &ys) {
+            Some(refusal) => {
+                assert_eq!(refusal.number, 10, "{seed}");
+                let mut slice = all_c32(&ys);
+                assert!(revert_iq(&mut slice, wide).is_err(), "{seed}");
+                assert_eq!(words_c32(&slice), words(&ys), "a refusal leaves all");
+                unfit += 1;
+            }
+            None => compare_iq_undo(&ys, c, &format!("iq undo {seed}")),
+        }
+        samples += ys.len();
+    }
+    say(&format!(
+        "undoing IQ: 4000 cases, {samples} samples, {unfit} unfit"
+    ));
+    assert!(unfit > 200);
+}
+
+#[test]
+fn coefficients_and_decisions() {
+    let (mut correcting, mut withheld) = (0, 0);
+    for seed in 0..40_000 {
+        let rng = &mut Rng::new(7_000_000 + seed);
+        let mut s = some_setting(rng);
+        s.iq = Mode::Apply;
+        let chain = original(&s).expect("IQ is on");
+        compare(
+            &chain,
+            &s,
+            &chain::whole(&s, &[], &[]),
+            &[],
+            &format!("{seed}"),
+        );
+        match iq::settled(&s) {
+            Settled::Correcting(_) => correcting += 1,
+            _ => withheld += 1,
+        }
+        if let Some(c) = s.calibration {
+            let ratio = calibration(c).image_ratio();
+            let rules = iq::coefficient(c);
+            if rules.re.is_nan() || rules.im.is_nan() {
+                continue;
+            }
+            assert_eq!(
+                (ratio.re.to_bits(), ratio.im.to_bits()),
+                (rules.re.to_bits(), rules.im.to_bits()),
+                "{c:?}"
+            );
+        }
+    }
+    say(&format!(
+        "coefficients: {correcting} correcting, {withheld} withheld"
+    ));
+    assert!(correcting > 5000 && withheld > 5000);
+}
+
+#[test]
+fn observing_and_off() {
+    let modes = [Mode::Off, Mode::Observe, Mode::Apply];
+    for impulse in modes {
+        for dc in modes {
+            for iq in modes {
+                let s = setting(48000.0, impulse, dc, iq);
+                assert_eq!(config(&s).observing(), config(&s.observing()));
+                assert_eq!(config(&s).is_off(), s.is_off());
+                assert_eq!(original(&s).is_none(), s.is_off());
+            }
+        }
+    }
+}

@@ -1,0 +1,196 @@
+//! The replay's header, its refusals and its printed report: the text of the second reading, and
+//! the same text put together from the original's log.
+
+mod common;
+
+use common::*;
+use oracle::condition::{IqStatus, Mark, Stage};
+use oracle::rules::replay::{header, printed, samples};
+use oracle::rules::{Calibration, Mode, Sample, Setting};
+use oracle::sample_guard::replace_unusable;
+
+fn byte(mode: Mode) -> u8 {
+    match mode {
+        Mode::Off => 0,
+        Mode::Observe => 1,
+        Mode::Apply => 2,
+    }
+}
+
+/// The input that says `s` and the samples.
+fn input(s: &Setting, xs: &[Sample]) -> Vec<u8> {
+    let mut bytes = b"CND\x01\x00".to_vec();
+    bytes.extend([s.impulse, s.dc, s.iq].map(byte));
+    bytes.push(u8::from(s.calibration.is_some()));
+    let c = s.calibration.unwrap_or(Calibration {
+        gain: 9.0,
+        phase: f64::NAN,
+        centre: -1.0,
+    });
+    for number in [s.fs, s.centre, c.gain, c.phase, c.centre] {
+        bytes.extend(number.to_le_bytes());
+    }
+    for x in xs {
+        bytes.extend(x.re.to_le_bytes());
+        bytes.extend(x.im.to_le_bytes());
+    }
+    bytes
+}
+
+/// The report, from the original's own log.
+fn printed_by_original(s: &Setting, xs: &[Sample]) -> String {
+    let mut slice = all_c32(xs);
+    let replaced = replace_unusable(&mut slice);
+    let Some(mut chain) = original(s) else {
+        return "off\n".into();
+    };
+    chain.condition(&mut slice);
+    let log = chain.log();
+    let mut lines = vec![
+        format!("replaced {replaced}"),
+        format!(
+            "seen {} final {} held {}",
+            log.samples_seen(),
+            chain.released,
+            chain.held
+        ),
+    ];
+    let name = |stage: Stage, mark: Mark| format!("{stage:?} {mark:?}").to_lowercase();
+    for stage in Stage::ALL {
+        for mark in Mark::ALL {
+            if log.count(stage, mark) > 0 {
+                let count = log.count(stage, mark);
+                lines.push(format!("count {} {count}", name(stage, mark)));
+            }
+        }
+    }
+    for span in log.spans() {
+        let name = name(span.stage, span.mark);
+        lines.push(format!("span {name} {} {}", span.start_sample, span.len));
+    }
+    let dropped = (log.spans_dropped(), log.repairs_dropped());
+    lines.push(format!("dropped {} {}", dropped.0, dropped.1));
+    lines.push(match log.dc_level() {
+        None => "dc none".into(),
+        Some(l) => format!("dc {:016x} {:016x}", l.re.to_bits(), l.im.to_bits()),
+    });
+    let iq = match log.iq_status() {
+        IqStatus::Off => "off",
+        IqStatus::Observing => "observing",
+        IqStatus::Correcting => "correcting",
+        IqStatus::CalibrationMismatch => "mismatch",
+    };
+    lines.push(format!("iq {iq}"));
+    lines.join("\n") + "\n"
+}
+
+/// A setting as the replay makes it.
+fn replayed(fs: f64, impulse: Mode, dc: Mode, iq: Mode) -> Setting {
+    Setting {
+        n: 8,
+        repairs: 1024,
+        spans: 256,
+        ..setting(fs, impulse, dc, iq)
+    }
+}
+
+#[test]
+fn the_sample_of_document_01() {
+    let s = replayed(48000.0, Mode::Apply, Mode::Off, Mode::Off);
+    let mut xs = vec![Sample::new(1.0, 0.0); 60];
+    xs[20] = Sample::new(100.0, 0.0);
+    let expected = "replaced 0\n\
+        seen 60 final 39 held 21\n\
+        count impulse repaired 1\n\
+        span impulse repaired 20 1\n\
+        dropped 0 0\n\
+        dc none\n\
+        iq off\n";
+    let mut bytes = input(&s, &xs);
+    assert_eq!(printed(&bytes), expected);
+    assert_eq!(printed_by_original(&s, &xs), expected);
+    // "A tail under 8 bytes is ignored."
+    bytes.extend([0xff; 7]);
+    assert_eq!(printed(&bytes), expected);
+}
+
+#[test]
+fn refusals_14_15_then_making() {
+    let s = replayed(48000.0, Mode::Apply, Mode::Off, Mode::Off);
+    let whole = input(&s, &[Sample::new(1.0, 0.0)]);
+    assert_eq!(whole.len(), 57);
+    assert!(printed(&whole).starts_with("replaced 0\nseen 1 final 0 held 1\n"));
+    for len in 0..49 {
+        assert_eq!(printed(&whole[..len]), "refused 14\n");
+    }
+    for len in 49..57 {
+        assert_eq!(printed(&whole[..len]), "refused 15\n");
+    }
+    // Mark, version, modes and the present byte.
+    for (place, good) in [
+        (0, 1),
+        (1, 1),
+        (2, 1),
+        (3, 1),
+        (4, 1),
+        (5, 3),
+        (6, 3),
+        (7, 3),
+        (8, 2),
+    ] {
+        let mut taken = 0;
+        for value in 0..=255 {
+            let mut bytes = whole.clone();
+            bytes[place] = value;
+            taken += usize::from(printed(&bytes) != "refused 14\n");
+            // 14 comes before 15 and before all off.
+            let short = printed(&bytes[..49]);
+            assert!(short == "refused 14\n" || short == "refused 15\n");
+        }
+        assert_eq!(taken, good, "byte {place}");
+    }
+    // 15 before making, all off before 1, and 1.
+    let off = replayed(0.0, Mode::Off, Mode::Off, Mode::Off);
+    assert_eq!(printed(&input(&off, &[])), "refused 15\n");
+    assert_eq!(printed(&input(&off, &[Sample::ZERO])), "off\n");
+    let slow = replayed(0.5, Mode::Off, Mode::Observe, Mode::Off);
+    assert_eq!(printed(&input(&slow, &[])), "refused 15\n");
+    assert_eq!(printed(&input(&slow, &[Sample::ZERO])), "refused 1\n");
+}
+
+#[test]
+fn reports_of_both() {
+    let mut total = 0;
+    for seed in 0..3000 {
+        let rng = &mut Rng::new(9_000_000 + seed);
+        let modes = [Mode::Off, Mode::Observe, Mode::Apply];
+        let fs = rng.pick(&[1.0, 7.5, 20.0, 1000.0, 48000.0]);
+        let mut s = replayed(fs, rng.pick(&modes), rng.pick(&modes), rng.pick(&modes));
+        s.centre = rng.pick(&[7e6, 7e6 + 1.0, 7e6 + 1.5, f64::NAN]);
+        s.calibration = (!rng.once_in(3)).then(|| Calibration {
+            gain: 0.4 + 1.7 * rng.unit(),
+            phase: 46.0 * rng.both(),
+            centre: 7e6,
+        });
+        let n = rng.from(1, 300);
+        let xs: Vec<Sample> = (0..n)
+            .map(|_| match rng.below(40) {
+                0 => Sample::new(100.0, rng.both() as f32),
+                1 => Sample::new(f32::from_bits(rng.next() as u32), 0.0),
+                2 => Sample::new(0.0, rng.pick(&[f32::NAN, f32::INFINITY, 1e17])),
+                _ => Sample::new(1.0, 0.1 * rng.both() as f32),
+            })
+            .collect();
+        let bytes = input(&s, &xs);
+        let read = header(&bytes).expect("a header");
+        assert_eq!(read.fs.to_bits(), s.fs.to_bits());
+        assert_eq!(words(&samples(&bytes)), words(&xs));
+        assert_eq!(
+            printed(&bytes),
+            printed_by_original(&s, &xs),
+            "replay {seed}"
+        );
+        total += n;
+    }
+    say(&format!("replay: 3000 cases, {total} samples"));
+}
