@@ -1,0 +1,73 @@
+-- The paper's numbers, by their bit patterns. Definitions only.
+use lib.Ieee.{Float, binary32, binary64, ofBits}
+
+-- ---- f32
+
+-- 1.0e17
+abbrev pub usableLimit : Float
+usableLimit = ofBits binary32 0x5bb1_a2bc
+
+-- ---- f64
+
+-- 0.0
+abbrev pub zeroF : Float
+zeroF = ofBits binary64 0
+
+-- 0.5
+abbrev pub half : Float
+half = ofBits binary64 0x3fe0_0000_0000_0000
+
+-- 1.0
+abbrev pub one : Float
+one = ofBits binary64 0x3ff0_0000_0000_0000
+
+-- 2.0
+abbrev pub two : Float
+two = ofBits binary64 0x4000_0000_0000_0000
+
+-- 5.0
+abbrev pub five : Float
+five = ofBits binary64 0x4014_0000_0000_0000
+
+-- 45.0 and -45.0
+abbrev pub fortyFive : Float
+fortyFive = ofBits binary64 0x4046_8000_0000_0000
+
+abbrev pub minusFortyFive : Float
+minusFortyFive = ofBits binary64 0xc046_8000_0000_0000
+
+-- 144.0
+abbrev pub impulseRatio : Float
+impulseRatio = ofBits binary64 0x4062_0000_0000_0000
+
+-- 0.001
+abbrev pub pauseFraction : Float
+pauseFraction = ofBits binary64 0x3f50_624d_d2f1_a9fc
+
+-- 6.283185307179586
+abbrev pub tau : Float
+tau = ofBits binary64 0x4019_21fb_5444_2d18
+
+-- 0.017453292519943295
+abbrev pub radiansPerDegree : Float
+radiansPerDegree = ofBits binary64 0x3f91_df46_a252_9d39
+
+-- 1e-12
+abbrev pub coefficientMargin : Float
+coefficientMargin = ofBits binary64 0x3d71_9799_812d_ea11
+
+-- 1000.0
+abbrev pub thousand : Float
+thousand = ofBits binary64 0x408f_4000_0000_0000
+
+-- 3.9810717055349725, 10^0.6
+abbrev pub mirrorRatio : Float
+mirrorRatio = ofBits binary64 0x400f_d93c_1f52_6de0
+
+-- 1e7
+abbrev pub rateLimit : Float
+rateLimit = ofBits binary64 0x4163_12d0_0000_0000
+
+-- 1e18
+abbrev pub partLimit : Float
+partLimit = ofBits binary64 0x43ab_c16d_674e_c800

@@ -1,0 +1,13 @@
+-- definitions
+pub mod Constants
+pub mod Lists
+pub mod Sort
+pub mod Guard
+pub mod Impulse
+pub mod Dc
+pub mod Iq
+pub mod Log
+pub mod Monitor
+pub mod Undo
+pub mod Refusals
+pub mod Chain
