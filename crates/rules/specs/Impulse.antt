@@ -123,9 +123,12 @@ fraction t n = div binary32 (ofInt binary32 (pos (t + 1))) (ofInt binary32 (pos 
 unfoldable pub between : Complex → Complex → ℕ → ℕ → Complex
 between left right t n = sum binary32 left (scaled binary32 (difference binary32 right left) (fraction t n))
 
--- 'left is the last raw unflagged sample before, or right if none': a run that starts at a has its left neighbour at a − 1
+-- 'left is the last raw unflagged sample before, or right if none': of a run that starts at a it stands right before a
+abbrev pub leftPlace : ℕ → ℕ
+leftPlace a = a - 1
+
 abbrev pub leftOf : List ℕ → ℕ → ℕ → ℕ
-leftOf xs a right = cond (eqb a 0) right (at xs (a - 1))
+leftOf xs a right = cond (eqb a 0) right (at xs (leftPlace a))
 
 -- sample k of the run that ends at j, mended
 unfoldable pub mendedAt : (ℕ → Bool) → List ℕ → ℕ → ℕ → ℕ

@@ -11,3 +11,14 @@ pub mod Monitor
 pub mod Undo
 pub mod Refusals
 pub mod Chain
+-- laws
+pub mod ListLaws
+pub mod SortLaws
+pub mod Runs
+pub mod Prefix
+pub mod Values
+-- closed cases
+pub mod ByFlags
+pub mod Computing
+pub mod BenchMarks
+pub mod Cases

@@ -1,4 +1,4 @@
-//! The second reading: document 01's rules, written from that document alone, in files by its
+//! The second reading: document 01's rules, written from that document's sentences, in files by its
 //! headings. They are functions of the whole list of samples (and of the whole list of hops) and
 //! of an index; nothing is carried from call to call. Where the document itself defines a value
 //! by the one before it (DC level, a ring), so do they. No code is shared with
