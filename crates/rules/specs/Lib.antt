@@ -17,6 +17,10 @@ pub mod SortLaws
 pub mod Runs
 pub mod Prefix
 pub mod Values
+pub mod RingLaws
+pub mod MarkLaws
+pub mod RingReading
+pub mod EventLaws
 -- closed cases
 pub mod ByFlags
 pub mod Computing

@@ -1,0 +1,5 @@
+-- definitions
+pub mod Found
+-- laws
+pub mod Patterns
+pub mod GuardLaws
