@@ -1,0 +1,50 @@
+-- The struct `DcBlocker` as the rules' level, and back, and what the blocker does with a sample, a slice, and calls after calls. Definitions only.
+use mathlib.Core.List.{List, [], _∷_, _++_}
+use Prim.Native.Nat.{ℕ}
+use lib.Ieee.{Float}
+use Rattle.complex.specs.Complex.{wordOf, sampleOf}
+use Rattle.complex.specs.View.{view64, make64}
+use Rattle.rules.specs.Dc as rules
+use Rattle.rules.specs.Dc.{Level, stepped, blocked, advanced, levelAfter, blockedAll, restoredAll}
+use Rattle.dc.specs.declared.DcBlocker.{DcBlocker}
+use Rattle.dc.specs.declared.Taken.{Taken}
+
+abbrev pub levelOf : DcBlocker → Level
+levelOf b = record { updates = b .n; level = view64 (b .dc) }
+
+abbrev pub blockerOf : Float → Level → DcBlocker
+blockerOf a l = record { a = a; n = l .updates; dc = make64 (l .level) }
+
+-- a sample x comes in, and x less the level goes out
+unfoldable pub processed : DcBlocker → ℕ → Taken
+processed b x = record {
+  blocker = blockerOf (b .a) (stepped (b .a) (levelOf b) x);
+  word = wordOf (blocked (levelOf b .level) (sampleOf x));
+}
+
+-- y comes in, and y and the level go out
+unfoldable pub restored : DcBlocker → ℕ → Taken
+restored b y = record {
+  blocker = blockerOf (b .a) (advanced (b .a) (levelOf b) (sampleOf y));
+  word = wordOf (rules.restored (levelOf b .level) (sampleOf y));
+}
+
+-- ---- all samples of a slice: the blocker after them, and the words that applying and undoing write
+abbrev pub blockerAfter : DcBlocker → List ℕ → DcBlocker
+blockerAfter b xs = blockerOf (b .a) (levelAfter (b .a) (levelOf b) xs)
+
+abbrev pub processedAll : DcBlocker → List ℕ → List ℕ
+processedAll b xs = blockedAll (b .a) (levelOf b) xs
+
+abbrev pub undoneAll : DcBlocker → List ℕ → List ℕ
+undoneAll b ys = restoredAll (b .a) (levelOf b) ys
+
+-- ---- calls after calls, each as the contract of `process` has it; `observe` leaves the same blocker
+unfoldable pub afterCalls : DcBlocker → List (List ℕ) → DcBlocker
+afterCalls b [] = b
+afterCalls b (xs ∷ calls) = afterCalls (blockerAfter b xs) calls
+
+-- the words of all calls, one call's after the other's
+unfoldable pub writtenBy : DcBlocker → List (List ℕ) → List ℕ
+writtenBy b [] = []
+writtenBy b (xs ∷ calls) = processedAll b xs ++ writtenBy (blockerAfter b xs) calls

@@ -1,0 +1,215 @@
+// Document 01's DC stage: the blocker, over one sample and over a slice, and its undo. Each float
+// operation is the paper's, in its order; the root alone is left out where it decides nothing.
+
+ghost use mathlib.Core.Path.{_≡_};
+ghost use mathlib.Core.Bool.{_&&_};
+ghost use Prim.Native.Nat.{_+_, _<_, _^_};
+ghost use lib.Dec.{eqb};
+ghost use lib.ListN.{length};
+ghost use Rattle.complex.specs.View.{view32, view64, make64};
+ghost use Rattle.rules.specs.Constants.{one, rateLimit};
+ghost use Rattle.rules.specs.Dc.{corner, weight, clamped, isZero, firstLevel, advanced, restoredAll};
+ghost use Rattle.rules.specs.Iq.{ranged};
+ghost use Rattle.dc.specs.Blocker.{levelOf, blockerOf, processed, restored, blockerAfter, processedAll};
+ghost use Rattle.dc.specs.Undo.{said, undoReturned, undoWords};
+use complex::Complex32;
+use complex::Complex64;
+
+const TAU: f64 = 6.283185307179586;
+
+// The level `dc` with its `n` updates, and the weight `a` that the corner gives.
+pub struct DcBlocker {
+    pub a: f64,
+    pub n: u64,
+    pub dc: Complex64,
+}
+
+// A sample taken: the blocker after it, and the word to write.
+pub struct Taken {
+    pub blocker: DcBlocker,
+    pub word: u64,
+}
+
+// y times 1/norm(y), where norm(y) > 1. The norm of a power up to 1 is not above 1.
+fn clamped(y: Complex64) -> Complex64
+    ensures { λ r. ⌜ r ≡ make64 (clamped (view64 y)) ⌝ }
+{
+    let p = y.norm_sqr();
+    if p <= 1.0 {
+        return y;
+    }
+    let m = ieee::root(p);
+    if 1.0 < m {
+        return y.scale(1.0 / m);
+    }
+    y
+}
+
+impl DcBlocker {
+    // The corner, in Hz.
+    pub const CORNER: f64 = 5.0;
+
+    pub fn fresh(fs: f64) -> DcBlocker
+        ensures { λ r. ⌜ r ≡ blockerOf (corner fs) firstLevel ⌝ }
+    {
+        DcBlocker {
+            a: TAU * DcBlocker::CORNER / fs,
+            n: 0,
+            dc: Complex64 { re: 0.0, im: 0.0 },
+        }
+    }
+
+    // max(a, 1/(n+1)).
+    fn weight(self) -> f64
+        requires { ⌜ self .n + 1 < 2 ^ 64 ⌝ }
+        ensures { λ r. ⌜ r ≡ weight (self .a) (self .n) ⌝ }
+    {
+        let a = self.a;
+        let share = 1.0 / std::num::nearest_u64_to_f64(self.n + 1);
+        if a < share {
+            return share;
+        }
+        a
+    }
+
+    // Whether y moves nothing: no update has happened, and both its parts are zero.
+    fn rests(self, y: Complex32) -> bool
+        ensures { λ r. ⌜ r ≡ (eqb (self .n) 0 && isZero (view32 y)) ⌝ }
+    {
+        if self.n == 0 {
+            if y.re == 0.0 {
+                return y.im == 0.0;
+            }
+        }
+        false
+    }
+
+    // The level moved by y, which is a sample less the level.
+    fn advance(self, y: Complex32) -> DcBlocker
+        requires { ⌜ self .n + 1 < 2 ^ 64 ⌝ }
+        ensures { λ r. ⌜ r ≡ blockerOf (self .a) (advanced (self .a) (levelOf self) (view32 y)) ⌝ }
+    {
+        if self.rests(y) {
+            return self;
+        }
+        let level = self.dc;
+        let moved = clamped(y.widen()).scale(self.weight());
+        let n = self.n + 1;
+        DcBlocker {
+            a: self.a,
+            n,
+            dc: level.add(moved),
+        }
+    }
+
+    // The sample of the word x less the level.
+    pub fn process_sample(self, x: u64) -> Taken
+        requires { ⌜ self .n + 1 < 2 ^ 64 ⌝ }
+        ensures { λ r. ⌜ r ≡ processed self x ⌝ }
+    {
+        let level = self.dc;
+        let y = Complex32::unpack(x).widen().sub(level).narrow();
+        Taken {
+            blocker: self.advance(y),
+            word: y.pack(),
+        }
+    }
+
+    // Undo of one sample: y and the level.
+    fn restore_sample(self, y: u64) -> Taken
+        requires { ⌜ self .n + 1 < 2 ^ 64 ⌝ }
+        ensures { λ r. ⌜ r ≡ restored self y ⌝ }
+    {
+        let level = self.dc;
+        let z = Complex32::unpack(y);
+        let x = z.widen().add(level).narrow();
+        Taken {
+            blocker: self.advance(z),
+            word: x.pack(),
+        }
+    }
+
+    // Applying: each sample less the level, in place.
+    pub fn process(self, samples: &mut [u64]) -> DcBlocker
+        requires { ⌜ self .n + length (now samples) < 2 ^ 64 ⌝ }
+        ensures level { λ r. ⌜ r ≡ blockerAfter self (now (samples .entry)) ⌝ }
+        ensures written { λ r. ⌜ now (samples .exit) ≡ processedAll self (now (samples .entry)) ⌝ }
+    {
+        let mut b = self;
+        let mut k: usize = 0;
+        while k < samples.len() {
+            let t = b.process_sample(samples[k]);
+            b = t.blocker;
+            samples[k] = t.word;
+            k += 1;
+        }
+        b
+    }
+
+    // Observing: the same level, and the samples as they are.
+    pub fn observe(self, samples: &[u64]) -> DcBlocker
+        requires { ⌜ self .n + length (now samples) < 2 ^ 64 ⌝ }
+        ensures { λ r. ⌜ r ≡ blockerAfter self (now (samples .entry)) ⌝ }
+    {
+        let mut b = self;
+        let mut k: usize = 0;
+        while k < samples.len() {
+            let t = b.process_sample(samples[k]);
+            b = t.blocker;
+            k += 1;
+        }
+        b
+    }
+}
+
+// Whether a rate is one that the conditioner takes.
+pub fn rate_fits(fs: f64) -> bool
+    ensures { λ r. ⌜ r ≡ ranged one rateLimit fs ⌝ }
+{
+    if 1.0 <= fs {
+        return fs <= 1.0e7;
+    }
+    false
+}
+
+// Undo of all samples of y into out.
+fn restore(y: &[u64], fs: f64, out: &mut [u64])
+    requires { ⌜ length (now out) ≡ length (now y) ⌝ }
+    ensures { λ r. ⌜ now (out .exit) ≡ restoredAll (corner fs) firstLevel (now (y .entry)) ⌝ }
+{
+    let mut b = DcBlocker::fresh(fs);
+    let mut k: usize = 0;
+    while k < y.len() {
+        let t = b.restore_sample(y[k]);
+        b = t.blocker;
+        out[k] = t.word;
+        k += 1;
+    }
+}
+
+// What DC undo answers: it wrote all of out, or it refused and wrote nothing.
+pub enum Reverted {
+    Restored,
+    BadRate,
+    BadLength,
+    Beyond(usize),
+}
+
+// The samples y of an applying stage that started fresh at the rate fs, as they were before it.
+pub fn revert_dc(y: &[u64], fs: f64, out: &mut [u64]) -> Reverted
+    ensures answer { λ r. ⌜ said r ≡ undoReturned fs (now (out .entry)) (now (y .entry)) ⌝ }
+    ensures written { λ r. ⌜ now (out .exit) ≡ undoWords fs (now (out .entry)) (now (y .entry)) ⌝ }
+{
+    if !rate_fits(fs) {
+        return Reverted::BadRate;
+    }
+    if out.len() != y.len() {
+        return Reverted::BadLength;
+    }
+    let k = part_limit::first_beyond(y);
+    if k < y.len() {
+        return Reverted::Beyond(k);
+    }
+    restore(y, fs, out);
+    Reverted::Restored
+}

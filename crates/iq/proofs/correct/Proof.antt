@@ -1,0 +1,42 @@
+-- `iq::correct` is `corrected`, rounded once. Assumes nothing.
+use Rattle.iq.specs.Steps.{corrected-by}
+use borrow.Author.Needs.{needs}
+use Rattle.iq.proofs.correct.Statement.{statement}
+use Rattle.iq.proofs.correct.Tie as tie
+
+unpack-requires : tie.Need-unpack-requires
+unpack-requires c κs = search needs
+
+widen-requires : tie.Need-widen-requires
+widen-requires c κs = search needs
+
+conj-requires : tie.Need-conj-requires
+conj-requires c κs = search needs
+
+mul-requires : tie.Need-mul-requires
+mul-requires c κs = search needs
+
+sub-requires : tie.Need-sub-requires
+sub-requires c κs = search needs
+
+narrow-requires : tie.Need-narrow-requires
+narrow-requires c κs = search needs
+
+pack-requires : tie.Need-pack-requires
+pack-requires c κs = search needs
+
+returns : tie.Need-returns
+returns c = search (needs, corrected-by)
+
+pub correct-spec : {M : Type 1} → statement M
+correct-spec =
+    tie.close
+    (tie.spec
+    unpack-requires
+    widen-requires
+    conj-requires
+    mul-requires
+    sub-requires
+    narrow-requires
+    pack-requires
+    returns)

@@ -1,0 +1,12 @@
+-- definitions
+pub mod View
+pub mod Undo
+pub mod Calls
+-- laws
+pub mod Tests
+pub mod Settling
+pub mod Series
+pub mod Steps
+pub mod Maps
+pub mod Cutting
+pub mod UndoLaws

@@ -1,0 +1,39 @@
+-- The crate's structs and enums as the rules' records and data. Definitions only.
+use Prim.Native.Nat.{ℕ}
+use Rattle.complex.specs.View.{view64}
+use Rattle.rules.specs.Iq as rules
+use Rattle.rules.specs.Iq.{Mode, off, observe, apply, Calibrated, none, with, Settled, isOff, observing, withheld, correcting}
+use Rattle.iq.specs.declared.StageMode.{StageMode}
+use Rattle.iq.specs.declared.StageMode.the-variants as mode
+use Rattle.iq.specs.declared.IqCalibration.{IqCalibration}
+use Rattle.iq.specs.declared.Calibration.{Calibration}
+use Rattle.iq.specs.declared.Calibration.the-variants.{Absent, Present}
+use Rattle.iq.specs.declared.Validated.{Validated}
+use Rattle.iq.specs.declared.Validated.the-variants.{Valid, BadGain, BadPhase, BadCentre}
+use Rattle.iq.specs.declared.Iq.{Iq}
+use Rattle.iq.specs.declared.Iq.the-variants.{Off, Observing, Correcting, Withheld}
+
+abbrev pub modeOf : StageMode → Mode
+modeOf mode.Off = off
+modeOf mode.Observe = observe
+modeOf mode.Apply = apply
+
+abbrev pub calibrationOf : IqCalibration → rules.Calibration
+calibrationOf c = record { gain = c .gain; phase = c .phase; centre = c .centre }
+
+abbrev pub calibratedOf : Calibration → Calibrated
+calibratedOf Absent = none
+calibratedOf (Present c) = with (calibrationOf c)
+
+abbrev pub settledOf : Iq → Settled
+settledOf Off = isOff
+settledOf Observing = observing
+settledOf (Correcting rho) = correcting (view64 rho)
+settledOf Withheld = withheld
+
+-- document 01's number for each answer of validation, and 0 for none
+abbrev pub refusalOf : Validated → ℕ
+refusalOf Valid = 0
+refusalOf BadGain = 11
+refusalOf BadPhase = 12
+refusalOf BadCentre = 13

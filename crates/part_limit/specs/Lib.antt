@@ -1,0 +1,5 @@
+-- definitions
+pub mod Limit
+-- laws
+pub mod Slices
+pub mod LimitLaws

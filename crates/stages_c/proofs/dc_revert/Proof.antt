@@ -1,0 +1,70 @@
+-- `stages_c::dc_revert` is `dc::revert_dc`. Assumes nothing.
+use mathlib.Core.Path.{sym, ap, _∙_}
+use Rattle.part_limit.specs.Limit.{returned}
+use Rattle.dc.specs.Undo.{said}
+use borrow.Author.Needs.{needs}
+use Rattle.stages_c.proofs.dc_revert.Statement.{statement}
+use Rattle.stages_c.proofs.dc_revert.Tie as tie
+
+revert-dc-requires : tie.Need-revert-dc-requires
+revert-dc-requires c κs = search needs
+
+enum-told : tie.Need-enum-told
+enum-told c = search needs
+
+enum-told-2 : tie.Need-enum-told-2
+enum-told-2 c = search needs
+
+enum-told-3 : tie.Need-enum-told-3
+enum-told-3 c = search needs
+
+enum-known-answer : tie.Need-enum-known-answer
+enum-known-answer c = search needs
+
+same-length : tie.Need-same-length
+same-length c = search needs
+
+returns : tie.Need-returns
+unfolding returned
+returns c = let e = c .before .before .before .before .revert-dc .ensures in (sym (ap said (c .enum-told .given .1)) ∙ e .0, e .1)
+
+same-length-2 : tie.Need-same-length-2
+same-length-2 c = search needs
+
+returns-2 : tie.Need-returns-2
+unfolding returned
+returns-2 c = let e = c .before .before .before .before .revert-dc .ensures in (sym (ap said (c .enum-told2 .given .1)) ∙ e .0, e .1)
+
+same-length-3 : tie.Need-same-length-3
+same-length-3 c = search needs
+
+returns-3 : tie.Need-returns-3
+unfolding returned
+returns-3 c = let e = c .before .before .before .before .revert-dc .ensures in (sym (ap said (c .enum-told3 .given .1)) ∙ e .0, e .1)
+
+same-length-4 : tie.Need-same-length-4
+same-length-4 c = search needs
+
+returns-4 : tie.Need-returns-4
+unfolding returned
+returns-4 c =
+    let e = c .before .before .before .before .before .revert-dc .ensures in
+    (sym (ap said (c .before .answer .given .1)) ∙ e .0, e .1)
+
+pub dc-revert-spec : {M : Type 1} → statement M
+dc-revert-spec =
+    tie.close
+    (tie.spec
+    revert-dc-requires
+    enum-told
+    enum-told-2
+    enum-told-3
+    enum-known-answer
+    same-length
+    returns
+    same-length-2
+    returns-2
+    same-length-3
+    returns-3
+    same-length-4
+    returns-4)
