@@ -1,6 +1,6 @@
 -- Laws of lists by an index. Assumes nothing.
-use mathlib.Core.Path.{_≡_, refl, _∙_}
-use mathlib.Core.List.{[], _∷_, _++_}
+use mathlib.Core.Path.{_≡_, refl, ap, _∙_}
+use mathlib.Core.List.{List, [], _∷_, _++_, map}
 use Prim.Native.Nat.{ℕ, zero, suc, _<_}
 use native.Mathlib.Decide.{ℕ-discrete}
 use native.Mathlib.Omega.{arith}
@@ -21,3 +21,7 @@ getD-upTo d f (suc n) k h = go (ℕ-discrete k n) (getD-upTo d f n k) (length-up
     go : Dec (k ≡ n) → (k < n → getD (upTo f n) k d ≡ f k) → length (upTo f n) ≡ n → getD (upTo f n ++ (f n ∷ [])) k d ≡ f k
     go (yes e) r len = rw e (getD-at (upTo f n) (f n) [] d n len)
     go (no e) r len = List·getD-append (upTo f n) (f n ∷ []) d k (omega arith) ∙ r (omega arith)
+
+pub length-map : {A B : Type 0} (f : A → B) (l : List A) → length (map f l) ≡ length l
+length-map f [] = refl
+length-map f (x ∷ l) = ap suc (length-map f l)

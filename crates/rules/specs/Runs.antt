@@ -64,20 +64,20 @@ module _ (F : ℕ → Bool) where
       go true h = omega arith
       go false h = omega arith
 
-module _ (s : Setting) (F : ℕ → Bool) where
-  -- the block of the newest judged sample, when j are judged
-  abbrev pub newestBlock : ℕ → ℕ
-  newestBlock j = blockOf s (j - 1)
+-- the block of the newest judged sample, when j are judged
+abbrev pub newestBlock : Setting → ℕ → ℕ
+newestBlock s j = blockOf s (j - 1)
 
+module _ (s : Setting) (F : ℕ → Bool) where
   -- the flagged of block b among the first j samples
   abbrev pub flagsIn : ℕ → ℕ → ℕ
   flagsIn b j = count F (b * s .block) (j - b * s .block)
 
   module _ (l : 0 < s .block) where
     -- the block of j is that of the one before, or the next and begins with j
-    pub next-block : (j : ℕ) → (blockOf s j ≡ newestBlock j) ⊎ ((blockOf s j ≡ suc (newestBlock j)) × (j ≡ suc (newestBlock j) * s .block))
+    pub next-block : (j : ℕ) → (blockOf s j ≡ newestBlock s j) ⊎ ((blockOf s j ≡ suc (newestBlock s j)) × (j ≡ suc (newestBlock s j) * s .block))
     next-block j =
-        let a = newestBlock j in
+        let a = newestBlock s j in
         let b = blockOf s j in
         let p = div-mul-le-self (j - 1) (s .block) in
         let q = lt-div-mul-add {a = j - 1} l in
@@ -88,39 +88,39 @@ module _ (s : Setting) (F : ℕ → Bool) where
         let w = suc-mul (suc a) (s .block) in
         go p q r t u v w (decLt a b) (decLt (suc a) b) (decLt b a)
       where
-        go : newestBlock j * s .block ≤ j - 1 → j - 1 < newestBlock j * s .block + s .block → blockOf s j * s .block ≤ j → j < blockOf s j * s .block + s .block
-            → suc (newestBlock j) * s .block ≡ newestBlock j * s .block + s .block → suc (blockOf s j) * s .block ≡ blockOf s j * s .block + s .block → suc (suc (newestBlock j)) * s .block ≡ suc (newestBlock j) * s .block + s .block
-            → Dec (newestBlock j < blockOf s j) → Dec (suc (newestBlock j) < blockOf s j) → Dec (blockOf s j < newestBlock j)
-            → (blockOf s j ≡ newestBlock j) ⊎ ((blockOf s j ≡ suc (newestBlock j)) × (j ≡ suc (newestBlock j) * s .block))
+        go : newestBlock s j * s .block ≤ j - 1 → j - 1 < newestBlock s j * s .block + s .block → blockOf s j * s .block ≤ j → j < blockOf s j * s .block + s .block
+            → suc (newestBlock s j) * s .block ≡ newestBlock s j * s .block + s .block → suc (blockOf s j) * s .block ≡ blockOf s j * s .block + s .block → suc (suc (newestBlock s j)) * s .block ≡ suc (newestBlock s j) * s .block + s .block
+            → Dec (newestBlock s j < blockOf s j) → Dec (suc (newestBlock s j) < blockOf s j) → Dec (blockOf s j < newestBlock s j)
+            → (blockOf s j ≡ newestBlock s j) ⊎ ((blockOf s j ≡ suc (newestBlock s j)) × (j ≡ suc (newestBlock s j) * s .block))
         go p q r t u v w (yes x) (yes y) d = let m = mul-le-mul-right (s .block) y in absurd (omega arith)
         go p q r t u v w (yes x) (no y) d =
-            let e : blockOf s j ≡ suc (newestBlock j) = omega arith in
+            let e : blockOf s j ≡ suc (newestBlock s j) = omega arith in
             let f = ap (λ (n : ℕ). n * s .block) e in
             inr (e, omega arith)
         go p q r t u v w (no x) d (yes z) = let m = mul-le-mul-right (s .block) z in absurd (omega arith)
         go p q r t u v w (no x) d (no z) = inl (omega arith)
 
     -- another block begins at j: the one before is full, and its flags say whether the next one is paused
-    next-is : (j : ℕ) → blockOf s j ≢ newestBlock j → (blockOf s j ≡ suc (newestBlock j)) × (j ≡ suc (newestBlock j) * s .block)
+    next-is : (j : ℕ) → blockOf s j ≢ newestBlock s j → (blockOf s j ≡ suc (newestBlock s j)) × (j ≡ suc (newestBlock s j) * s .block)
     next-is j other = go (next-block j)
       where
-        go : (blockOf s j ≡ newestBlock j) ⊎ ((blockOf s j ≡ suc (newestBlock j)) × (j ≡ suc (newestBlock j) * s .block)) → (blockOf s j ≡ suc (newestBlock j)) × (j ≡ suc (newestBlock j) * s .block)
+        go : (blockOf s j ≡ newestBlock s j) ⊎ ((blockOf s j ≡ suc (newestBlock s j)) × (j ≡ suc (newestBlock s j) * s .block)) → (blockOf s j ≡ suc (newestBlock s j)) × (j ≡ suc (newestBlock s j) * s .block)
         go (inl e) = absurd (other e)
         go (inr p) = p
 
-    pub enter-paused : (j : ℕ) → blockOf s j ≢ newestBlock j → pauses (s .block) (paused (s .block) F (newestBlock j)) (flagsIn (newestBlock j) j) ≡ paused (s .block) F (blockOf s j)
+    pub enter-paused : (j : ℕ) → blockOf s j ≢ newestBlock s j → pauses (s .block) (paused (s .block) F (newestBlock s j)) (flagsIn (newestBlock s j) j) ≡ paused (s .block) F (blockOf s j)
     unfolding paused
     enter-paused j other =
         let p = next-is j other in
-        let u = suc-mul (newestBlock j) (s .block) in
-        let full : j - newestBlock j * s .block ≡ s .block = omega (arith, p .1) in
+        let u = suc-mul (newestBlock s j) (s .block) in
+        let full : j - newestBlock s j * s .block ≡ s .block = omega (arith, p .1) in
         rw (p .0, full)
 
-    pub enter-flags : (j : ℕ) → blockOf s j ≢ newestBlock j → flagsIn (blockOf s j) j ≡ 0
+    pub enter-flags : (j : ℕ) → blockOf s j ≢ newestBlock s j → flagsIn (blockOf s j) j ≡ 0
     unfolding count
     enter-flags j other =
         let p = next-is j other in
-        let none-yet : j - suc (newestBlock j) * s .block ≡ 0 = omega (arith, p .1) in
+        let none-yet : j - suc (newestBlock s j) * s .block ≡ 0 = omega (arith, p .1) in
         rw (p .0, none-yet)
 
   -- one more of the block

@@ -46,6 +46,32 @@ pub map-snoc : {A B : Type 0} (f : A → B) (l : List A) (x : A) → map f (l ++
 map-snoc f [] x = refl
 map-snoc {B = B} f (y ∷ l) x = ap (λ (t : List B). f y ∷ t) (map-snoc f l x)
 
+-- ---- lengths
+
+module _ {A : Type 0} (lt : A → A → Bool) where
+  pub insert-length : (a : A) (l : List A) → length (insert lt a l) ≡ suc (length l)
+  unfolding insert
+  insert-length a [] = refl
+  insert-length a (c ∷ l) = go (lt c a) (insert-length a l)
+    where
+      go : (b : Bool) → length (insert lt a l) ≡ suc (length l) → length (cond b (c ∷ insert lt a l) (a ∷ c ∷ l)) ≡ suc (suc (length l))
+      go true r = ap suc r
+      go false r = refl
+
+  pub remove-length : (a : A) (l : List A) → length l ≤ suc (length (remove lt a l))
+  unfolding remove
+  remove-length a [] = omega arith
+  remove-length a (c ∷ l) = go (lt c a) (remove-length a l)
+    where
+      go : (b : Bool) → length l ≤ suc (length (remove lt a l)) → suc (length l) ≤ suc (length (cond b (c ∷ remove lt a l) l))
+      go true r = omega arith
+      go false r = omega arith
+
+  pub sort-length : (l : List A) → length (sort lt l) ≡ length l
+  unfolding sort
+  sort-length [] = refl
+  sort-length (a ∷ l) = insert-length a (sort lt l) ∙ ap suc (sort-length l)
+
 -- ---- an order by a key
 
 -- on what is good, `lt` is the order of numbers

@@ -1,0 +1,52 @@
+-- What number 5 tests of the stage's state, as bounds that every state reached from usable samples keeps. Definitions only.
+use mathlib.Core.Path.{_≡_}
+use Prim.Native.Nat.{ℕ, _+_, _^_, _≤_, _<_, min}
+use lib.Ieee.{Float, binary32, lt}
+use lib.ListN.{length, getD, take}
+use Rattle.ieee.specs.Bound.{Within}
+use Rattle.ieee.specs.Plain.{Plain}
+use Rattle.complex.specs.Complex.{Complex, sampleOf}
+use Rattle.rules.specs.Constants.{zeroF}
+use Rattle.rules.specs.Sort.{sort}
+use Rattle.rules.specs.SortLaws.{All}
+use Rattle.rules.specs.Impulse.{Setting, width, lookahead, judged}
+use Rattle.impulse.specs.declared.Run.{Run}
+use Rattle.impulse.specs.declared.Open.the-variants.{Running}
+use Rattle.impulse.specs.declared.Left.the-variants.{Neighbour}
+use Rattle.impulse.specs.declared.ImpulseSuppressor.{ImpulseSuppressor}
+use Rattle.impulse.specs.State.{padded}
+
+-- both parts are at most b in size
+abbrev pub PartsWithin : ℕ → Complex → Type 0
+PartsWithin b z = Within (z .re) b 1 × Within (z .im) b 1
+
+abbrev pub WordWithin : ℕ → ℕ → Type 0
+WordWithin b w = PartsWithin b (sampleOf w)
+
+-- a power of the window: within 2 ^ 115, no NaN, no sign bit
+abbrev pub PowerWithin : Float → Type 0
+PowerWithin p = Within p (2 ^ 115) 1 × Plain binary32 p
+
+-- m stands when n samples have come
+pub record Sound (s : Setting) (n : ℕ) (m : ImpulseSuppressor) : Type 0 where
+  -- the settings and the counters
+  pub apply : m .gate .apply ≡ s .apply
+  pub blocklen : m .gate .blocklen ≡ s .block
+  pub received : m .gate .received ≡ n
+  pub block : m .gate .block ≤ n
+  pub flags : m .gate .flagged ≤ n
+  -- an open run is not empty, and ends at the next sample to be judged
+  pub run : (r : Run) → m .gate .run ≡ Running r → (0 < r .len) × (r .start + r .len ≡ judged s n)
+  -- the parts, within 1e18; the powers, within 1e36, with no sign bit
+  pub left : (x : ℕ) → m .gate .left ≡ Neighbour x → WordWithin (2 ^ 59) x
+  pub pending : All (WordWithin (2 ^ 59)) (m .pending)
+  pub powers : All PowerWithin (m .window)
+  -- the sorted list is that window sorted
+  pub sorted : m .sorted ≡ padded (width s) (sort lt (take (min n (width s)) (m .window)))
+  -- places that no sample has reached are 0
+  pub no-power : (i : ℕ) → n ≤ i → i < width s → getD (m .window) i zeroF ≡ zeroF
+  pub no-sample : (i : ℕ) → n ≤ i → i < lookahead s → getD (m .pending) i 0 ≡ 0
+  -- the arrays' lengths
+  pub window-length : length (m .window) ≡ width s
+  pub sorted-length : length (m .sorted) ≡ width s
+  pub pending-length : length (m .pending) ≡ lookahead s

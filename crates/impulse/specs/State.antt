@@ -1,0 +1,98 @@
+-- What stands when the first n samples of an input have come, given by the rules for the whole input; and what the n-th push says. Definitions only.
+use mathlib.Core.Bool.{Bool, false, cond}
+use mathlib.Core.List.{List, _++_, map}
+use Prim.Native.Nat.{ℕ, suc, _+_, _-_}
+use lib.Dec.{ltb, eqb}
+use lib.ListN.{length, take, drop, replicate}
+use lib.Ieee.{Float, lt}
+use Rattle.rules.specs.Constants.{zeroF}
+use Rattle.rules.specs.Lists.{at}
+use Rattle.rules.specs.Sort.{sort}
+use Rattle.rules.specs.Impulse.{Setting, width, lookahead, powerOf, judged, flagged, before, start, closes, blockOf, paused, touches, mendable, leftPlace, value}
+use Rattle.rules.specs.Runs.{newestBlock, flagsIn}
+use Rattle.impulse.specs.declared.Run.{Run}
+use Rattle.impulse.specs.declared.Open.{Open}
+use Rattle.impulse.specs.declared.Open.the-variants.{Running, Closed}
+use Rattle.impulse.specs.declared.Left.{Left}
+use Rattle.impulse.specs.declared.Left.the-variants.{Neighbour, Missing}
+use Rattle.impulse.specs.declared.Gate.{Gate}
+use Rattle.impulse.specs.declared.ImpulseSuppressor.{ImpulseSuppressor}
+use Rattle.impulse.specs.declared.Answer.{Answer}
+use Rattle.impulse.specs.declared.Answer.the-variants.{Released, Nothing}
+use Rattle.impulse.specs.Machine.{Ending, going, keptRun, mendedRun, Outcome}
+use Rattle.impulse.specs.Circle.{circle}
+
+-- ---- by the flags F, when j are judged
+
+module _ (s : Setting) (F : ℕ → Bool) where
+  -- the run right before j
+  abbrev pub runBefore : ℕ → Run
+  runBefore j = record { start = start F j; len = before F j; paused = touches s F (start F j) (before F j) }
+
+  unfoldable pub openAt : ℕ → Open
+  openAt j = cond (ltb 0 (before F j)) (Running (runBefore j)) Closed
+
+-- the last sample that is not flagged stands right before the run
+unfoldable pub leftAt : (ℕ → Bool) → List ℕ → ℕ → Left
+leftAt F xs j = cond (eqb (start F j) 0) Missing (Neighbour (at xs (leftPlace (start F j))))
+
+-- n have come, and block b is the newest judged sample's
+abbrev pub gateIn : Setting → (ℕ → Bool) → List ℕ → ℕ → ℕ → ℕ → Gate
+gateIn s F xs n j b =
+    record {
+      apply = s .apply;
+      blocklen = s .block;
+      received = n;
+      run = openAt s F j;
+      left = leftAt F xs j;
+      block = b;
+      flagged = flagsIn s F b j;
+      paused = paused (s .block) F b;
+    }
+
+abbrev pub gateAt : Setting → (ℕ → Bool) → List ℕ → ℕ → ℕ → Gate
+gateAt s F xs n j = gateIn s F xs n j (newestBlock s j)
+
+-- what becomes of a run when j is judged
+unfoldable pub endingAt : Setting → (ℕ → Bool) → List ℕ → ℕ → Ending
+endingAt s F xs j =
+    cond (closes F j)
+    (cond (mendable s (touches s F (start F j) (before F j)) (before F j))
+    (mendedRun (start F j) (before F j) (take (before F j) (drop (start F j) xs)))
+    (keptRun (start F j) (before F j) (ltb (s .run) (before F j))))
+    going
+
+-- ---- the state
+
+-- the powers of the newest samples, oldest first
+abbrev pub newestPowers : Setting → List ℕ → ℕ → List Float
+newestPowers s xs n = map powerOf (drop (n - width s) (take n xs))
+
+abbrev pub padded : ℕ → List Float → List Float
+padded w l = l ++ replicate (w - length l) zeroF
+
+unfoldable pub stateAt : Setting → List ℕ → ℕ → ImpulseSuppressor
+stateAt s xs n =
+    record {
+      gate = gateAt s (flagged s xs) xs n (judged s n);
+      window = circle zeroF (width s) n (λ k. powerOf (at xs k));
+      sorted = padded (width s) (sort lt (newestPowers s xs n));
+      pending = circle 0 (lookahead s) n (value s (flagged s xs) xs (judged s n));
+    }
+
+-- ---- what the push of sample n (from 0) says
+
+unfoldable pub answerAt : Setting → List ℕ → ℕ → Answer
+answerAt s xs n =
+    cond (s .apply)
+    (cond (ltb n (lookahead s)) Nothing (Released (value s (flagged s xs) xs (judged s (length xs)) (n - lookahead s))))
+    (Released (at xs n))
+
+abbrev pub outcomeAt : Setting → List ℕ → ℕ → Outcome
+outcomeAt s xs n =
+    record {
+      state = stateAt s xs (suc n);
+      answer = answerAt s xs n;
+      uncertain = cond (ltb n (s .half)) false (paused (s .block) (flagged s xs) (blockOf s (n - s .half)));
+      ended = cond (ltb n (s .half)) going (endingAt s (flagged s xs) xs (n - s .half));
+    }

@@ -1,0 +1,368 @@
+// The impulse stage: a trimmed-mean power gate that mends short runs of flagged samples. A sample
+// is a word, as `complex` packs it. The scalars go by value and the arrays are lent, circular by
+// sample number: sample k stands at k mod the array's length. A push answers a sample or nothing
+// and what happened beside it; it knows no store.
+
+ghost use mathlib.Core.Path.{_≡_};
+ghost use Prim.Native.Nat.{_+_, _^_, _≤_, _<_};
+ghost use lib.ListN.{length};
+ghost use Rattle.rules.specs.Impulse.{standard, pauses};
+ghost use Rattle.impulse.specs.Machine.{settingOf, fresh, grown, arrived, entered, withRun, withNeighbour, closing, closingPending, ending, endingPending, judge, verdict, released, push};
+ghost use Rattle.impulse.specs.View.{suppressorOf, endedOf, judgedOf, pushedOf};
+ghost use Rattle.impulse.specs.Room.{runEnd, Room};
+
+mod mending;
+mod ordered;
+
+// An open run of flagged samples. `paused`: one of them lies in a paused block.
+pub struct Run {
+    pub start: u64,
+    pub len: u64,
+    pub paused: bool,
+}
+
+pub enum Open {
+    Running(Run),
+    Closed,
+}
+
+// The newest judged sample that is not flagged.
+pub enum Left {
+    Neighbour(u64),
+    Missing,
+}
+
+// The suppressor's scalars. `block` is the block of the newest judged sample, `flagged` how many of
+// its judged samples are flagged.
+pub struct Gate {
+    pub apply: bool,
+    pub blocklen: u64,
+    pub received: u64,
+    pub run: Open,
+    pub left: Left,
+    pub block: u64,
+    pub flagged: u64,
+    pub paused: bool,
+}
+
+// The whole state. `sorted` has the window's powers, ascending, and then zeros.
+pub struct ImpulseSuppressor {
+    pub gate: Gate,
+    pub window: [f32; ImpulseSuppressor::WINDOW],
+    pub sorted: [f32; ImpulseSuppressor::WINDOW],
+    pub pending: [u64; ImpulseSuppressor::LOOKAHEAD],
+}
+
+pub enum Answer {
+    Released(u64),
+    Nothing,
+}
+
+// A mended run and its originals; those past `len` are 0.
+pub struct Repair {
+    pub start: u64,
+    pub len: u64,
+    pub first: u64,
+    pub second: u64,
+    pub third: u64,
+    pub fourth: u64,
+}
+
+// What became of a run when a sample was judged.
+pub enum Ended {
+    Going,
+    Kept { start: u64, len: u64, long: bool },
+    Mended(Repair),
+}
+
+pub struct Judged {
+    pub gate: Gate,
+    pub uncertain: bool,
+    pub ended: Ended,
+}
+
+pub struct Pushed {
+    pub gate: Gate,
+    pub answer: Answer,
+    pub uncertain: bool,
+    pub ended: Ended,
+}
+
+impl ImpulseSuppressor {
+    // The reference window, centred on the sample being judged.
+    pub const WINDOW: usize = 33;
+    // The samples on each side of it.
+    pub const HALF_WINDOW: usize = 16;
+    // The window's strongest powers, left out of the reference: room for two runs that are mended.
+    pub const TRIM: usize = 8;
+    // The longest run that is mended.
+    pub const MAX_RUN: usize = 4;
+    // How many samples an applying suppressor holds back: half a window, a run and its neighbour.
+    pub const LOOKAHEAD: usize = 21;
+
+    pub fn fresh(blocklen: u64, apply: bool) -> ImpulseSuppressor
+        ensures { λ r. ⌜ r ≡ fresh (standard blocklen apply) ⌝ }
+    {
+        let gate = Gate {
+            apply,
+            blocklen,
+            received: 0,
+            run: Open::Closed,
+            left: Left::Missing,
+            block: 0,
+            flagged: 0,
+            paused: false,
+        };
+        ImpulseSuppressor {
+            gate,
+            window: [0.0f32; ImpulseSuppressor::WINDOW],
+            sorted: [0.0f32; ImpulseSuppressor::WINDOW],
+            pending: [0u64; ImpulseSuppressor::LOOKAHEAD],
+        }
+    }
+}
+
+// Whether the next block is paused: its length, whether the last one was, and how many of that were flagged.
+pub fn pauses(blocklen: u64, was: bool, flagged: u64) -> bool
+    ensures { λ b. ⌜ b ≡ pauses blocklen was flagged ⌝ }
+{
+    std::num::nearest_u64_to_f64(flagged) > 0.001 * std::num::nearest_u64_to_f64(blocklen)
+}
+
+// The run that a flagged sample j opens or lengthens.
+fn grown(run: Open, j: u64, paused: bool) -> Run
+    requires { ⌜ runEnd run ≤ 2 ^ 52 ⌝ }
+    ensures { λ r. ⌜ r ≡ grown run j paused ⌝ }
+{
+    match run {
+        Open::Running(r) => Run {
+            start: r.start,
+            len: r.len + 1,
+            paused: r.paused || paused,
+        },
+        Open::Closed => Run {
+            start: j,
+            len: 1,
+            paused,
+        },
+    }
+}
+
+// What the i-th sample, x, releases. `out` is the sample whose place it takes.
+fn released(apply: bool, i: u64, out: u64, x: u64) -> Answer
+    ensures { λ r. ⌜ r ≡ released 21 apply i out x ⌝ }
+{
+    if !apply {
+        return Answer::Released(x);
+    }
+    if i < ImpulseSuppressor::LOOKAHEAD as u64 {
+        return Answer::Nothing;
+    }
+    Answer::Released(out)
+}
+
+impl Gate {
+    // One more sample has come.
+    fn arrived(self) -> Gate
+        requires { ⌜ self .received ≤ 2 ^ 52 ⌝ }
+        ensures { λ r. ⌜ r ≡ arrived self ⌝ }
+    {
+        let mut g = self;
+        g.received = g.received + 1;
+        g
+    }
+
+    // The gate in the block of j.
+    fn entered(self, j: u64) -> Gate
+        requires { ⌜ 0 < self .blocklen ⌝ }
+        ensures { λ r. ⌜ r ≡ entered self j ⌝ }
+    {
+        let block = j / self.blocklen;
+        if block == self.block {
+            return self;
+        }
+        let run = self.run;
+        let left = self.left;
+        let paused = pauses(self.blocklen, self.paused, self.flagged);
+        Gate {
+            apply: self.apply,
+            blocklen: self.blocklen,
+            received: self.received,
+            run,
+            left,
+            block,
+            flagged: 0,
+            paused,
+        }
+    }
+
+    // After a flagged sample.
+    fn with_run(self, r: Run) -> Gate
+        requires { ⌜ self .flagged ≤ 2 ^ 53 ⌝ }
+        ensures { λ g. ⌜ g ≡ withRun self r ⌝ }
+    {
+        let left = self.left;
+        Gate {
+            apply: self.apply,
+            blocklen: self.blocklen,
+            received: self.received,
+            run: Open::Running(r),
+            left,
+            block: self.block,
+            flagged: self.flagged + 1,
+            paused: self.paused,
+        }
+    }
+
+    // After a sample that is not flagged.
+    fn with_neighbour(self, x: u64) -> Gate
+        ensures { λ g. ⌜ g ≡ withNeighbour self x ⌝ }
+    {
+        Gate {
+            apply: self.apply,
+            blocklen: self.blocklen,
+            received: self.received,
+            run: Open::Closed,
+            left: Left::Neighbour(x),
+            block: self.block,
+            flagged: self.flagged,
+            paused: self.paused,
+        }
+    }
+
+    // Ends a run at its right neighbour: mends it, or keeps it where it is too long, paused or only observed.
+    fn close(self, r: Run, right: u64, pending: &mut [u64; ImpulseSuppressor::LOOKAHEAD]) -> Ended
+        requires { ⌜ r .start + r .len ≤ 2 ^ 52 ⌝ }
+        ensures result { λ e. ⌜ e ≡ endedOf (closing (settingOf self) r (now (pending .entry))) ⌝ }
+        ensures words { λ e. ⌜ now (pending .exit) ≡ closingPending (settingOf self) r (self .left) right (now (pending .entry)) ⌝ }
+    {
+        let start = r.start;
+        let len = r.len;
+        if len > ImpulseSuppressor::MAX_RUN as u64 {
+            return Ended::Kept {
+                start,
+                len,
+                long: true,
+            };
+        }
+        if !self.apply {
+            return Ended::Kept {
+                start,
+                len,
+                long: false,
+            };
+        }
+        if r.paused {
+            return Ended::Kept {
+                start,
+                len,
+                long: false,
+            };
+        }
+        let left = self.left;
+        let repair = mending::repair(pending, start, len);
+        mending::mend(pending, mending::neighbour(left, right), right, start, len);
+        Ended::Mended(repair)
+    }
+
+    // Ends the open run, if there is one.
+    fn ending(self, right: u64, pending: &mut [u64; ImpulseSuppressor::LOOKAHEAD]) -> Ended
+        requires { ⌜ runEnd (self .run) ≤ 2 ^ 52 ⌝ }
+        ensures result { λ e. ⌜ e ≡ endedOf (ending (settingOf self) (self .run) (now (pending .entry))) ⌝ }
+        ensures words { λ e. ⌜ now (pending .exit) ≡ endingPending (settingOf self) (self .run) (self .left) right (now (pending .entry)) ⌝ }
+    {
+        let run = self.run;
+        let Open::Running(r) = run else {
+            return Ended::Going;
+        };
+        self.close(r, right, pending)
+    }
+
+    // Judges sample j, whose power is p.
+    fn judge(
+        self,
+        j: u64,
+        p: f32,
+        sorted: &[f32; ImpulseSuppressor::WINDOW],
+        pending: &mut [u64; ImpulseSuppressor::LOOKAHEAD],
+    ) -> Judged
+        requires { ⌜ (0 < self .blocklen) × (8 ≤ self .received) × (self .flagged ≤ 2 ^ 53) × (runEnd (self .run) ≤ 2 ^ 52) × (length (now sorted) ≡ 33) ⌝ }
+        ensures result { λ r. ⌜ r ≡ judgedOf (judge (settingOf self) self j p (now (sorted .entry)) (now (pending .entry))) ⌝ }
+        ensures words { λ r. ⌜ now (pending .exit) ≡ judge (settingOf self) self j p (now (sorted .entry)) (now (pending .entry)) .pending ⌝ }
+    {
+        let g = self.entered(j);
+        let run = g.run;
+        let uncertain = g.paused;
+        if ordered::is_flagged(sorted, g.received, p) {
+            let r = grown(run, j, uncertain);
+            return Judged {
+                gate: g.with_run(r),
+                uncertain,
+                ended: Ended::Going,
+            };
+        }
+        let place = (j % ImpulseSuppressor::LOOKAHEAD as u64) as usize;
+        let x = pending[place];
+        let ended = g.ending(x, pending);
+        Judged {
+            gate: g.with_neighbour(x),
+            uncertain,
+            ended,
+        }
+    }
+
+    // Judges the sample half a window before sample i, which is in the arrays. The first samples judge none.
+    fn verdict(
+        self,
+        i: u64,
+        window: &[f32; ImpulseSuppressor::WINDOW],
+        sorted: &[f32; ImpulseSuppressor::WINDOW],
+        pending: &mut [u64; ImpulseSuppressor::LOOKAHEAD],
+    ) -> Judged
+        requires { ⌜ (0 < self .blocklen) × (i ≤ self .received) × (self .flagged ≤ 2 ^ 53) × (runEnd (self .run) ≤ 2 ^ 52) × (length (now sorted) ≡ 33) ⌝ }
+        ensures result { λ r. ⌜ r ≡ judgedOf (verdict (settingOf self) self i (now (window .entry)) (now (sorted .entry)) (now (pending .entry))) ⌝ }
+        ensures words { λ r. ⌜ now (pending .exit) ≡ verdict (settingOf self) self i (now (window .entry)) (now (sorted .entry)) (now (pending .entry)) .pending ⌝ }
+    {
+        if i < ImpulseSuppressor::HALF_WINDOW as u64 {
+            return Judged {
+                gate: self,
+                uncertain: false,
+                ended: Ended::Going,
+            };
+        }
+        let j = i - ImpulseSuppressor::HALF_WINDOW as u64;
+        let at = (j % ImpulseSuppressor::WINDOW as u64) as usize;
+        self.judge(j, window[at], sorted, pending)
+    }
+
+    // Takes the next raw sample. The answer is the sample that is released: of an applying suppressor
+    // the one that came LOOKAHEAD samples earlier, mended or not, and else this one.
+    pub fn push(
+        self,
+        x: u64,
+        window: &mut [f32; ImpulseSuppressor::WINDOW],
+        sorted: &mut [f32; ImpulseSuppressor::WINDOW],
+        pending: &mut [u64; ImpulseSuppressor::LOOKAHEAD],
+    ) -> Pushed
+        requires { ⌜ Room self ⌝ }
+        requires { ⌜ length (now sorted) ≡ 33 ⌝ }
+        ensures result { λ r. ⌜ r ≡ pushedOf (push (settingOf self) (suppressorOf self (now (window .entry)) (now (sorted .entry)) (now (pending .entry))) x) ⌝ }
+        ensures powers { λ r. ⌜ now (window .exit) ≡ push (settingOf self) (suppressorOf self (now (window .entry)) (now (sorted .entry)) (now (pending .entry))) x .state .window ⌝ }
+        ensures ascending { λ r. ⌜ now (sorted .exit) ≡ push (settingOf self) (suppressorOf self (now (window .entry)) (now (sorted .entry)) (now (pending .entry))) x .state .sorted ⌝ }
+        ensures words { λ r. ⌜ now (pending .exit) ≡ push (settingOf self) (suppressorOf self (now (window .entry)) (now (sorted .entry)) (now (pending .entry))) x .state .pending ⌝ }
+    {
+        let i = self.received;
+        ordered::take_in(window, sorted, i, x);
+        let out = mending::hold(pending, i, x);
+        let answer = released(self.apply, i, out, x);
+        let d = self.arrived().verdict(i, window, sorted, pending);
+        let gate = d.gate;
+        let ended = d.ended;
+        Pushed {
+            gate,
+            answer,
+            uncertain: d.uncertain,
+            ended,
+        }
+    }
+}

@@ -1,0 +1,12 @@
+-- `impulse_c::kept` meets its contract. Assumes nothing.
+use Rattle.impulse_c.proofs.kept.Statement.{statement}
+use Rattle.impulse_c.proofs.kept.Tie as tie
+
+returns : tie.Need-returns
+returns c = simp (c .if1 .taken)
+
+returns-2 : tie.Need-returns-2
+returns-2 c = simp (c .if1 .left)
+
+pub kept-spec : {M : Type 1} → statement M
+kept-spec = tie.close (tie.spec returns returns-2)
