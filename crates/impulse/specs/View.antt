@@ -9,7 +9,7 @@ use Rattle.impulse.specs.declared.Gate.{Gate}
 use Rattle.impulse.specs.declared.ImpulseSuppressor.{ImpulseSuppressor}
 use Rattle.impulse.specs.declared.Answer.{Answer}
 use Rattle.impulse.specs.declared.Answer.the-variants.{Released, Nothing}
-use Rattle.impulse.specs.declared.Repair.{Repair}
+use Rattle.log.specs.declared.Repair.{Repair}
 use Rattle.impulse.specs.declared.Ended.{Ended}
 use Rattle.impulse.specs.declared.Ended.the-variants.{Going, Kept, Mended}
 use Rattle.impulse.specs.declared.Judged.{Judged}
@@ -35,10 +35,6 @@ judgedOf d = record { gate = d .gate; uncertain = d .uncertain; ended = endedOf 
 
 abbrev pub pushedOf : Outcome → Pushed
 pushedOf o = record { gate = o .state .gate; answer = o .answer; uncertain = o .uncertain; ended = endedOf (o .ended) }
-
--- the words that the log keeps of it
-abbrev pub wordsOfRepair : Repair → List ℕ
-wordsOfRepair r = r .start ∷ r .len ∷ r .first ∷ r .second ∷ r .third ∷ r .fourth ∷ []
 
 -- ---- events
 

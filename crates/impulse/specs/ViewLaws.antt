@@ -17,7 +17,8 @@ use Rattle.impulse.specs.declared.Open.the-variants.{Running, Closed}
 use Rattle.impulse.specs.declared.Gate.{Gate}
 use Rattle.impulse.specs.declared.ImpulseSuppressor.{ImpulseSuppressor}
 use Rattle.impulse.specs.Machine.{settingOf, arrived, entered, flaggedBy, readRun, going, keptRun, mendedRun, Ending, closing, ending, Judgement, decided, judge, windowWith, sortedWith, pendingWith, verdict, push}
-use Rattle.impulse.specs.View.{repairOf, wordsOfRepair, originalsOf, endedOf, endedEvents, endingEvents, told, pushedOf, pushedEvents}
+use Rattle.log.specs.View.{wordsOfRepair}
+use Rattle.impulse.specs.View.{repairOf, originalsOf, endedOf, endedEvents, endingEvents, told, pushedOf, pushedEvents}
 use Rattle.impulse.specs.Room.{runEnd, Room}
 use Rattle.impulse.specs.RunLaws.{read-length}
 use Rattle.impulse.specs.State.{runBefore, openAt, stateAt}

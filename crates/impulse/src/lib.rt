@@ -14,6 +14,8 @@ ghost use Rattle.impulse.specs.Room.{runEnd, Room};
 mod mending;
 mod ordered;
 
+use log::Repair;
+
 // An open run of flagged samples. `paused`: one of them lies in a paused block.
 pub struct Run {
     pub start: u64,
@@ -56,16 +58,6 @@ pub struct ImpulseSuppressor {
 pub enum Answer {
     Released(u64),
     Nothing,
-}
-
-// A mended run and its originals; those past `len` are 0.
-pub struct Repair {
-    pub start: u64,
-    pub len: u64,
-    pub first: u64,
-    pub second: u64,
-    pub third: u64,
-    pub fourth: u64,
 }
 
 // What became of a run when a sample was judged.

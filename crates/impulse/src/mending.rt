@@ -9,8 +9,8 @@ ghost use Rattle.impulse.specs.Machine.{neighbourOr, readRun, mendedWord
 ghost use Rattle.impulse.specs.View.{repairOf};
 use crate::ImpulseSuppressor;
 use crate::Left;
-use crate::Repair;
 use complex::Complex32;
+use log::Repair;
 
 // Sample i takes its place, and the one that stood there is answered.
 pub fn hold(pending: &mut [u64; ImpulseSuppressor::LOOKAHEAD], i: u64, x: u64) -> u64

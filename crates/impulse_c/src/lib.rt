@@ -13,7 +13,7 @@ use impulse::Ended;
 use impulse::Gate;
 use impulse::ImpulseSuppressor;
 use impulse::Pushed;
-use impulse::Repair;
+use log::Repair;
 
 // What a push says, as ten words: whether a sample is released and which; whether the judged sample
 // is uncertain; what became of a run (0 nothing, 1 kept, 2 kept as a long one, 3 mended), its start

@@ -36,8 +36,8 @@ abbrev pub marksIn : Marks → List ℕ → rules.Marks
 marksIn m ws = record { count = m .count; ring = ringIn (m .ring) ws }
 
 -- a repair's words
-abbrev pub repairOf : Repair → List ℕ
-repairOf r = repairWords (r .start) (r .len) (r .first ∷ r .second ∷ r .third ∷ r .fourth ∷ [])
+abbrev pub wordsOfRepair : Repair → List ℕ
+wordsOfRepair r = repairWords (r .start) (r .len) (r .first ∷ r .second ∷ r .third ∷ r .fourth ∷ [])
 
 -- ---- the log with the span store
 

@@ -9,7 +9,7 @@ ghost use lib.ListN.{length, getD};
 ghost use Rattle.rules.specs.RingLaws.{Sound};
 ghost use Rattle.rules.specs.RingReading.{spansOf};
 ghost use Rattle.rules.specs.Log.{ringNumber, stageNumber, markNumber, spanOf, joins, lengthened, roomed, append, mark};
-ghost use Rattle.log.specs.View.{stageOf, markOf, ringIn, marksIn, Logged, freshRing, freshLog, markedAt, repairOf};
+ghost use Rattle.log.specs.View.{stageOf, markOf, ringIn, marksIn, Logged, freshRing, freshLog, markedAt, wordsOfRepair};
 ghost use Rattle.log.specs.Ready.{Open, Markable, Fits};
 ghost use Rattle.log.specs.Check.{ringOf, endFits, ringFits, logFits, endsFit, spansDropped};
 
@@ -270,7 +270,7 @@ impl Log {
 // A repair, behind the others.
 pub fn record_repair(ring: Ring, repairs: &mut [u64], capacity: usize, r: Repair) -> Ring
     requires { ⌜ Open 6 capacity (ringIn ring (now repairs)) ⌝ }
-    ensures { λ q. ⌜ ringIn q (now (repairs .exit)) ≡ append capacity (ringIn ring (now (repairs .entry))) (repairOf r) ⌝ }
+    ensures { λ q. ⌜ ringIn q (now (repairs .exit)) ≡ append capacity (ringIn ring (now (repairs .entry))) (wordsOfRepair r) ⌝ }
 {
     let q = ring.with_room(capacity);
     let place = q.next_place(capacity) * 6;

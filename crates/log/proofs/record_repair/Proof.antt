@@ -7,7 +7,7 @@ use borrow.Author.Needs.{needs}
 use denote.Ref.{now}
 use lib.ListN.{set, length-set}
 use Rattle.rules.specs.Log.{write, repairWords}
-use Rattle.log.specs.View.{repairOf}
+use Rattle.log.specs.View.{wordsOfRepair}
 use Rattle.log.proofs.Places.{Next, next-in, append-by}
 use Rattle.log.proofs.record_repair.Statement.{statement}
 use Rattle.log.proofs.record_repair.Tie as tie
@@ -105,9 +105,9 @@ returns c =
       head = m .0 i;
       len = m .1 i;
       dropped = m .2 i;
-      words = (six (now (a .repairs)) (c .before .next-place .result * 6) (r .start) (r .len) (r .first) (r .second) (r .third) (r .fourth) ∙ ap (λ (n : ℕ). write (now (a .repairs)) (n * 6) (repairOf r)) p) i;
+      words = (six (now (a .repairs)) (c .before .next-place .result * 6) (r .start) (r .len) (r .first) (r .second) (r .third) (r .fourth) ∙ ap (λ (n : ℕ). write (now (a .repairs)) (n * 6) (wordsOfRepair r)) p) i;
     })
-    ∙ append-by 6 (a .capacity) (a .ring) q (now (a .repairs)) (c .before .before .with-room .ensures (now (a .repairs))) (repairOf r)
+    ∙ append-by 6 (a .capacity) (a .ring) q (now (a .repairs)) (c .before .before .with-room .ensures (now (a .repairs))) (wordsOfRepair r)
 
 pub record-repair-spec : {M : Type 1} → statement M
 record-repair-spec =
