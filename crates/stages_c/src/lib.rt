@@ -92,12 +92,16 @@ pub extern "C" fn dc_revert(y: &[u64], fs: f64, out: &mut [u64], place: &mut usi
 }
 
 #[no_mangle]
-pub extern "C" fn iq_validate(gain: f64, phase: f64, centre: f64) -> u64 {
-    match (IqCalibration {
+pub extern "C" fn iq_validate(gain: f64, phase: f64, centre: f64) -> u64
+    ensures { λ r. ⌜ r ≡ validation (record { gain = gain; phase = phase; centre = centre }) ⌝ }
+{
+    let c = IqCalibration {
         gain,
         phase,
         centre,
-    }).validate() {
+    };
+    let v = c.validate();
+    match v {
         Validated::Valid => 0,
         Validated::BadGain => 11,
         Validated::BadPhase => 12,
