@@ -4,5 +4,6 @@
 
 pub mod condition;
 pub mod num_complex;
+pub mod random;
 pub mod rules;
 pub mod sample_guard;

@@ -4,6 +4,7 @@
 
 use oracle::condition::iq::{ImageMonitor, ImageResult};
 use oracle::num_complex::Complex32;
+use oracle::random::Random;
 use oracle::rules::refusals::{within, Refusal, TOTAL};
 use oracle::rules::{monitor, Sample};
 use std::hint::black_box;
@@ -79,13 +80,25 @@ fn bits(m: &ImageMonitor) -> Vec<u64> {
     let n = m.power.len();
     let re = m.cross.iter().map(|c| c.re);
     let im = m.cross.iter().map(|c| c.im);
-    m.power.iter().copied().chain(re).chain(im).chain(vec![0.0; n]).map(f64::to_bits).collect()
+    m.power
+        .iter()
+        .copied()
+        .chain(re)
+        .chain(im)
+        .chain(vec![0.0; n])
+        .map(f64::to_bits)
+        .collect()
 }
 fn state(m: &ImageMonitor) -> [u64; 3] {
     [u64::from(m.start.is_some()), m.start.unwrap_or(0), m.end]
 }
 fn same(m: &Monitor, r: &ImageResult) -> bool {
-    let values = [r.coherence, r.floor_power, r.strongest_power, r.mirror_power];
+    let values = [
+        r.coherence,
+        r.floor_power,
+        r.strongest_power,
+        r.mirror_power,
+    ];
     m.marks == [r.start_sample, r.end_sample, u64::from(r.suspected)]
         && m.values.map(f64::to_bits) == values.map(f64::to_bits)
 }
@@ -96,21 +109,25 @@ fn words(xs: &[Complex32]) -> Vec<u64> {
 // Document 01's refusal of a hop of n channels: '9, 7'.
 fn refusal(last_end: u64, start: u64, xs: &[Complex32]) -> Option<Refusal> {
     if start > TOTAL || start < last_end {
-        return Some(Refusal { number: 9, place: None });
+        return Some(Refusal {
+            number: 9,
+            place: None,
+        });
     }
     let place = xs.iter().position(|x| !(within(x.re) && within(x.im)))?;
-    Some(Refusal { number: 7, place: Some(place) })
+    Some(Refusal {
+        number: 7,
+        place: Some(place),
+    })
 }
 
-// Marsaglia's xorshift.
-struct Random(u64);
-impl Random {
-    fn next(&mut self) -> u64 {
-        self.0 ^= self.0 << 13;
-        self.0 ^= self.0 >> 7;
-        self.0 ^= self.0 << 17;
-        self.0
-    }
+// What the streams draw.
+trait Draw {
+    fn below(&mut self, n: usize) -> usize;
+    fn both(&mut self) -> f64;
+    fn part(&mut self, limit: f32) -> f32;
+}
+impl Draw for Random {
     fn below(&mut self, n: usize) -> usize {
         (self.next() % n as u64) as usize
     }
@@ -130,7 +147,17 @@ impl Random {
 
 // ---- hops
 
-const KINDS: [&str; 9] = ["noise", "a carrier and its mirror", "equal channels", "equal in pairs", "zeros", "some zeros", "tiny", "huge", "any bits"];
+const KINDS: [&str; 9] = [
+    "noise",
+    "a carrier and its mirror",
+    "equal channels",
+    "equal in pairs",
+    "zeros",
+    "some zeros",
+    "tiny",
+    "huge",
+    "any bits",
+];
 
 fn hop(kind: usize, n: usize, carrier: usize, random: &mut Random) -> Vec<Complex32> {
     let noise = |random: &mut Random| Complex32::new(random.both() as f32, random.both() as f32);
@@ -215,12 +242,20 @@ fn stream(n: usize, hops: usize, counts: &mut Counts, random: &mut Random) {
                 for _ in 0..1 + random.below(3) {
                     let k = random.below(n);
                     let x = bad[random.below(bad.len())];
-                    if random.next() & 1 == 0 { xs[k].re = x } else { xs[k].im = x }
+                    if random.next() & 1 == 0 {
+                        xs[k].re = x
+                    } else {
+                        xs[k].im = x
+                    }
                 }
             }
             3 => {
                 wrong = true;
-                if random.next() & 1 == 0 { xs.push(xs[0]) } else { xs.truncate(random.below(n)) }
+                if random.next() & 1 == 0 {
+                    xs.push(xs[0])
+                } else {
+                    xs.truncate(random.below(n))
+                }
             }
             _ => {}
         }
@@ -228,7 +263,11 @@ fn stream(n: usize, hops: usize, counts: &mut Counts, random: &mut Random) {
         let before = (a.state, a.bits());
         let answer = a.observe(&ws, start);
         counts.hops += 1;
-        let refused = if wrong { None } else { refusal(end, start, &xs) };
+        let refused = if wrong {
+            None
+        } else {
+            refusal(end, start, &xs)
+        };
         let good = if wrong {
             counts.refused[0] += 1;
             answer == 0 && (a.state, a.bits()) == before && b.observe(&xs, start).is_none()
@@ -254,7 +293,10 @@ fn stream(n: usize, hops: usize, counts: &mut Counts, random: &mut Random) {
         if !good {
             counts.differences += 1;
             if counts.differences < 5 {
-                println!("n {n}, fs {fs}, hop {i} at {start}, {}: answered {answer}", KINDS[kind]);
+                println!(
+                    "n {n}, fs {fs}, hop {i} at {start}, {}: answered {answer}",
+                    KINDS[kind]
+                );
             }
         }
     }
@@ -264,7 +306,17 @@ fn stream(n: usize, hops: usize, counts: &mut Counts, random: &mut Random) {
 
 fn tests(cases: usize, counts: &mut Counts, random: &mut Random) {
     let fine = |x: f64| x.abs() <= 1e60;
-    let edges = [0.0, -0.0, 1e60, -1e60, f64::NAN, f64::INFINITY, -f64::INFINITY, f64::from_bits(1e60f64.to_bits() + 1), -f64::from_bits(1e60f64.to_bits() + 1)];
+    let edges = [
+        0.0,
+        -0.0,
+        1e60,
+        -1e60,
+        f64::NAN,
+        f64::INFINITY,
+        -f64::INFINITY,
+        f64::from_bits(1e60f64.to_bits() + 1),
+        -f64::from_bits(1e60f64.to_bits() + 1),
+    ];
     for _ in 0..cases {
         let n = 8 + random.below(8);
         let mut m = Monitor::new(1.0, n);
@@ -280,11 +332,19 @@ fn tests(cases: usize, counts: &mut Counts, random: &mut Random) {
                 *w = w.abs();
             }
         }
-        let wanted = m.words.iter().all(|&x| fine(x)) && m.words[..n].iter().all(|x| !x.is_sign_negative());
+        let wanted =
+            m.words.iter().all(|&x| fine(x)) && m.words[..n].iter().all(|x| !x.is_sign_negative());
         counts.differences += usize::from(m.words_fit() != wanted);
-        let fs = if random.below(4) == 0 { (1.0 + random.below(1000) as f64) / 5.0 } else { 1.0 + 1e7 * random.both().abs() };
+        let fs = if random.below(4) == 0 {
+            (1.0 + random.below(1000) as f64) / 5.0
+        } else {
+            1.0 + 1e7 * random.both().abs()
+        };
         let length = unsafe { image_window_length(fs) };
-        counts.differences += usize::from(length != (fs * 5.0).ceil().max(1.0) as u64 || length != monitor::window_length(fs).max(1));
+        counts.differences += usize::from(
+            length != (fs * 5.0).ceil().max(1.0) as u64
+                || length != monitor::window_length(fs).max(1),
+        );
     }
 }
 
@@ -330,7 +390,9 @@ fn times() {
 }
 
 fn main() {
-    let hops: usize = std::env::args().nth(1).map_or(400_000, |a| a.parse().expect("a number of hops"));
+    let hops: usize = std::env::args()
+        .nth(1)
+        .map_or(400_000, |a| a.parse().expect("a number of hops"));
     let mut random = Random(0x9e37_79b9_7f4a_7c15);
     let mut counts = Counts::default();
     while counts.hops < hops {
@@ -344,8 +406,14 @@ fn main() {
         stream(n, 20 + random.below(200), &mut counts, &mut random);
     }
     tests(hops / 4, &mut counts, &mut random);
-    println!("hops {}, of odd n {}, reports {}, suspected {}, with no channel above 0 {}", counts.hops, counts.odd, counts.reports, counts.suspected, counts.nobody);
-    println!("answered by nothing {}, number 7 {}, number 9 {}", counts.refused[0], counts.refused[7], counts.refused[9]);
+    println!(
+        "hops {}, of odd n {}, reports {}, suspected {}, with no channel above 0 {}",
+        counts.hops, counts.odd, counts.reports, counts.suspected, counts.nobody
+    );
+    println!(
+        "answered by nothing {}, number 7 {}, number 9 {}",
+        counts.refused[0], counts.refused[7], counts.refused[9]
+    );
     println!("differences {}", counts.differences);
     times();
     if counts.differences > 0 {

@@ -4,26 +4,59 @@
 
 use oracle::condition::{ConditioningConfig, InputConditioner, Mark, Stage, StageMode};
 use oracle::num_complex::Complex32;
+use oracle::random::Random;
 use std::hint::black_box;
 use std::time::Instant;
 
 // A slice is a pointer and a length there.
 extern "C" {
-    fn impulse_trace(apply: bool, blocklen: u64, samples: *const u64, n: usize, words: *mut u64, m: usize) -> usize;
-    fn impulse_run(apply: bool, blocklen: u64, samples: *const u64, n: usize, words: *mut u64, m: usize) -> usize;
+    fn impulse_trace(
+        apply: bool,
+        blocklen: u64,
+        samples: *const u64,
+        n: usize,
+        words: *mut u64,
+        m: usize,
+    ) -> usize;
+    fn impulse_run(
+        apply: bool,
+        blocklen: u64,
+        samples: *const u64,
+        n: usize,
+        words: *mut u64,
+        m: usize,
+    ) -> usize;
 }
 
 const WORDS: usize = 10;
 
 fn trace(apply: bool, blocklen: u64, xs: &[u64]) -> Vec<u64> {
     let mut words = vec![0; WORDS * xs.len()];
-    let n = unsafe { impulse_trace(apply, blocklen, xs.as_ptr(), xs.len(), words.as_mut_ptr(), words.len()) };
+    let n = unsafe {
+        impulse_trace(
+            apply,
+            blocklen,
+            xs.as_ptr(),
+            xs.len(),
+            words.as_mut_ptr(),
+            words.len(),
+        )
+    };
     assert_eq!(n, words.len());
     words
 }
 
 fn run(apply: bool, blocklen: u64, xs: &[u64], out: &mut [u64]) -> usize {
-    unsafe { impulse_run(apply, blocklen, xs.as_ptr(), xs.len(), out.as_mut_ptr(), out.len()) }
+    unsafe {
+        impulse_run(
+            apply,
+            blocklen,
+            xs.as_ptr(),
+            xs.len(),
+            out.as_mut_ptr(),
+            out.len(),
+        )
+    }
 }
 
 // ---- samples
@@ -32,15 +65,12 @@ fn word(x: Complex32) -> u64 {
     x.re.to_bits() as u64 | (x.im.to_bits() as u64) << 32
 }
 
-// Marsaglia's xorshift.
-struct Random(u64);
-impl Random {
-    fn next(&mut self) -> u64 {
-        self.0 ^= self.0 << 13;
-        self.0 ^= self.0 >> 7;
-        self.0 ^= self.0 << 17;
-        self.0
-    }
+// What the streams draw.
+trait Draw {
+    fn unit(&mut self) -> f32;
+    fn one_in(&mut self, n: u64) -> bool;
+}
+impl Draw for Random {
     // from -1 to 1
     fn unit(&mut self) -> f32 {
         (self.next() >> 40) as f32 / (1u64 << 23) as f32 - 1.0
@@ -106,18 +136,114 @@ fn ones(_: &mut Random) -> Complex32 {
 }
 
 const KINDS: [Kind; 12] = [
-    Kind { name: "sparse clicks", blocklen: 48_000, every: 2_000, longest: 4, loud: 100.0, quiet: noise, length: 100_000 },
-    Kind { name: "dense clicks", blocklen: 48_000, every: 12, longest: 3, loud: 60.0, quiet: noise, length: 100_000 },
-    Kind { name: "pauses, block 1000", blocklen: 1_000, every: 700, longest: 2, loud: 80.0, quiet: noise, length: 50_000 },
-    Kind { name: "pauses, block 37", blocklen: 37, every: 60, longest: 5, loud: 80.0, quiet: noise, length: 20_000 },
-    Kind { name: "block 1", blocklen: 1, every: 30, longest: 4, loud: 80.0, quiet: noise, length: 10_000 },
-    Kind { name: "long runs", blocklen: 8_000, every: 100, longest: 9, loud: 200.0, quiet: noise, length: 50_000 },
-    Kind { name: "zeros", blocklen: 500, every: 50, longest: 6, loud: 1.0, quiet: zeros, length: 10_000 },
-    Kind { name: "small and signed zeros", blocklen: 500, every: 50, longest: 6, loud: 1.0, quiet: sparse, length: 10_000 },
-    Kind { name: "equal powers", blocklen: 2_000, every: 40, longest: 4, loud: 30.0, quiet: steps, length: 20_000 },
-    Kind { name: "near 1e17", blocklen: 48_000, every: 150, longest: 4, loud: 1.0e17, quiet: huge, length: 20_000 },
-    Kind { name: "any size", blocklen: 48_000, every: 20, longest: 4, loud: 1.0e17, quiet: any_size, length: 20_000 },
-    Kind { name: "first samples", blocklen: 20, every: 9, longest: 5, loud: 12.5, quiet: ones, length: 70 },
+    Kind {
+        name: "sparse clicks",
+        blocklen: 48_000,
+        every: 2_000,
+        longest: 4,
+        loud: 100.0,
+        quiet: noise,
+        length: 100_000,
+    },
+    Kind {
+        name: "dense clicks",
+        blocklen: 48_000,
+        every: 12,
+        longest: 3,
+        loud: 60.0,
+        quiet: noise,
+        length: 100_000,
+    },
+    Kind {
+        name: "pauses, block 1000",
+        blocklen: 1_000,
+        every: 700,
+        longest: 2,
+        loud: 80.0,
+        quiet: noise,
+        length: 50_000,
+    },
+    Kind {
+        name: "pauses, block 37",
+        blocklen: 37,
+        every: 60,
+        longest: 5,
+        loud: 80.0,
+        quiet: noise,
+        length: 20_000,
+    },
+    Kind {
+        name: "block 1",
+        blocklen: 1,
+        every: 30,
+        longest: 4,
+        loud: 80.0,
+        quiet: noise,
+        length: 10_000,
+    },
+    Kind {
+        name: "long runs",
+        blocklen: 8_000,
+        every: 100,
+        longest: 9,
+        loud: 200.0,
+        quiet: noise,
+        length: 50_000,
+    },
+    Kind {
+        name: "zeros",
+        blocklen: 500,
+        every: 50,
+        longest: 6,
+        loud: 1.0,
+        quiet: zeros,
+        length: 10_000,
+    },
+    Kind {
+        name: "small and signed zeros",
+        blocklen: 500,
+        every: 50,
+        longest: 6,
+        loud: 1.0,
+        quiet: sparse,
+        length: 10_000,
+    },
+    Kind {
+        name: "equal powers",
+        blocklen: 2_000,
+        every: 40,
+        longest: 4,
+        loud: 30.0,
+        quiet: steps,
+        length: 20_000,
+    },
+    Kind {
+        name: "near 1e17",
+        blocklen: 48_000,
+        every: 150,
+        longest: 4,
+        loud: 1.0e17,
+        quiet: huge,
+        length: 20_000,
+    },
+    Kind {
+        name: "any size",
+        blocklen: 48_000,
+        every: 20,
+        longest: 4,
+        loud: 1.0e17,
+        quiet: any_size,
+        length: 20_000,
+    },
+    Kind {
+        name: "first samples",
+        blocklen: 20,
+        every: 9,
+        longest: 5,
+        loud: 12.5,
+        quiet: ones,
+        length: 70,
+    },
 ];
 
 fn input(kind: &Kind, r: &mut Random) -> Vec<Complex32> {
@@ -130,7 +256,10 @@ fn input(kind: &Kind, r: &mut Random) -> Vec<Complex32> {
         }
         if left > 0 {
             left -= 1;
-            xs.push(Complex32::new(kind.loud * (0.9 + 0.1 * r.unit()), kind.loud * 0.1 * r.unit()));
+            xs.push(Complex32::new(
+                kind.loud * (0.9 + 0.1 * r.unit()),
+                kind.loud * 0.1 * r.unit(),
+            ));
         } else {
             xs.push((kind.quiet)(r));
         }
@@ -185,12 +314,17 @@ fn proved(apply: bool, blocklen: u64, xs: &[u64]) -> Done {
 
 fn conditioner(apply: bool, blocklen: u64) -> InputConditioner {
     let config = ConditioningConfig {
-        impulse: if apply { StageMode::Apply } else { StageMode::Observe },
+        impulse: if apply {
+            StageMode::Apply
+        } else {
+            StageMode::Observe
+        },
         ..ConditioningConfig::default()
     };
     // nothing is dropped
     let most = 1 << 40;
-    InputConditioner::with_geometry(blocklen as f64, f64::NAN, 8, &config, most, most).expect("a stage runs")
+    InputConditioner::with_geometry(blocklen as f64, f64::NAN, 8, &config, most, most)
+        .expect("a stage runs")
 }
 
 // In calls of any length.
@@ -220,7 +354,8 @@ fn original(apply: bool, blocklen: u64, xs: &[Complex32], r: &mut Random) -> Don
     }
     for q in log.repairs() {
         let o = q.originals.map(word);
-        done.repairs.push([q.start_sample, q.len as u64, o[0], o[1], o[2], o[3]]);
+        done.repairs
+            .push([q.start_sample, q.len as u64, o[0], o[1], o[2], o[3]]);
     }
     done.long_runs = log.impulse_long_runs();
     done
@@ -228,7 +363,10 @@ fn original(apply: bool, blocklen: u64, xs: &[Complex32], r: &mut Random) -> Don
 
 fn compare(samples: usize) -> usize {
     let mut differences = 0;
-    println!("{:24} {:>9} {:>9} {:>9} {:>9} {:>6} {:>5}", "kind", "samples", "repaired", "kept", "uncertain", "long", "diff");
+    println!(
+        "{:24} {:>9} {:>9} {:>9} {:>9} {:>6} {:>5}",
+        "kind", "samples", "repaired", "kept", "uncertain", "long", "diff"
+    );
     for kind in &KINDS {
         let mut r = Random(0x9e37_79b9_7f4a_7c15 ^ kind.blocklen ^ kind.every << 20);
         let (mut seen, mut bad, mut inputs) = (0, 0, 0);
@@ -242,7 +380,12 @@ fn compare(samples: usize) -> usize {
             if p != q {
                 bad += 1;
                 if bad <= 3 {
-                    println!("{}: input {} of {} samples differs", kind.name, inputs, xs.len());
+                    println!(
+                        "{}: input {} of {} samples differs",
+                        kind.name,
+                        inputs,
+                        xs.len()
+                    );
                 }
             }
             for (k, spans) in q.spans.iter().enumerate() {
@@ -252,7 +395,10 @@ fn compare(samples: usize) -> usize {
             seen += xs.len();
             inputs += 1;
         }
-        println!("{:24} {:>9} {:>9} {:>9} {:>9} {:>6} {:>5}", kind.name, seen, sums[0], sums[1], sums[2], sums[3], bad);
+        println!(
+            "{:24} {:>9} {:>9} {:>9} {:>9} {:>6} {:>5}",
+            kind.name, seen, sums[0], sums[1], sums[2], sums[3], bad
+        );
         differences += bad;
     }
     differences
@@ -287,7 +433,9 @@ fn time(kind: &Kind) -> (f64, f64) {
 }
 
 fn main() {
-    let samples = std::env::args().nth(1).map_or(1_000_000, |a| a.parse().expect("a number"));
+    let samples = std::env::args()
+        .nth(1)
+        .map_or(1_000_000, |a| a.parse().expect("a number"));
     let differences = compare(samples);
     println!("{} differences", differences);
     println!("nanoseconds a sample, least of 15 rounds: proved, Rust");

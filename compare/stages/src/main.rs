@@ -5,6 +5,7 @@ use oracle::condition::dc::{revert_dc, DcBlocker};
 use oracle::condition::iq::{revert_iq, IqCalibration, IqCorrector};
 use oracle::condition::{ConditioningConfig, InputConditioner, IqStatus, StageMode};
 use oracle::num_complex::{Complex32, Complex64};
+use oracle::random::Random;
 use oracle::rules::iq::Coefficient;
 use oracle::rules::{dc, refusals, Calibration, Sample};
 use std::hint::black_box;
@@ -15,10 +16,25 @@ extern "C" {
     fn dc_fresh(state: *mut f64, fs: f64);
     fn dc_process(state: *mut f64, n: u64, samples: *mut u64, len: usize) -> u64;
     fn dc_observe(state: *mut f64, n: u64, samples: *const u64, len: usize) -> u64;
-    fn dc_revert(y: *const u64, len: usize, fs: f64, out: *mut u64, room: usize, place: *mut usize) -> u64;
+    fn dc_revert(
+        y: *const u64,
+        len: usize,
+        fs: f64,
+        out: *mut u64,
+        room: usize,
+        place: *mut usize,
+    ) -> u64;
     fn iq_validate(gain: f64, phase: f64, centre: f64) -> u64;
     fn iq_image_ratio(gain: f64, phase: f64, centre: f64, rho: *mut f64);
-    fn iq_settle(mode: u64, present: bool, gain: f64, phase: f64, centre: f64, receiver: f64, rho: *mut f64) -> u64;
+    fn iq_settle(
+        mode: u64,
+        present: bool,
+        gain: f64,
+        phase: f64,
+        centre: f64,
+        receiver: f64,
+        rho: *mut f64,
+    ) -> u64;
     fn iq_process(re: f64, im: f64, samples: *mut u64, len: usize);
     fn iq_revert(samples: *mut u64, len: usize, re: f64, im: f64, place: *mut usize) -> u64;
 }
@@ -37,10 +53,24 @@ impl Blocker {
         Blocker { state, n: 0 }
     }
     fn process(&mut self, samples: &mut [u64]) {
-        self.n = unsafe { dc_process(self.state.as_mut_ptr(), self.n, samples.as_mut_ptr(), samples.len()) };
+        self.n = unsafe {
+            dc_process(
+                self.state.as_mut_ptr(),
+                self.n,
+                samples.as_mut_ptr(),
+                samples.len(),
+            )
+        };
     }
     fn observe(&mut self, samples: &[u64]) {
-        self.n = unsafe { dc_observe(self.state.as_mut_ptr(), self.n, samples.as_ptr(), samples.len()) };
+        self.n = unsafe {
+            dc_observe(
+                self.state.as_mut_ptr(),
+                self.n,
+                samples.as_ptr(),
+                samples.len(),
+            )
+        };
     }
     fn level(&self) -> [u64; 2] {
         [self.state[1].to_bits(), self.state[2].to_bits()]
@@ -50,7 +80,16 @@ impl Blocker {
 // A refusal's number, 0 for none, and its place.
 fn proved_dc_undo(ys: &[u64], fs: f64, out: &mut [u64]) -> (u64, usize) {
     let mut place = usize::MAX;
-    let n = unsafe { dc_revert(ys.as_ptr(), ys.len(), fs, out.as_mut_ptr(), out.len(), &mut place) };
+    let n = unsafe {
+        dc_revert(
+            ys.as_ptr(),
+            ys.len(),
+            fs,
+            out.as_mut_ptr(),
+            out.len(),
+            &mut place,
+        )
+    };
     (n, place)
 }
 fn proved_iq_undo(ys: &mut [u64], rho: Complex64) -> (u64, usize) {
@@ -74,18 +113,18 @@ fn samples(xs: &[Complex32]) -> Vec<Sample> {
     xs.iter().map(|x| Sample::new(x.re, x.im)).collect()
 }
 fn refused(r: Option<refusals::Refusal>) -> (u64, usize) {
-    r.map_or((0, usize::MAX), |r| (u64::from(r.number), r.place.unwrap_or(usize::MAX)))
+    r.map_or((0, usize::MAX), |r| {
+        (u64::from(r.number), r.place.unwrap_or(usize::MAX))
+    })
 }
 
-// Marsaglia's xorshift.
-struct Random(u64);
-impl Random {
-    fn next(&mut self) -> u64 {
-        self.0 ^= self.0 << 13;
-        self.0 ^= self.0 >> 7;
-        self.0 ^= self.0 << 17;
-        self.0
-    }
+// What the streams draw.
+trait Draw {
+    fn below(&mut self, n: usize) -> usize;
+    fn both(&mut self) -> f64;
+    fn pick(&mut self, of: &[f64]) -> f64;
+}
+impl Draw for Random {
     fn below(&mut self, n: usize) -> usize {
         (self.next() % n as u64) as usize
     }
@@ -100,7 +139,16 @@ impl Random {
 
 // ---- streams
 
-const KINDS: [&str; 8] = ["quiet", "strong carrier", "leading zeros", "clicks", "any usable", "tiny", "zeros", "near full scale"];
+const KINDS: [&str; 8] = [
+    "quiet",
+    "strong carrier",
+    "leading zeros",
+    "clicks",
+    "any usable",
+    "tiny",
+    "zeros",
+    "near full scale",
+];
 
 // A carrier whose power is above 1 on every sample, zeros of both signs in front or everywhere, any
 // bits of a usable part, and the like.
@@ -112,13 +160,19 @@ fn stream(kind: usize, len: usize, random: &mut Random) -> Vec<Complex32> {
     (0..len)
         .map(|k| {
             let (a, b) = (random.both(), random.both());
-            let plain = Complex32::new((0.1 * a + 0.3 * offset.0) as f32, (0.1 * b + 0.3 * offset.1) as f32);
+            let plain = Complex32::new(
+                (0.1 * a + 0.3 * offset.0) as f32,
+                (0.1 * b + 0.3 * offset.1) as f32,
+            );
             match kind {
                 0 => plain,
                 1 => {
                     let t = k as f64 * 0.37;
                     let r = 4.0 + size * (1.0 + 0.01 * a);
-                    Complex32::new((r * t.cos() + offset.0) as f32, (r * t.sin() + offset.1) as f32)
+                    Complex32::new(
+                        (r * t.cos() + offset.0) as f32,
+                        (r * t.sin() + offset.1) as f32,
+                    )
                 }
                 2 if k < lead => Complex32::new(zero(random), zero(random)),
                 2 => plain,
@@ -133,7 +187,10 @@ fn stream(kind: usize, len: usize, random: &mut Random) -> Vec<Complex32> {
                     };
                     Complex32::new(part(), part())
                 }
-                5 => Complex32::new(f32::from_bits(random.next() as u32 & 0x807f_ffff), (1e-30 * b) as f32),
+                5 => Complex32::new(
+                    f32::from_bits(random.next() as u32 & 0x807f_ffff),
+                    (1e-30 * b) as f32,
+                ),
                 6 => Complex32::new(zero(random), zero(random)),
                 _ => {
                     let t = random.both() * 3.2;
@@ -152,7 +209,14 @@ fn rate(case: usize, random: &mut Random) -> f64 {
         2 => 48_000.0,
         3 => 1.0 + (random.next() >> 11) as f64 / (1u64 << 53) as f64 * 30.0,
         4 => 10f64.powf(3.5 + 3.5 * random.both()).clamp(1.0, 1e7),
-        _ => random.pick(&[31.4, 31.5, 1.0000000000000002, 9_999_999.999_999_998, 192_000.0, 2_400_000.0]),
+        _ => random.pick(&[
+            31.4,
+            31.5,
+            1.0000000000000002,
+            9_999_999.999_999_998,
+            192_000.0,
+            2_400_000.0,
+        ]),
     }
 }
 
@@ -203,14 +267,22 @@ fn dc_stream(case: usize, random: &mut Random, c: &mut Counts) {
         let e = len.min(k + random.below(longest + 1));
         let before = proved[k..e].to_vec();
         observing.observe(&proved[k..e]);
-        c.same(&format!("{what}, observed words"), proved[k..e].to_vec(), before);
+        c.same(
+            &format!("{what}, observed words"),
+            proved[k..e].to_vec(),
+            before,
+        );
         applying.process(&mut proved[k..e]);
         for x in &mut rust[k..e] {
             *x = original.process_sample(*x);
         }
         let level = [original.level().re.to_bits(), original.level().im.to_bits()];
         c.same(&format!("{what}, level after {e}"), applying.level(), level);
-        c.same(&format!("{what}, observed level after {e}"), observing.level(), level);
+        c.same(
+            &format!("{what}, observed level after {e}"),
+            observing.level(),
+            level,
+        );
         c.dc_blocks += 1;
         k = e;
     }
@@ -221,19 +293,46 @@ fn dc_stream(case: usize, random: &mut Random, c: &mut Counts) {
         c.strong_out += rust.iter().filter(|y| y.norm_sqr() > 1.0).count();
     }
     let rules = dc::levels(fs, &samples(&xs))[len];
-    c.same(&format!("{what}, updates"), (applying.n, observing.n), (rules.updates, rules.updates));
+    c.same(
+        &format!("{what}, updates"),
+        (applying.n, observing.n),
+        (rules.updates, rules.updates),
+    );
     c.dc += len;
     let mut out = vec![!0; len];
-    c.same(&format!("{what}, undo"), proved_dc_undo(&proved, fs, &mut out), (0, usize::MAX));
-    c.same(&format!("{what}, undone"), out, words(&revert_dc(&rust, fs)));
+    c.same(
+        &format!("{what}, undo"),
+        proved_dc_undo(&proved, fs, &mut out),
+        (0, usize::MAX),
+    );
+    c.same(
+        &format!("{what}, undone"),
+        out,
+        words(&revert_dc(&rust, fs)),
+    );
     c.dc_undone += len;
 }
 
 // parts at the limit of 1e18, next to it, and what is no number: an f32 has no 1e18 itself
 fn odd_parts() -> Vec<f32> {
     let near = 1e18f32;
-    let (down, up) = (f32::from_bits(near.to_bits() - 1), f32::from_bits(near.to_bits() + 1));
-    let mut parts = vec![0.0, 1.0, down, near, up, f32::MAX, f32::INFINITY, f32::NAN, f32::from_bits(0x7f80_0001), 1.0e17, 2e18];
+    let (down, up) = (
+        f32::from_bits(near.to_bits() - 1),
+        f32::from_bits(near.to_bits() + 1),
+    );
+    let mut parts = vec![
+        0.0,
+        1.0,
+        down,
+        near,
+        up,
+        f32::MAX,
+        f32::INFINITY,
+        f32::NAN,
+        f32::from_bits(0x7f80_0001),
+        1.0e17,
+        2e18,
+    ];
     parts.extend(parts.clone().iter().map(|x| -x));
     parts
 }
@@ -269,12 +368,18 @@ fn dc_refusals(random: &mut Random, c: &mut Counts) {
                             ys[random.below(length)] = Complex32::new(re, im);
                             ys[random.below(length)].re = re;
                         }
-                        let before: Vec<u64> = (0..room as u64).map(|k| 0x1111_0000_2222_0000 + k).collect();
+                        let before: Vec<u64> = (0..room as u64)
+                            .map(|k| 0x1111_0000_2222_0000 + k)
+                            .collect();
                         let mut out = before.clone();
                         let answer = proved_dc_undo(&words(&ys), fs, &mut out);
                         let rule = refused(refusals::dc_undo(fs, &samples(&ys), room));
                         c.same("dc undo, refusal", answer, rule);
-                        let expected = if rule.0 == 0 { words(&revert_dc(&ys, fs)) } else { before };
+                        let expected = if rule.0 == 0 {
+                            words(&revert_dc(&ys, fs))
+                        } else {
+                            before
+                        };
                         c.same("dc undo, second slice", out, expected);
                         c.dc_refusals += 1;
                     }
@@ -296,7 +401,11 @@ fn coefficient(case: usize, random: &mut Random) -> Complex64 {
         .image_ratio();
     }
     let t = 3.2 * random.both();
-    let r = if case % 3 == 1 { 0.999_999_9 } else { 0.5 * (random.both() + 1.0) };
+    let r = if case % 3 == 1 {
+        0.999_999_9
+    } else {
+        0.5 * (random.both() + 1.0)
+    };
     Complex64::new(r * t.cos(), r * t.sin())
 }
 
@@ -322,7 +431,11 @@ fn iq_stream(case: usize, random: &mut Random, c: &mut Counts) {
     }
     c.same(&format!("{what}, outputs"), proved.clone(), words(&rust));
     c.iq += len;
-    c.same(&format!("{what}, undo"), proved_iq_undo(&mut proved, rho), (0, usize::MAX));
+    c.same(
+        &format!("{what}, undo"),
+        proved_iq_undo(&mut proved, rho),
+        (0, usize::MAX),
+    );
     revert_iq(&mut rust, rho).expect("a fit coefficient");
     c.same(&format!("{what}, undone"), proved, words(&rust));
     c.iq_undone += len;
@@ -331,7 +444,20 @@ fn iq_stream(case: usize, random: &mut Random, c: &mut Counts) {
 fn iq_refusals(random: &mut Random, c: &mut Counts) {
     let parts = odd_parts();
     let below = (1.0f64 - 1e-12).sqrt();
-    let edges = [0.0, -0.0, 0.5, below, f64::from_bits(below.to_bits() - 1), f64::from_bits(below.to_bits() + 1), 1.0, -1.0, 1e200, f64::NAN, f64::INFINITY, f64::NEG_INFINITY];
+    let edges = [
+        0.0,
+        -0.0,
+        0.5,
+        below,
+        f64::from_bits(below.to_bits() - 1),
+        f64::from_bits(below.to_bits() + 1),
+        1.0,
+        -1.0,
+        1e200,
+        f64::NAN,
+        f64::INFINITY,
+        f64::NEG_INFINITY,
+    ];
     for &a in &edges {
         for &b in &edges {
             for length in 0..4 {
@@ -346,7 +472,10 @@ fn iq_refusals(random: &mut Random, c: &mut Counts) {
                         let before = words(&ys);
                         let mut proved = before.clone();
                         let answer = proved_iq_undo(&mut proved, rho);
-                        let rule = refused(refusals::iq_undo(Coefficient { re: a, im: b }, &samples(&ys)));
+                        let rule = refused(refusals::iq_undo(
+                            Coefficient { re: a, im: b },
+                            &samples(&ys),
+                        ));
                         c.same("iq undo, refusal", answer, rule);
                         let fit = IqCorrector::new(rho).is_ok();
                         c.same("iq undo, fit", answer.0 != 10, fit);
@@ -367,10 +496,23 @@ fn iq_refusals(random: &mut Random, c: &mut Counts) {
 
 // numbers at an edge, next to it, and what is no number
 fn around(edges: &[f64]) -> Vec<f64> {
-    let mut all = vec![0.0, -0.0, f64::NAN, f64::INFINITY, f64::NEG_INFINITY, f64::MAX, f64::MIN_POSITIVE, 5e-324];
+    let mut all = vec![
+        0.0,
+        -0.0,
+        f64::NAN,
+        f64::INFINITY,
+        f64::NEG_INFINITY,
+        f64::MAX,
+        f64::MIN_POSITIVE,
+        5e-324,
+    ];
     for &e in edges {
         for x in [e, -e] {
-            all.extend([x, f64::from_bits(x.to_bits() + 1), f64::from_bits(x.to_bits() - 1)]);
+            all.extend([
+                x,
+                f64::from_bits(x.to_bits() + 1),
+                f64::from_bits(x.to_bits() - 1),
+            ]);
         }
     }
     all
@@ -385,25 +527,58 @@ fn calibrations(random: &mut Random, c: &mut Counts) {
         }
     }
     for _ in 0..200_000 {
-        calibration(0.5 + 0.75 * (random.both() + 1.0), 45.0 * random.both(), 1e9 * random.both().abs(), random, c);
+        calibration(
+            0.5 + 0.75 * (random.both() + 1.0),
+            45.0 * random.both(),
+            1e9 * random.both().abs(),
+            random,
+            c,
+        );
     }
 }
 
 fn calibration(gain: f64, phase: f64, centre: f64, random: &mut Random, c: &mut Counts) {
-    let original = IqCalibration { gain_ratio: gain, phase_deg: phase, center_freq_hz: centre };
-    let rule = refused(refusals::validation(Calibration { gain, phase, centre })).0;
+    let original = IqCalibration {
+        gain_ratio: gain,
+        phase_deg: phase,
+        center_freq_hz: centre,
+    };
+    let rule = refused(refusals::validation(Calibration {
+        gain,
+        phase,
+        centre,
+    }))
+    .0;
     let proved = unsafe { iq_validate(gain, phase, centre) };
     c.same("validation", proved, rule);
-    c.same("validation, original", proved == 0, original.validate().is_ok());
+    c.same(
+        "validation, original",
+        proved == 0,
+        original.validate().is_ok(),
+    );
     c.validations += 1;
     let mut rho = [0.0; 2];
     if rule == 0 {
         unsafe { iq_image_ratio(gain, phase, centre, rho.as_mut_ptr()) };
         let r = original.image_ratio();
-        c.same("coefficient", rho.map(f64::to_bits), [r.re, r.im].map(f64::to_bits));
+        c.same(
+            "coefficient",
+            rho.map(f64::to_bits),
+            [r.re, r.im].map(f64::to_bits),
+        );
         c.coefficients += 1;
     }
-    let off = random.pick(&[0.0, 1.0, -1.0, 1.5, -1.5, 1.0000000000000002, 0.5, f64::NAN, f64::INFINITY]);
+    let off = random.pick(&[
+        0.0,
+        1.0,
+        -1.0,
+        1.5,
+        -1.5,
+        1.0000000000000002,
+        0.5,
+        f64::NAN,
+        f64::INFINITY,
+    ]);
     let receiver = match random.below(8) {
         0 => random.pick(&[0.0, -0.0, -7e6, f64::NAN, f64::INFINITY, f64::MIN_POSITIVE]),
         1 => f64::from_bits((centre + 1.0).to_bits() + 1),
@@ -417,7 +592,8 @@ fn calibration(gain: f64, phase: f64, centre: f64, random: &mut Random, c: &mut 
         iq: [StageMode::Off, StageMode::Observe, StageMode::Apply][mode as usize],
         iq_calibration: present.then_some(original),
     };
-    let chain = InputConditioner::with_geometry(48_000.0, receiver, 8, &cfg, 1, 1).expect("a chain");
+    let chain =
+        InputConditioner::with_geometry(48_000.0, receiver, 8, &cfg, 1, 1).expect("a chain");
     let status = match chain.log().iq_status() {
         IqStatus::Off => 0,
         IqStatus::Observing => 1,
@@ -425,11 +601,25 @@ fn calibration(gain: f64, phase: f64, centre: f64, random: &mut Random, c: &mut 
         IqStatus::CalibrationMismatch => 3,
     };
     let mut rho = [0.0; 2];
-    let proved = unsafe { iq_settle(mode, present, gain, phase, centre, receiver, rho.as_mut_ptr()) };
+    let proved = unsafe {
+        iq_settle(
+            mode,
+            present,
+            gain,
+            phase,
+            centre,
+            receiver,
+            rho.as_mut_ptr(),
+        )
+    };
     c.same("settled", proved, status);
     c.settled[status as usize] += 1;
     let expected = chain.iq.map_or([0.0; 2], |i| [i.rho.re, i.rho.im]);
-    c.same("settled coefficient", rho.map(f64::to_bits), expected.map(f64::to_bits));
+    c.same(
+        "settled coefficient",
+        rho.map(f64::to_bits),
+        expected.map(f64::to_bits),
+    );
 }
 
 // ---- time
@@ -450,7 +640,10 @@ fn times() {
     const LEN: usize = 100_000;
     let mut random = Random(0x1234_5678_9abc_def1);
     println!("| nanoseconds a sample | proved | Rust |\n|---|---|---|");
-    for (name, kind) in [("dc, power up to 1", 0), ("dc, power above 1 on every sample", 1)] {
+    for (name, kind) in [
+        ("dc, power up to 1", 0),
+        ("dc, power above 1 on every sample", 1),
+    ] {
         let xs = stream(kind, LEN, &mut random);
         let ws = words(&xs);
         let mut room = ws.clone();
@@ -507,7 +700,9 @@ fn times() {
 }
 
 fn main() {
-    let cases: usize = std::env::args().nth(1).map_or(2000, |a| a.parse().expect("a number of cases"));
+    let cases: usize = std::env::args()
+        .nth(1)
+        .map_or(2000, |a| a.parse().expect("a number of cases"));
     let mut random = Random(0x9e37_79b9_7f4a_7c15);
     let mut c = Counts::default();
     for case in 0..cases {
@@ -517,9 +712,18 @@ fn main() {
     dc_refusals(&mut random, &mut c);
     iq_refusals(&mut random, &mut c);
     calibrations(&mut random, &mut c);
-    println!("dc: {} samples in {} blocks, levels after each; {} undone; {} undos with odd input", c.dc, c.dc_blocks, c.dc_undone, c.dc_refusals);
-    println!("dc, strong carriers: {} samples, each of a power above 1, and {} outputs of one", c.strong, c.strong_out);
-    println!("iq: {} samples in {} blocks; {} undone; {} undos with odd input", c.iq, c.iq_blocks, c.iq_undone, c.iq_refusals);
+    println!(
+        "dc: {} samples in {} blocks, levels after each; {} undone; {} undos with odd input",
+        c.dc, c.dc_blocks, c.dc_undone, c.dc_refusals
+    );
+    println!(
+        "dc, strong carriers: {} samples, each of a power above 1, and {} outputs of one",
+        c.strong, c.strong_out
+    );
+    println!(
+        "iq: {} samples in {} blocks; {} undone; {} undos with odd input",
+        c.iq, c.iq_blocks, c.iq_undone, c.iq_refusals
+    );
     println!("iq: {} validations, {} coefficients; settled off {}, observing {}, correcting {}, withheld {}", c.validations, c.coefficients, c.settled[0], c.settled[1], c.settled[2], c.settled[3]);
     println!("differences: {}", c.differences);
     times();

@@ -5,18 +5,19 @@ use mathlib.Core.List.{List, [], _∷_, _++_, map, foldl}
 use Prim.Native.Nat.{ℕ, zero, suc, _+_, _-_, _*_, _^_, _≤_, _<_}
 use native.Mathlib.Nat.{le-trans, mul-le-mul-right, le-of-eq, suc-mul, zero-add, mod-lt}
 use native.Mathlib.Omega.{arith}
-use lib.IntN.{ℤ, pos}
+use lib.IntN.{pos}
 use lib.Dec.{T, lit≤, lit<}
 use lib.Ieee.Fits.{and-l, and-r}
 use lib.ListN.{length, take, drop, replicate, length-append}
-use lib.Ieee.{Float, nan, inf, fin, binary64, up, down, add, sub, mul, le, ofBits, isNan}
+use lib.Ieee.{Float, nan, inf, fin, binary64, add, sub, mul, le, ofBits, isNan}
 use borrow.Author.Tests.{ltb-false}
 use Rattle.ieee.specs.Bound.{Within}
-use Rattle.ieee.specs.Bounds.{or-le, within-mono, add-within, sub-within, mul-within, scaled-value}
-use Rattle.ieee.specs.LowerBounds.{within-between}
+use Rattle.ieee.specs.Bounds.{within-mono, add-within, sub-within, mul-within, scaled-value}
 use Rattle.ieee.specs.Order.{square-clear, add-clear}
 use Rattle.ieee.specs.Plain.{signClear}
 use Rattle.complex.specs.Complex.{Complex, power, product, sampleOf}
+use Rattle.part_limit.specs.LimitLaws.{first-place}
+use Rattle.rules.specs.SizeLaws.{size-within, within-size}
 use Rattle.rules.specs.Constants.{zeroF, partLimit}
 use Rattle.rules.specs.Guard.{magnitude}
 use Rattle.rules.specs.Lists.{at, upTo}
@@ -29,18 +30,6 @@ use Rattle.image.specs.ObserveLaws.{is-some, is-next}
 use Rattle.image.specs.Hops.{Accepted, InOrder, lastEnd, byRules}
 
 -- ---- a size as a bound
-
-size-within : (x : Float) (m : ℕ) (e : ℤ) → T (le (magnitude x) (fin false m e)) → Within x (m * up e) (down e)
-unfolding le magnitude
-size-within nan m e t = t
-size-within (inf s) m e t = t
-size-within (fin s n d) m e t = or-le (n * up d * down e) (m * up e * down d) true t
-
-within-size : (x : Float) (m : ℕ) (e : ℤ) → Within x (m * up e) (down e) → T (le (magnitude x) (fin false m e))
-unfolding magnitude
-within-size nan m e w = absurd w
-within-size (inf s) m e w = absurd w
-within-size (fin s n d) m e w = and-l (le (fin false n d) (fin false m e)) (le (fin true m e) (fin false n d)) (within-between (fin false n d) m e w)
 
 holds : (b : Bool) → T b → b ≡ true
 holds true t = refl
@@ -99,27 +88,11 @@ power-clear z g =
 abbrev pub Heard : ℕ → Hop → Type 0
 Heard n h = (k : ℕ) → k < n → withinLimit (at (h .channels) k) ≡ true
 
-scanned : (j : ℕ) (xs : List ℕ) → j + length xs ≤ firstBeyondFrom j xs → (k : ℕ) → k < length xs → withinLimit (at xs k) ≡ true
-unfolding firstBeyondFrom
-scanned j [] h k l = absurd (omega arith)
-scanned j (x ∷ xs) h k l = go (withinLimit x) refl (scanned (suc j) xs) h k l
-  where
-    Later : Type 0
-    Later = suc j + length xs ≤ firstBeyondFrom (suc j) xs → (k : ℕ) → k < length xs → withinLimit (at xs k) ≡ true
-
-    rest : Later → withinLimit x ≡ true → suc j + length xs ≤ firstBeyondFrom (suc j) xs → (k : ℕ) → k < suc (length xs) → withinLimit (at (x ∷ xs) k) ≡ true
-    rest r e h zero l = e
-    rest r e h (suc k) l = r h k (omega arith)
-
-    go : (t : Bool) → withinLimit x ≡ t → Later → j + suc (length xs) ≤ cond t (firstBeyondFrom (suc j) xs) j → (k : ℕ) → k < suc (length xs) → withinLimit (at (x ∷ xs) k) ≡ true
-    go true e r h k l = rest r e (omega arith) k l
-    go false e r h k l = absurd (omega arith)
-
 pub heard : (n end : ℕ) (h : Hop) → Accepted n end h → Heard n h
 heard n end h a k l =
     let e = is-some n (h .channels) (a .some) .0 in
     let f = ltb-false (firstBeyondFrom 0 (h .channels)) (length (h .channels)) (a .parts) in
-    scanned 0 (h .channels) (omega arith) k (omega arith)
+    first-place (h .channels) .before k (omega arith)
 
 mirror-below : (n k : ℕ) → k < n → mirrorOf n k < n
 mirror-below n k h = mod-lt (n - k) (omega arith)

@@ -3,15 +3,16 @@ use mathlib.Core.Path.{_≡_, refl, sym, subst}
 use mathlib.Core.Bool.{true, false, not, _&&_}
 use Prim.Native.Nat.{ℕ, _+_, _*_, _^_, _≤_, _<_}
 use native.Mathlib.Omega.{arith}
-use lib.IntN.{ℤ, pos}
+use lib.IntN.{pos}
 use lib.Dec.{T, lit≤, lit<}
-use lib.Ieee.{Float, nan, inf, fin, binary32, up, down, add, sub, mul, le, ofInt, ofBits, isNan}
+use lib.Ieee.{Float, nan, inf, fin, binary32, add, sub, mul, le, ofInt, ofBits, isNan}
 use lib.Ieee.Fits.{and-l, and-r, and-i, add-fits}
 use Rattle.ieee.specs.Bound.{Within, Beyond, Value}
-use Rattle.ieee.specs.Bounds.{within-mono, or-le, add-within, sub-within, mul-within, div-within, ofInt-within, whole-value, scaled-value}
+use Rattle.ieee.specs.Bounds.{within-mono, add-within, sub-within, mul-within, div-within, ofInt-within, whole-value, scaled-value}
 use Rattle.ieee.specs.LowerBounds.{fine, round-beyond, within-between}
 use Rattle.complex.specs.Complex.{Complex, sum, difference, scaled, power, wordOf, sampleOf}
 use Rattle.complex.specs.Words.{Parts32, NoNan, sample-of-word}
+use Rattle.rules.specs.SizeLaws.{size-within, within-size}
 use Rattle.rules.specs.Constants.{usableLimit, partLimit}
 use Rattle.rules.specs.Guard.{magnitude, usablePart, usable}
 use Rattle.rules.specs.Refusals.{withinLimit}
@@ -20,18 +21,6 @@ use Rattle.rules.specs.Impulse.{powerOf, fraction, between}
 use Rattle.impulse.specs.Sound.{PartsWithin, WordWithin, PowerWithin}
 
 -- ---- a test on the size of a number
-
-size-within : (x : Float) (m : ℕ) (e : ℤ) → T (le (magnitude x) (fin false m e)) → Within x (m * up e) (down e)
-unfolding le magnitude
-size-within nan m e t = t
-size-within (inf s) m e t = t
-size-within (fin s n d) m e t = or-le (n * up d * down e) (m * up e * down d) true t
-
-within-size : (x : Float) (m : ℕ) (e : ℤ) → Within x (m * up e) (down e) → T (le (magnitude x) (fin false m e))
-unfolding magnitude
-within-size nan m e w = absurd w
-within-size (inf s) m e w = absurd w
-within-size (fin s n d) m e w = and-l (le (fin false n d) (fin false m e)) (le (fin true m e) (fin false n d)) (within-between (fin false n d) m e w)
 
 -- ---- samples
 

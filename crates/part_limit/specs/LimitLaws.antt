@@ -1,59 +1,19 @@
 -- A size at most L is a number from -L to L; where a scan stands, and what place it finds. Assumes nothing.
 use mathlib.Core.Path.{_≡_, refl, sym, ap, _∙_, subst}
-use mathlib.Core.Bool.{Bool, true, false, _&&_, _||_, cond}
+use mathlib.Core.Bool.{Bool, true, false, _&&_, cond}
 use mathlib.Core.List.{List, [], _∷_}
-use Prim.Native.Nat.{ℕ, zero, suc, _+_, _*_, _<_, _≤_, suc-le-suc}
+use Prim.Native.Nat.{ℕ, zero, suc, _+_, _<_, _≤_, suc-le-suc}
 use native.Mathlib.Nat.{add-zero, add-comm, le-of-suc-le-suc}
 use native.Mathlib.Numerals.{add-one}
 use native.Mathlib.Omega.{arith}
-use lib.Dec.{ltb, eqb}
-use lib.IntN.{ℤ, pos}
+use lib.IntN.{pos}
 use lib.ListN.{length, drop, getD, drop-of-length-le}
-use lib.Ieee.{Float, nan, inf, fin, up, down, lt, eq, le, neg, ofBits}
-use borrow.Author.Tests.{ltb-false, eq-eqb, ne-eqb, eqb-true, eqb-false}
+use lib.Ieee.{Float, le, neg, ofBits}
 use Rattle.rules.specs.Constants.{partLimit}
-use Rattle.rules.specs.Guard.{magnitude}
+use Rattle.rules.specs.SizeLaws.{size-le}
 use Rattle.rules.specs.Refusals.{withinLimit, firstBeyondFrom}
 use Rattle.part_limit.specs.Slices.{left}
 use Rattle.part_limit.specs.Limit.{limited}
-
--- -b is below +a, or both are zero
-signs : (a b : ℕ) → (ltb 0 (a + b) || (eqb a b && (false || eqb a 0))) ≡ true
-signs a b = go (ltb 0 (a + b)) refl
-  where
-    go : (t : Bool) → ltb 0 (a + b) ≡ t → (t || (eqb a b && (false || eqb a 0))) ≡ true
-    go true e = refl
-    go false e =
-        let z = ltb-false 0 (a + b) e in
-        let p : eqb a b ≡ true = eq-eqb a b (omega arith) in
-        let q : eqb a 0 ≡ true = eq-eqb a 0 (omega arith) in
-        rw (p, q)
-
-eqb-sym : (a b : ℕ) → eqb a b ≡ eqb b a
-eqb-sym a b = go (eqb b a) refl
-  where
-    go : (t : Bool) → eqb b a ≡ t → eqb a b ≡ t
-    go true e = eq-eqb a b (sym (eqb-true b a e))
-    go false e = ne-eqb a b (λ p. eqb-false b a e (sym p))
-
-and-true : (b : Bool) → (b && true) ≡ b
-and-true true = refl
-and-true false = refl
-
-pub size-le : (x : Float) (m : ℕ) (e : ℤ) → le (magnitude x) (fin false m e) ≡ (le (fin true m e) x && le x (fin false m e))
-unfolding magnitude le lt eq
-size-le nan m e = refl
-size-le (inf true) m e = refl
-size-le (inf false) m e = refl
-size-le (fin false n d) m e =
-    ap (λ (t : Bool). t && le (fin false n d) (fin false m e)) (sym (signs (m * up e * down d) (n * up d * down e)))
-size-le (fin true n d) m e =
-    let a = n * up d * down e in
-    let b = m * up e * down d in
-    sym
-    (ap (λ (t : Bool). le (fin true m e) (fin true n d) && t) (signs a b)
-    ∙ and-true (le (fin true m e) (fin true n d))
-    ∙ ap (λ (t : Bool). ltb a b || (t && true)) (eqb-sym b a))
 
 pub limited-is : (x : Float) → limited x ≡ (le (neg partLimit) x && le x partLimit)
 unfolding limited neg ofBits

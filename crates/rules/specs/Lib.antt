@@ -13,6 +13,7 @@ pub mod Refusals
 pub mod Chain
 -- laws
 pub mod ListLaws
+pub mod SizeLaws
 pub mod SortLaws
 pub mod Runs
 pub mod Prefix

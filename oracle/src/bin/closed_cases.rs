@@ -8,20 +8,16 @@ use oracle::condition::dc::{revert_dc, DcBlocker};
 use oracle::condition::iq::{revert_iq, ImageMonitor, ImageResult, IqCalibration, IqCorrector};
 use oracle::condition::{ConditioningConfig, InputConditioner, StageMode};
 use oracle::num_complex::{Complex32, Complex64};
+use oracle::random::Random;
 use oracle::rules::log::{Ring, SpanRing};
 use oracle::rules::{self, impulse, Sample, Setting};
 use oracle::sample_guard::{is_usable, replace_unusable};
 
-struct Random(u64);
-
-impl Random {
-    fn next(&mut self) -> u64 {
-        self.0 ^= self.0 << 13;
-        self.0 ^= self.0 >> 7;
-        self.0 ^= self.0 << 17;
-        self.0
-    }
-
+// What the streams draw.
+trait Draw {
+    fn part(&mut self) -> f32;
+}
+impl Draw for Random {
     /// A part from -1 to 1 in steps of 1/64.
     fn part(&mut self) -> f32 {
         (self.next() % 129) as f32 / 64.0 - 1.0

@@ -3,7 +3,7 @@ use mathlib.Core.Path.{_≡_, sym, ap, _∙_}
 use mathlib.Core.Bool.{Bool, true, false, _&&_}
 use lib.IntN.{pos}
 use lib.Ieee.{Float, le, neg, ofBits}
-use Rattle.part_limit.specs.LimitLaws.{size-le}
+use Rattle.rules.specs.SizeLaws.{size-le}
 use Rattle.image.specs.Words.{sumFits, wordLimit}
 use Rattle.image.proofs.sum_fits.Statement.{statement}
 use Rattle.image.proofs.sum_fits.Tie as tie
