@@ -400,10 +400,10 @@ fn case(rng: &mut Rng, s: &Setting, xs: &[Sample], hops_wanted: usize, at: &str,
     let mut answered = Vec::new();
     let mut tail: Vec<Sample> = Vec::new();
     let mut hops_left = hops_wanted;
-    for (i, &len) in lengths.iter().enumerate() {
+    for i in 0..=lengths.len() {
         // Hops before this call; after the last call, the rest.
         let calls_left = lengths.len() - i;
-        while hops_left > 0 && rng.below(calls_left + 1) == 0 {
+        while hops_left > 0 && (calls_left == 0 || rng.below(calls_left + 1) == 0) {
             hops_left -= 1;
             one_hop(
                 rng,
@@ -416,6 +416,7 @@ fn case(rng: &mut Rng, s: &Setting, xs: &[Sample], hops_wanted: usize, at: &str,
                 r,
             );
         }
+        let Some(&len) = lengths.get(i) else { break };
         let new = &xs[seen..seen + len];
         if rng.once_in(3) {
             // "held ones are never read": anything may stand there.
@@ -438,19 +439,6 @@ fn case(rng: &mut Rng, s: &Setting, xs: &[Sample], hops_wanted: usize, at: &str,
             compare(&chain, s, &record, &hops, &format!("{at}, at {seen}"));
             r.points += 1;
         }
-    }
-    while hops_left > 0 {
-        hops_left -= 1;
-        one_hop(
-            rng,
-            s,
-            &mut chain,
-            &mut hops,
-            &mut end,
-            &mut answered,
-            at,
-            r,
-        );
     }
     let record = chain::whole(s, xs, &hops);
     assert_eq!(words(&out), words(&record.out), "{at}: released");
