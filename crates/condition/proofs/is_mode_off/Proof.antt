@@ -1,0 +1,28 @@
+-- `condition::is_mode_off` is `isModeOff`. Assumes nothing.
+use mathlib.Core.Path.{sym, ap}
+use Rattle.iq.specs.View.{modeOf}
+use Rattle.condition.specs.Config.{isModeOff}
+use borrow.Author.Needs.{needs}
+use Rattle.condition.proofs.is_mode_off.Statement.{statement}
+use Rattle.condition.proofs.is_mode_off.Tie as tie
+
+enum-told : tie.Need-enum-told
+enum-told c = search needs
+
+enum-told-2 : tie.Need-enum-told-2
+enum-told-2 c = search needs
+
+enum-told-3 : tie.Need-enum-told-3
+enum-told-3 c = search needs
+
+returns : tie.Need-returns
+returns c = sym (ap (λ m. isModeOff (modeOf m)) (c .enum-told .given .1))
+
+returns-2 : tie.Need-returns-2
+returns-2 c = sym (ap (λ m. isModeOff (modeOf m)) (c .enum-told2 .given .1))
+
+returns-3 : tie.Need-returns-3
+returns-3 c = sym (ap (λ m. isModeOff (modeOf m)) (c .enum-told3 .given .1))
+
+pub is-mode-off-spec : {M : Type 1} → statement M
+is-mode-off-spec = tie.close (tie.spec enum-told enum-told-2 enum-told-3 returns returns-2 returns-3)

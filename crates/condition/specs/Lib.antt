@@ -1,0 +1,4 @@
+-- definitions
+pub mod Config
+-- laws
+pub mod ConfigLaws
