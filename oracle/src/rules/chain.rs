@@ -31,8 +31,10 @@ impl Record {
 
     /// The lent span store: "each a part of the one lent span store".
     pub fn span_words(&self) -> Vec<u64> {
-        let parts: Vec<&[u64]> = self.rings.iter().map(|r| &r.ring.words[..]).collect();
-        parts.concat()
+        self.rings
+            .iter()
+            .flat_map(|r| r.ring.words.iter().copied())
+            .collect()
     }
 }
 
@@ -40,37 +42,6 @@ impl Record {
 pub fn ready(s: &Setting, seen: usize, new: usize) -> usize {
     let applies = s.impulse == Mode::Apply;
     impulse::released(applies, seen + new) - impulse::released(applies, seen)
-}
-
-/// The samples as the impulse stage hands them on, the released ones: "Stages run impulse, DC,
-/// IQ."
-fn after_impulse(s: &Setting, xs: &[Sample], flags: &[bool], block: u64) -> Vec<Sample> {
-    let applies = s.impulse == Mode::Apply;
-    (0..impulse::released(applies, xs.len()))
-        .map(|k| {
-            if applies {
-                impulse::value(xs, flags, block, k)
-            } else {
-                xs[k]
-            }
-        })
-        .collect()
-}
-
-/// "Applying writes y and marks Corrected; observing leaves the sample."
-fn after_dc(s: &Setting, xs: Vec<Sample>) -> Vec<Sample> {
-    match s.dc {
-        Mode::Apply => dc::outputs(s.fs, &xs),
-        _ => xs,
-    }
-}
-
-/// Correcting writes y; off, observing and withheld leave the sample.
-fn after_iq(settled: Settled, xs: Vec<Sample>) -> Vec<Sample> {
-    match settled {
-        Settled::Correcting(c) => xs.into_iter().map(|m| iq::corrected(c, m)).collect(),
-        _ => xs,
-    }
 }
 
 /// The marks of each of the twelve rings, in order.
@@ -82,52 +53,79 @@ pub fn marks(
     released: u64,
     hops: &[Hop],
 ) -> [Vec<Span>; log::RINGS] {
+    let applies = s.impulse == Mode::Apply;
+    let given = |stage: usize, mark: usize| -> Vec<Span> {
+        match (log::STAGES[stage], log::MARKS[mark]) {
+            ("impulse", _) if s.impulse == Mode::Off => Vec::new(),
+            ("impulse", "repaired") => impulse::repaired(flags, block, applies),
+            ("impulse", "flagged") => impulse::kept(flags, block, applies),
+            ("impulse", "uncertain") => impulse::uncertain(flags, block),
+            // "Applying writes y and marks Corrected; observing leaves the sample."
+            ("dc", "corrected") if s.dc == Mode::Apply => vec![(0, released)],
+            // "Correcting marks released samples Corrected, withheld Uncertain."
+            ("iq", "corrected") if matches!(settled, Settled::Correcting(_)) => vec![(0, released)],
+            ("iq", "uncertain") => match settled {
+                Settled::Withheld => vec![(0, released)],
+                Settled::Observing => monitor::suspected(s.fs, s.n, hops),
+                Settled::Off | Settled::Correcting(_) => Vec::new(),
+            },
+            _ => Vec::new(),
+        }
+    };
     let mut marks: [Vec<Span>; log::RINGS] = Default::default();
-    let all = vec![(0, released)];
-    if s.impulse != Mode::Off {
-        let applies = s.impulse == Mode::Apply;
-        marks[log::place(0, 0)] = impulse::repaired(flags, block, applies);
-        marks[log::place(0, 1)] = impulse::kept(flags, block, applies);
-        marks[log::place(0, 3)] = impulse::uncertain(flags, block);
-    }
-    if s.dc == Mode::Apply {
-        marks[log::place(1, 2)] = all.clone();
-    }
-    // "Correcting marks released samples Corrected, withheld Uncertain."
-    match settled {
-        Settled::Off => (),
-        Settled::Observing => marks[log::place(2, 3)] = monitor::suspected(s.fs, s.n, hops),
-        Settled::Correcting(_) => marks[log::place(2, 2)] = all,
-        Settled::Withheld => marks[log::place(2, 3)] = all,
+    for stage in 0..log::STAGES.len() {
+        for mark in 0..log::MARKS.len() {
+            marks[log::place(stage, mark)] = given(stage, mark);
+        }
     }
     marks
 }
 
 /// The record of the samples `xs` and the accepted hops `hops`.
 pub fn whole(s: &Setting, xs: &[Sample], hops: &[Hop]) -> Record {
-    let settled = iq::settled(s);
     let applies = s.impulse == Mode::Apply;
+    let settled = iq::settled(s);
     let block = impulse::block_length(s.fs);
-    let flags = match s.impulse {
-        Mode::Off => Vec::new(),
-        _ => impulse::flags(xs),
+    let flags = if s.impulse == Mode::Off {
+        Vec::new()
+    } else {
+        impulse::flags(xs)
     };
-    let released = impulse::released(applies, xs.len()) as u64;
-    let into_dc = after_impulse(s, xs, &flags, block);
-    let dc = match s.dc {
-        Mode::Off => None,
-        _ => dc::levels(s.fs, &into_dc).last().copied(),
+    let released = impulse::released(applies, xs.len());
+    let marks = marks(s, settled, &flags, block, released as u64, hops);
+
+    // "Stages run impulse, DC, IQ." Only released samples reach the later two.
+    let mended: Vec<Sample> = if applies {
+        (0..released)
+            .map(|k| impulse::value(xs, &flags, block, k))
+            .collect()
+    } else {
+        xs[..released].to_vec()
     };
-    let marks = marks(s, settled, &flags, block, released, hops);
+    let level = if s.dc == Mode::Off {
+        None
+    } else {
+        dc::levels(s.fs, &mended).pop()
+    };
+    let blocked = if s.dc == Mode::Apply {
+        dc::outputs(s.fs, &mended)
+    } else {
+        mended
+    };
+    let out = match settled {
+        Settled::Correcting(c) => blocked.iter().map(|&m| iq::corrected(c, m)).collect(),
+        _ => blocked,
+    };
+
     Record {
-        out: after_iq(settled, after_dc(s, into_dc)),
+        out,
         seen: xs.len() as u64,
-        released,
+        released: released as u64,
         held: impulse::held(applies, xs.len()) as u64,
         rings: marks.iter().map(|m| SpanRing::of(s.spans, m)).collect(),
         long_runs: impulse::long_runs(&flags),
-        repairs: log::repair_ring(s.repairs, xs, &impulse::repaired(&flags, block, applies)),
-        dc,
+        repairs: log::repair_ring(s.repairs, xs, &marks[log::place(0, 0)]),
+        dc: level,
         iq: settled,
         monitor: monitor::words(s.fs, s.n, hops),
     }

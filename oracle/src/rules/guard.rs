@@ -4,7 +4,7 @@ use super::Sample;
 
 /// "A part is usable if its size is at most 1.0e17 (the f32 constant); NaN isn't."
 pub fn part_usable(part: f32) -> bool {
-    part.abs() <= 1.0e17_f32
+    part.abs() <= 1.0e17f32
 }
 
 /// Both parts are.
@@ -14,9 +14,10 @@ pub fn usable(x: Sample) -> bool {
 
 /// "Guarding replaces unusable samples by 0 and counts them." The samples and the count.
 pub fn guarded(xs: &[Sample]) -> (Vec<Sample>, u64) {
-    let kept = |&x: &Sample| if usable(x) { x } else { Sample::ZERO };
-    (
-        xs.iter().map(kept).collect(),
-        xs.iter().filter(|&&x| !usable(x)).count() as u64,
-    )
+    let samples = xs
+        .iter()
+        .map(|&x| if usable(x) { x } else { Sample::ZERO })
+        .collect();
+    let count = xs.iter().filter(|&&x| !usable(x)).count() as u64;
+    (samples, count)
 }

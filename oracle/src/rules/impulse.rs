@@ -3,6 +3,8 @@
 //! `xs` are all samples so far, numbered from 0; `flags` is [`flags`] of them, a value for each
 //! judged sample; `block` is the block length. One more sample changes none of what was said.
 
+use std::ops::Range;
+
 use super::Sample;
 
 pub const HALF: usize = 16;
@@ -15,8 +17,7 @@ pub type Span = (u64, u64);
 
 /// "powers are f32"; "power: re·re + im·im"
 pub fn power(x: Sample) -> f32 {
-    let (re, im) = (x.re * x.re, x.im * x.im);
-    re + im
+    x.re * x.re + x.im * x.im
 }
 
 /// How many samples are judged once `n` have arrived: "Sample j is judged when j+16 arrives."
@@ -26,18 +27,19 @@ pub fn judged(n: usize) -> usize {
 
 /// "Its window is samples j−16 to j+16, cut at 0; powers are f32."
 pub fn window(xs: &[Sample], j: usize) -> Vec<f32> {
-    let first = j.saturating_sub(HALF);
-    let end = (j + HALF + 1).min(xs.len());
-    xs[first..end].iter().map(|&x| power(x)).collect()
+    xs[j.saturating_sub(HALF)..=j + HALF]
+        .iter()
+        .map(|&x| power(x))
+        .collect()
 }
 
 /// "Sort ascending, drop the 8 strongest, sum the rest in that order in f64, divide by their
 /// number: the reference."
 pub fn reference(xs: &[Sample], j: usize) -> f64 {
     let mut powers = window(xs, j);
-    powers.sort_unstable_by(|a, b| a.partial_cmp(b).expect("usable samples have a power"));
+    powers.sort_by(f32::total_cmp);
     let rest = &powers[..powers.len() - TRIM];
-    let mut sum = 0.0_f64;
+    let mut sum = 0.0f64;
     for &p in rest {
         sum += f64::from(p);
     }
@@ -63,26 +65,38 @@ pub fn before(flags: &[bool], j: usize) -> usize {
 /// "A run of flagged samples ends at the next unflagged one, its right neighbour." The run that
 /// ends at the judged sample `j`.
 pub fn closes(flags: &[bool], j: usize) -> Option<Span> {
-    let len = before(flags, j);
-    (!flags[j] && len > 0).then_some(((j - len) as u64, len as u64))
+    if j >= flags.len() || flags[j] {
+        return None;
+    }
+    match before(flags, j) {
+        0 => None,
+        len => Some(((j - len) as u64, len as u64)),
+    }
 }
 
 /// "block length, fs rounded half away from zero"
 pub fn block_length(fs: f64) -> u64 {
-    let below = fs.floor();
-    let up = fs - below >= 0.5;
-    below as u64 + u64::from(up)
+    fs.round() as u64
+}
+
+/// The judged samples of block `b`.
+fn block_places(flags: &[bool], block: u64, b: u64) -> Range<usize> {
+    let judged = flags.len() as u64;
+    let start = b.saturating_mul(block).min(judged);
+    let end = start.saturating_add(block).min(judged);
+    start as usize..end as usize
 }
 
 /// "A block is paused exactly if the one before had more than 0.001 × block length flagged
 /// (f64)."
 pub fn paused(flags: &[bool], block: u64, b: u64) -> bool {
-    if b == 0 {
+    // The first block has none before it.
+    let Some(previous) = b.checked_sub(1) else {
         return false;
-    }
-    let place = |j: u64| (j.min(flags.len() as u64)) as usize;
-    let one_before = &flags[place((b - 1) * block)..place(b * block)];
-    let count = one_before.iter().filter(|&&f| f).count();
+    };
+    let count = block_places(flags, block, previous)
+        .filter(|&j| flags[j])
+        .count();
     count as f64 > 0.001 * block as f64
 }
 
@@ -93,28 +107,41 @@ pub fn pauses(flags: &[bool], block: u64, j: u64) -> bool {
 
 /// A run "with any sample in a paused block".
 pub fn touches_paused(flags: &[bool], block: u64, (start, len): Span) -> bool {
-    (start..start + len).any(|j| pauses(flags, block, j))
+    len > 0 && (start / block..=(start + len - 1) / block).any(|b| paused(flags, block, b))
+}
+
+/// A run "Over 4".
+fn is_long((_, len): Span) -> bool {
+    len > LONGEST as u64
+}
+
+/// All ended runs, in order.
+fn runs(flags: &[bool]) -> impl Iterator<Item = Span> + '_ {
+    (0..flags.len()).filter_map(move |j| closes(flags, j))
 }
 
 /// The run that ends at `j` is neither over 4 nor touches a paused block: it is mended where the
 /// stage applies.
 pub fn mendable(flags: &[bool], block: u64, j: usize) -> Option<Span> {
-    closes(flags, j).filter(|&run| run.1 <= LONGEST as u64 && !touches_paused(flags, block, run))
+    closes(flags, j)
+        .filter(|&run| !is_long(run))
+        .filter(|&run| !touches_paused(flags, block, run))
 }
 
 /// "each sample t (0 first) becomes left + (right − left) × ((t+1)/(len+1)) in f32"; "left is the
-/// last raw unflagged sample before, or right if none". The sample right before a run is
-/// unflagged, or the run would have begun earlier.
+/// last raw unflagged sample before, or right if none".
 pub fn mended(xs: &[Sample], (start, len): Span, t: u64) -> Sample {
-    let (start, len) = (start as usize, len as usize);
-    let right = xs[start + len];
-    let left = if start == 0 { right } else { xs[start - 1] };
-    let share = (t + 1) as f32 / (len + 1) as f32;
-    let part = |left: f32, right: f32| {
-        let step = right - left;
-        left + step * share
+    let right = xs[(start + len) as usize];
+    // The sample before a run is unflagged, or the run would have started earlier.
+    let left = match start {
+        0 => right,
+        _ => xs[start as usize - 1],
     };
-    Sample::new(part(left.re, right.re), part(left.im, right.im))
+    let part = (t + 1) as f32 / (len + 1) as f32;
+    Sample {
+        re: left.re + (right.re - left.re) * part,
+        im: left.im + (right.im - left.im) * part,
+    }
 }
 
 /// Sample `k` as an applying stage hands it on: mended if it lies in a mended run, else raw.
@@ -123,8 +150,9 @@ pub fn value(xs: &[Sample], flags: &[bool], block: u64, k: usize) -> Sample {
     if k >= flags.len() || !flags[k] {
         return xs[k];
     }
-    let end = (k..flags.len()).find(|&j| !flags[j]);
-    match end.and_then(|j| mendable(flags, block, j)) {
+    // The run's right neighbour; past the judged samples if the run is still open.
+    let end = k + flags[k..].iter().take_while(|&&f| f).count();
+    match mendable(flags, block, end) {
         Some(run) => mended(xs, run, k as u64 - run.0),
         None => xs[k],
     }
@@ -132,23 +160,21 @@ pub fn value(xs: &[Sample], flags: &[bool], block: u64, k: usize) -> Sample {
 
 /// The marks of the ring Uncertain: "Each judged j of a paused block is marked Uncertain."
 pub fn uncertain(flags: &[bool], block: u64) -> Vec<Span> {
-    (0..flags.len() as u64)
-        .filter(|&j| pauses(flags, block, j))
-        .map(|j| (j, 1))
+    (0..(flags.len() as u64).div_ceil(block))
+        .filter(|&b| paused(flags, block, b))
+        .flat_map(|b| block_places(flags, block, b))
+        .map(|j| (j as u64, 1))
         .collect()
-}
-
-/// The runs that have ended, in order.
-fn runs(flags: &[bool]) -> impl Iterator<Item = (usize, Span)> + '_ {
-    (0..flags.len()).filter_map(|j| closes(flags, j).map(|run| (j, run)))
 }
 
 /// The marks of the ring Repaired, which is also the list of mended runs: an ended run that is
 /// not long, where the stage applies and no sample lies in a paused block.
 pub fn repaired(flags: &[bool], block: u64, applies: bool) -> Vec<Span> {
-    runs(flags)
-        .filter_map(|(j, _)| mendable(flags, block, j))
-        .filter(|_| applies)
+    if !applies {
+        return Vec::new();
+    }
+    (0..flags.len())
+        .filter_map(|j| mendable(flags, block, j))
         .collect()
 }
 
@@ -156,16 +182,13 @@ pub fn repaired(flags: &[bool], block: u64, applies: bool) -> Vec<Span> {
 /// sample in a paused block: Flagged."
 pub fn kept(flags: &[bool], block: u64, applies: bool) -> Vec<Span> {
     runs(flags)
-        .filter(|&(j, _)| !applies || mendable(flags, block, j).is_none())
-        .map(|(_, run)| run)
+        .filter(|&run| is_long(run) || !applies || touches_paused(flags, block, run))
         .collect()
 }
 
 /// "Over 4: [..] long-run count plus 1."
 pub fn long_runs(flags: &[bool]) -> u64 {
-    runs(flags)
-        .filter(|&(_, run)| run.1 > LONGEST as u64)
-        .count() as u64
+    runs(flags).filter(|&run| is_long(run)).count() as u64
 }
 
 /// "held min(21, seen) if impulse applies, else 0"
@@ -179,5 +202,9 @@ pub fn held(applies: bool, seen: usize) -> usize {
 
 /// "If applying, sample k is released when k+21 arrives, otherwise with its own call."
 pub fn released(applies: bool, seen: usize) -> usize {
-    seen - held(applies, seen)
+    if applies {
+        seen.saturating_sub(LOOKAHEAD)
+    } else {
+        seen
+    }
 }

@@ -23,8 +23,8 @@ pub enum Settled {
 pub fn sine(t: f64) -> f64 {
     let u = t * t;
     let mut s = 1.0;
-    for divisor in [272.0, 210.0, 156.0, 110.0, 72.0, 42.0, 20.0, 6.0] {
-        s = 1.0 - (u * s) / divisor;
+    for k in (1..=8u32).rev() {
+        s = 1.0 - (u * s) / f64::from(2 * k * (2 * k + 1));
     }
     t * s
 }
@@ -33,24 +33,32 @@ pub fn sine(t: f64) -> f64 {
 pub fn cosine(t: f64) -> f64 {
     let u = t * t;
     let mut c = 1.0;
-    for divisor in [306.0, 240.0, 182.0, 132.0, 90.0, 56.0, 30.0, 12.0, 2.0] {
-        c = 1.0 - (u * c) / divisor;
+    for k in (1..=9u32).rev() {
+        c = 1.0 - (u * c) / f64::from((2 * k - 1) * 2 * k);
     }
     c
+}
+
+/// "quotient: re = (a.re·b.re + a.im·b.im)/power(b), im = (a.im·b.re − a.re·b.im)/power(b)"
+fn quotient(a: Coefficient, b: Coefficient) -> Coefficient {
+    Coefficient {
+        re: (a.re * b.re + a.im * b.im) / power(b),
+        im: (a.im * b.re - a.re * b.im) / power(b),
+    }
 }
 
 /// "Coefficient: (1 − w)/(1 + w), w = gain × (cosine, sine) at −phase." The phase in radians is
 /// the degrees times "the f64 nearest 0.017453292519943295".
 pub fn coefficient(c: Calibration) -> Coefficient {
-    let t = -(c.phase * 0.017453292519943295);
-    let (w_re, w_im) = (c.gain * cosine(t), c.gain * sine(t));
-    let (a_re, a_im) = (1.0 - w_re, 0.0 - w_im);
-    let (b_re, b_im) = (1.0 + w_re, w_im);
-    let b_power = b_re * b_re + b_im * b_im;
-    Coefficient {
-        re: (a_re * b_re + a_im * b_im) / b_power,
-        im: (a_im * b_re - a_re * b_im) / b_power,
-    }
+    let t = -c.phase * 0.017453292519943295;
+    let (re, im) = (c.gain * cosine(t), c.gain * sine(t));
+    quotient(
+        Coefficient {
+            re: 1.0 - re,
+            im: 0.0 - im,
+        },
+        Coefficient { re: 1.0 + re, im },
+    )
 }
 
 /// "power: re·re + im·im"
@@ -75,7 +83,7 @@ pub fn phase_fits(phase: f64) -> bool {
 
 /// "finite centre above 0"
 pub fn centre_fits(centre: f64) -> bool {
-    centre > 0.0 && centre < f64::INFINITY
+    centre.is_finite() && centre > 0.0
 }
 
 /// "Correcting needs Apply, a calibration with gain in 0.5..2, phase in −45..45 and finite centre
@@ -91,7 +99,7 @@ pub fn settled(s: &Setting) -> Settled {
                     && phase_fits(c.phase)
                     && centre_fits(c.centre)
                     && centre_fits(s.centre)
-                    && (c.centre - s.centre).abs() <= 1.0
+                    && (s.centre - c.centre).abs() <= 1.0
                     && accepted(coefficient(c)) =>
             {
                 Settled::Correcting(coefficient(c))
@@ -101,26 +109,27 @@ pub fn settled(s: &Setting) -> Settled {
     }
 }
 
-/// The coefficient times the conjugate of (re, im).
-fn leak(c: Coefficient, re: f64, im: f64) -> (f64, f64) {
-    let im = -im;
-    (c.re * re - c.im * im, c.re * im + c.im * re)
+/// coefficient × conj(m) in f64: "re = a.re·b.re − a.im·b.im, im = a.re·b.im + a.im·b.re"
+fn times_conj(a: Coefficient, m: Sample) -> (f64, f64) {
+    let (re, im) = (f64::from(m.re), -f64::from(m.im));
+    (a.re * re - a.im * im, a.re * im + a.im * re)
 }
 
 /// "y = m − coefficient × conj(m) in f64, rounded once."
 pub fn corrected(c: Coefficient, m: Sample) -> Sample {
-    let (re, im) = (f64::from(m.re), f64::from(m.im));
-    let (leak_re, leak_im) = leak(c, re, im);
-    Sample::new((re - leak_re) as f32, (im - leak_im) as f32)
+    let (re, im) = times_conj(c, m);
+    Sample {
+        re: (f64::from(m.re) - re) as f32,
+        im: (f64::from(m.im) - im) as f32,
+    }
 }
 
 /// "IQ undo: (y + coefficient·conj y)/(1 − power)."
 pub fn undone(c: Coefficient, y: Sample) -> Sample {
-    let (re, im) = (f64::from(y.re), f64::from(y.im));
-    let (leak_re, leak_im) = leak(c, re, im);
-    let divisor = 1.0 - power(c);
-    Sample::new(
-        ((re + leak_re) / divisor) as f32,
-        ((im + leak_im) / divisor) as f32,
-    )
+    let (re, im) = times_conj(c, y);
+    let rest = 1.0 - power(c);
+    Sample {
+        re: ((f64::from(y.re) + re) / rest) as f32,
+        im: ((f64::from(y.im) + im) / rest) as f32,
+    }
 }

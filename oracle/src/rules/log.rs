@@ -11,7 +11,7 @@ pub const RINGS: usize = 12;
 
 /// The place of a ring.
 pub fn place(stage: usize, mark: usize) -> usize {
-    4 * stage + mark
+    stage * MARKS.len() + mark
 }
 
 /// A ring of records of `size` words each, in a lent part of capacity·size words.
@@ -80,79 +80,79 @@ impl SpanRing {
         if len == 0 {
             return self;
         }
-        let count = self.count + len;
-        let mut ring = self.ring;
-        if ring.held > 0 {
-            let at = (ring.head + ring.held - 1) % ring.capacity * 2;
-            if ring.words[at] + ring.words[at + 1] == start {
+        let SpanRing { count, mut ring } = self;
+        let newest = ring
+            .held
+            .checked_sub(1)
+            .map(|i| (ring.head + i) % ring.capacity * ring.size);
+        let ring = match newest {
+            Some(at) if ring.words[at] + ring.words[at + 1] == start => {
                 ring.words[at + 1] += len;
-                return SpanRing { count, ring };
+                ring
             }
-        }
+            _ => ring.with(&[start, len]),
+        };
         SpanRing {
-            count,
-            ring: ring.with(&[start, len]),
+            count: count + len,
+            ring,
         }
     }
 
     /// The ring after the marks that are addressed to it.
     pub fn of(capacity: usize, marks: &[Span]) -> SpanRing {
-        let empty = SpanRing {
+        let fresh = SpanRing {
             count: 0,
             ring: Ring::empty(capacity, 2),
         };
-        marks.iter().fold(empty, |ring, &mark| ring.marked(mark))
+        marks.iter().fold(fresh, |ring, &mark| ring.marked(mark))
     }
 
     /// The spans, oldest first.
     pub fn spans(&self) -> Vec<Span> {
-        let records = self.ring.records();
-        records.iter().map(|r| (r[0], r[1])).collect()
+        (0..self.ring.held)
+            .map(|i| {
+                let words = self.ring.record(i);
+                (words[0], words[1])
+            })
+            .collect()
     }
 }
 
 /// "a repair six: start, length, four originals (bits of re in the low half, im in the high;
 /// unused ones 0)"
 pub fn repair_words(xs: &[Sample], (start, len): Span) -> [u64; 6] {
-    let original = |t: u64| {
-        if t < len {
-            xs[(start + t) as usize].word()
-        } else {
-            0
-        }
-    };
-    [
-        start,
-        len,
-        original(0),
-        original(1),
-        original(2),
-        original(3),
-    ]
+    let mut words = [0; 6];
+    words[0] = start;
+    words[1] = len;
+    let run = &xs[start as usize..(start + len) as usize];
+    for (word, x) in words[2..].iter_mut().zip(run) {
+        *word = x.word();
+    }
+    words
 }
 
 /// "The repair ring does the same without joining." The ring after the mended runs of `xs`.
 pub fn repair_ring(capacity: usize, xs: &[Sample], mended: &[Span]) -> Ring {
-    mended.iter().fold(Ring::empty(capacity, 6), |ring, &run| {
-        ring.with(&repair_words(xs, run))
-    })
+    mended
+        .iter()
+        .filter(|run| run.1 > 0)
+        .fold(Ring::empty(capacity, 6), |ring, &run| {
+            ring.with(&repair_words(xs, run))
+        })
 }
 
 /// "Logged originals return to their places, oldest first; those outside the slice are skipped."
 /// The first place of the slice `ys` is sample `first`.
 pub fn undone(repairs: &Ring, ys: &[Sample], first: u64) -> Vec<Sample> {
-    let mut ys = ys.to_vec();
+    let mut out = ys.to_vec();
     for i in 0..repairs.held {
-        let words = repairs.record(i);
-        for t in 0..words[1] {
-            let place = u128::from(words[0]) + u128::from(t);
-            let Some(place) = place.checked_sub(u128::from(first)) else {
-                continue;
-            };
-            if place < ys.len() as u128 {
-                ys[place as usize] = Sample::of_word(words[2 + t as usize]);
+        let record = repairs.record(i);
+        for t in 0..record[1] {
+            let place = (record[0] + t).checked_sub(first);
+            if let Some(y) = place.and_then(|place| out.get_mut(place as usize)) {
+                *y = Sample::of_word(record[2 + t as usize]);
             }
         }
     }
-    ys
+    out
 }

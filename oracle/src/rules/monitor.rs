@@ -34,6 +34,24 @@ pub struct Sums {
     pub cross_im: Vec<f64>,
 }
 
+/// "`powf(0.6)` of 10 is the f64 nearest 3.9810717055349725"
+const TEN_TO_0_6: f64 = 3.9810717055349725;
+
+/// A channel's parts in f64.
+fn wide(x: Sample) -> (f64, f64) {
+    (f64::from(x.re), f64::from(x.im))
+}
+
+/// "power: re·re + im·im"
+fn power((re, im): (f64, f64)) -> f64 {
+    re * re + im * im
+}
+
+/// "channel (n−k) mod n"
+fn mirror(n: usize, k: usize) -> usize {
+    (n - k) % n
+}
+
 /// "hop = n/4", whole division: a hop's newly covered samples.
 pub fn end(n: usize, hop: &Hop) -> u64 {
     hop.start + (n / 4) as u64
@@ -41,25 +59,21 @@ pub fn end(n: usize, hop: &Hop) -> u64 {
 
 /// "max(1, ceiling of 5·fs)"
 pub fn window_length(fs: f64) -> u64 {
-    let wanted = 5.0 * fs;
-    let below = wanted as u64;
-    let ceiling = if below as f64 == wanted {
-        below
-    } else {
-        below + 1
-    };
-    ceiling.max(1)
+    ((5.0 * fs).ceil() as u64).max(1)
 }
 
 /// For each hop, the number of the hop that opened its window: "When end − first ≥ [..], it
 /// reports and starts afresh."
 pub fn opened_by(fs: f64, n: usize, hops: &[Hop]) -> Vec<usize> {
-    let mut opened = Vec::<usize>::new();
+    let mut opened = 0;
+    let mut all = Vec::with_capacity(hops.len());
     for i in 0..hops.len() {
-        let afresh = i == 0 || reports(fs, n, hops, opened[i - 1], i - 1);
-        opened.push(if afresh { i } else { opened[i - 1] });
+        all.push(opened);
+        if reports(fs, n, hops, opened, i) {
+            opened = i + 1;
+        }
     }
-    opened
+    all
 }
 
 /// Whether hop `i` completes the window that hop `opened` opened.
@@ -74,14 +88,13 @@ pub fn sums(n: usize, hops: &[Hop]) -> Sums {
         cross_re: vec![0.0; n],
         cross_im: vec![0.0; n],
     };
-    for k in 0..n {
-        for hop in hops {
-            let (a, b) = (hop.channels[k], hop.channels[(n - k) % n]);
-            let (a_re, a_im) = (f64::from(a.re), f64::from(a.im));
-            let (b_re, b_im) = (f64::from(b.re), f64::from(b.im));
-            sums.power[k] += a_re * a_re + a_im * a_im;
-            sums.cross_re[k] += a_re * b_re - a_im * b_im;
-            sums.cross_im[k] += a_re * b_im + a_im * b_re;
+    for hop in hops {
+        for k in 0..n {
+            let a = wide(hop.channels[k]);
+            let b = wide(hop.channels[mirror(n, k)]);
+            sums.power[k] += power(a);
+            sums.cross_re[k] += a.0 * b.0 - a.1 * b.1;
+            sums.cross_im[k] += a.0 * b.1 + a.1 * b.0;
         }
     }
     sums
@@ -89,26 +102,25 @@ pub fn sums(n: usize, hops: &[Hop]) -> Sums {
 
 /// "Eligible: k > 2, k+2 < n, |k − n/2| > 2 (whole division)"
 pub fn eligible(n: usize, k: usize) -> bool {
-    k > 2 && k + 2 < n && (k as i64 - (n / 2) as i64).abs() > 2
+    k > 2 && k + 2 < n && k.abs_diff(n / 2) > 2
 }
 
 /// "the strongest wins, equals to the greatest k"
 pub fn strongest(n: usize, power: &[f64]) -> Option<usize> {
-    let beats = |k: usize, other: usize| {
-        power[k] > power[other] || (power[k] == power[other] && k >= other)
-    };
-    let eligible: Vec<usize> = (0..n).filter(|&k| eligible(n, k)).collect();
-    eligible
-        .iter()
-        .copied()
-        .find(|&k| eligible.iter().all(|&other| beats(k, other)))
+    let mut best = None;
+    for k in (0..n).filter(|&k| eligible(n, k)) {
+        if best.is_none_or(|b: usize| power[k] >= power[b]) {
+            best = Some(k);
+        }
+    }
+    best
 }
 
 /// "Floor: half the sum of sorted places (n−1)/2 and n/2."
 pub fn floor(n: usize, power: &[f64]) -> f64 {
     let mut sorted = power.to_vec();
-    sorted.sort_by(|a, b| a.partial_cmp(b).expect("accepted hops have powers"));
-    (sorted[(n - 1) / 2] + sorted[n / 2]) / 2.0
+    sorted.sort_by(f64::total_cmp);
+    (sorted[(n - 1) / 2] + sorted[n / 2]) * 0.5
 }
 
 /// The report of the window of the hops `hops`. "Coherence: cross power/(p·q) clamped to 0..1, or
@@ -120,15 +132,13 @@ pub fn evidence(n: usize, hops: &[Hop]) -> Evidence {
     let (p, q, coherence) = match strongest(n, &sums.power) {
         None => (0.0, 0.0, 0.0),
         Some(k) => {
-            let (p, q) = (sums.power[k], sums.power[(n - k) % n]);
-            let (re, im) = (sums.cross_re[k], sums.cross_im[k]);
-            let cross = re * re + im * im;
+            let p = sums.power[k];
+            let q = sums.power[mirror(n, k)];
+            let cross = power((sums.cross_re[k], sums.cross_im[k]));
             let coherence = if p * q == 0.0 {
                 0.0
-            } else if cross / (p * q) > 1.0 {
-                1.0
             } else {
-                cross / (p * q)
+                (cross / (p * q)).clamp(0.0, 1.0)
             };
             (p, q, coherence)
         }
@@ -136,11 +146,7 @@ pub fn evidence(n: usize, hops: &[Hop]) -> Evidence {
     Evidence {
         first: hops[0].start,
         end: end(n, &hops[hops.len() - 1]),
-        suspected: p > 0.0
-            && q > 0.0
-            && p >= 1000.0 * floor
-            && q >= 3.9810717055349725 * floor
-            && q <= p,
+        suspected: p > 0.0 && q > 0.0 && p >= 1000.0 * floor && q >= TEN_TO_0_6 * floor && q <= p,
         coherence,
         floor,
         strongest: p,
@@ -150,9 +156,10 @@ pub fn evidence(n: usize, hops: &[Hop]) -> Evidence {
 
 /// The answers of the accepted hops, in order; `None` is the answer "that no report is due".
 pub fn answers(fs: f64, n: usize, hops: &[Hop]) -> Vec<Option<Evidence>> {
-    let opened = opened_by(fs, n, hops);
-    (0..hops.len())
-        .map(|i| reports(fs, n, hops, opened[i], i).then(|| evidence(n, &hops[opened[i]..=i])))
+    opened_by(fs, n, hops)
+        .into_iter()
+        .enumerate()
+        .map(|(i, opened)| reports(fs, n, hops, opened, i).then(|| evidence(n, &hops[opened..=i])))
         .collect()
 }
 
@@ -167,15 +174,15 @@ pub fn open_window(fs: f64, n: usize, hops: &[Hop]) -> &[Hop] {
 /// "Its lent f64 words are n powers, n real and n imaginary product sums, and n for sorting that
 /// an accepted hop leaves 0; a report leaves all 0."
 pub fn words(fs: f64, n: usize, hops: &[Hop]) -> Vec<f64> {
-    let sums = sums(n, open_window(fs, n, hops));
-    [sums.power, sums.cross_re, sums.cross_im, vec![0.0; n]].concat()
+    let open = sums(n, open_window(fs, n, hops));
+    [open.power, open.cross_re, open.cross_im, vec![0.0; n]].concat()
 }
 
 /// The suspected windows, in order: "A suspected window is marked Uncertain only while
 /// observing."
 pub fn suspected(fs: f64, n: usize, hops: &[Hop]) -> Vec<Span> {
     answers(fs, n, hops)
-        .iter()
+        .into_iter()
         .flatten()
         .filter(|e| e.suspected)
         .map(|e| (e.first, e.end - e.first))

@@ -14,11 +14,6 @@ pub struct Refusal {
     pub place: Option<usize>,
 }
 
-fn number(number: u8) -> Refusal {
-    let place = None;
-    Refusal { number, place }
-}
-
 /// An operation's answer, as far as the refusals decide it.
 #[derive(Debug, Clone, Copy, PartialEq, Eq)]
 pub enum Answer {
@@ -27,24 +22,32 @@ pub enum Answer {
     Accepted,
 }
 
-/// The first refusal of a list of (cause met, refusal) in the document's order.
-fn first_met(causes: &[(bool, Refusal)]) -> Option<Refusal> {
-    causes.iter().find(|(met, _)| *met).map(|&(_, r)| r)
+/// A refusal that returns its number alone.
+fn plain(number: u8) -> Refusal {
+    Refusal {
+        number,
+        place: None,
+    }
 }
 
-/// Number 7 at the first place at or after `from` that does not pass.
-fn first_place(slice: &[Sample], from: usize, passes: impl Fn(f32) -> bool) -> Option<Refusal> {
-    (from..slice.len())
-        .find(|&i| !(passes(slice[i].re) && passes(slice[i].im)))
-        .map(|i| Refusal {
-            number: 7,
-            place: Some(i),
-        })
+/// Number 7, with the place in the slice.
+fn at_place(place: usize) -> Refusal {
+    Refusal {
+        number: 7,
+        place: Some(place),
+    }
+}
+
+/// Number 7 of a hop, a DC undo or an IQ undo.
+fn first_outside(ys: &[Sample]) -> Option<Refusal> {
+    ys.iter()
+        .position(|y| !within(y.re) || !within(y.im))
+        .map(at_place)
 }
 
 /// A hop's, DC undo's or IQ undo's part "within 1e18".
 pub fn within(part: f32) -> bool {
-    f64::from(part).abs() <= 1e18
+    part.abs() <= 1e18
 }
 
 /// Not "fs not in 1..1e7".
@@ -58,31 +61,32 @@ pub fn making(s: &Setting, repairs: usize, spans: usize, monitor: usize) -> Answ
     if s.is_off() {
         return Answer::Nothing;
     }
-    let capacities = (1..=256).contains(&s.spans) && (1..=4096).contains(&s.repairs);
-    let causes = [
-        (!rate_fits(s.fs), number(1)),
-        (s.n > 2048, number(2)),
-        (!capacities, number(3)),
-        (
-            u128::from(repairs as u64) != 6 * u128::from(s.repairs as u64)
-                || u128::from(spans as u64) != 24 * u128::from(s.spans as u64)
-                || u128::from(monitor as u64) != 4 * u128::from(s.n as u64),
-            number(4),
-        ),
-    ];
-    first_met(&causes).map_or(Answer::Accepted, Answer::Refused)
+    let number = if !rate_fits(s.fs) {
+        1
+    } else if s.n > 2048 {
+        2
+    } else if !(1..=256).contains(&s.spans) || !(1..=4096).contains(&s.repairs) {
+        3
+    } else if repairs != 6 * s.repairs || spans != 24 * s.spans || monitor != 4 * s.n {
+        4
+    } else {
+        return Answer::Accepted;
+    };
+    Answer::Refused(plain(number))
 }
 
 /// A call's "6, 8, 7", for a slice given after `seen` samples of which `held` are held.
 pub fn call(seen: u64, held: usize, slice: &[Sample]) -> Option<Refusal> {
     if slice.len() < held {
-        return Some(number(6));
+        return Some(plain(6));
     }
-    let new = (slice.len() - held) as u64;
-    if u128::from(seen) + u128::from(new) > u128::from(TOTAL) {
-        return Some(number(8));
+    let new = &slice[held..];
+    if seen + new.len() as u64 > TOTAL {
+        return Some(plain(8));
     }
-    first_place(slice, held, guard::part_usable)
+    new.iter()
+        .position(|&x| !guard::usable(x))
+        .map(|i| at_place(held + i))
 }
 
 /// A hop: "IQ off, wrong length or n < 8 answers nothing; then 9, 7." `last_end` is the end of the
@@ -91,32 +95,43 @@ pub fn hop(s: &Setting, last_end: u64, start: u64, channels: &[Sample]) -> Answe
     if s.iq == Mode::Off || channels.len() != s.n || s.n < 8 {
         return Answer::Nothing;
     }
-    let early_or_late = start > TOTAL || start < last_end;
-    if early_or_late {
-        return Answer::Refused(number(9));
+    if start > TOTAL || start < last_end {
+        return Answer::Refused(plain(9));
     }
-    first_place(channels, 0, within).map_or(Answer::Accepted, Answer::Refused)
+    match first_outside(channels) {
+        Some(refusal) => Answer::Refused(refusal),
+        None => Answer::Accepted,
+    }
 }
 
 /// "IQ undo: 10, 7."
 pub fn iq_undo(c: Coefficient, ys: &[Sample]) -> Option<Refusal> {
     if !iq::accepted(c) {
-        return Some(number(10));
+        return Some(plain(10));
     }
-    first_place(ys, 0, within)
+    first_outside(ys)
 }
 
 /// "DC undo: 1, 4, 7." `out` is the length of the output slice.
 pub fn dc_undo(fs: f64, ys: &[Sample], out: usize) -> Option<Refusal> {
-    let causes = [(!rate_fits(fs), number(1)), (out != ys.len(), number(4))];
-    first_met(&causes).or_else(|| first_place(ys, 0, within))
+    if !rate_fits(fs) {
+        return Some(plain(1));
+    }
+    if out != ys.len() {
+        return Some(plain(4));
+    }
+    first_outside(ys)
 }
 
 /// "calibration gain, phase, centre | 11, 12, 13", in that order.
 pub fn validation(c: Calibration) -> Option<Refusal> {
-    first_met(&[
-        (!iq::gain_fits(c.gain), number(11)),
-        (!iq::phase_fits(c.phase), number(12)),
-        (!iq::centre_fits(c.centre), number(13)),
-    ])
+    if !iq::gain_fits(c.gain) {
+        Some(plain(11))
+    } else if !iq::phase_fits(c.phase) {
+        Some(plain(12))
+    } else if !iq::centre_fits(c.centre) {
+        Some(plain(13))
+    } else {
+        None
+    }
 }
