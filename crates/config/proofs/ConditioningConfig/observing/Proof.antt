@@ -1,11 +1,11 @@
--- `condition::ConditioningConfig::observing` is `observed`. Assumes nothing.
+-- `config::ConditioningConfig::observing` is `observed`. Assumes nothing.
 use mathlib.Core.Path.{ap, _∙_}
 use Rattle.rules.specs.Iq.{Mode}
 use Rattle.iq.specs.View.{modeOf}
-use Rattle.condition.specs.Config.{configOf, forced, withModes}
+use Rattle.config.specs.Config.{configOf, forced, withModes}
 use borrow.Author.Needs.{needs}
-use Rattle.condition.proofs.ConditioningConfig.observing.Statement.{statement}
-use Rattle.condition.proofs.ConditioningConfig.observing.Tie as tie
+use Rattle.config.proofs.ConditioningConfig.observing.Statement.{statement}
+use Rattle.config.proofs.ConditioningConfig.observing.Tie as tie
 
 forced-requires : tie.Need-forced-requires
 forced-requires c κs = search needs

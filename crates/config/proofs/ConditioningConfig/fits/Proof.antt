@@ -1,15 +1,16 @@
--- `condition::ConditioningConfig::fits` answers by the number of `refusal`. Assumes nothing.
+-- `config::ConditioningConfig::fits` answers by the number of `refusal`. Assumes nothing.
 use mathlib.Core.Path.{_≡_, refl, sym, ap, _∙_}
 use mathlib.Core.Bool.{Bool, true, false}
 use Prim.Native.Nat.{ℕ}
 use native.Mathlib.Omega.{arith}
 use lib.Dec.{eqb}
 use borrow.Author.Tests.{eq-eqb, ne-eqb, not-true, not-false}
-use Rattle.condition.specs.Config.{configOf, settingRefusal}
-use Rattle.condition.specs.ConfigLaws.{Limits, setting-limits, unfit-setting, length-by}
+use Rattle.config.specs.declared.ConditioningConfig.{ConditioningConfig}
+use Rattle.config.specs.Config.{configOf, settingRefusal}
+use Rattle.config.specs.ConfigLaws.{Limits, setting-limits, unfit-setting, length-by}
 use borrow.Author.Needs.{needs}
-use Rattle.condition.proofs.ConditioningConfig.fits.Statement.{statement}
-use Rattle.condition.proofs.ConditioningConfig.fits.Tie as tie
+use Rattle.config.proofs.ConditioningConfig.fits.Statement.{statement}
+use Rattle.config.proofs.ConditioningConfig.fits.Tie as tie
 
 settings-fit-requires : tie.Need-settings-fit-requires
 settings-fit-requires c κs = search needs
@@ -17,15 +18,18 @@ settings-fit-requires c κs = search needs
 is-fit-requires : tie.Need-is-fit-requires
 is-fit-requires c κs = search needs
 
+abbrev settingNumberOf : ConditioningConfig → ℕ
+settingNumberOf g = settingRefusal (g .fs) (g .n) (g .spans) (g .repairs)
+
 -- whether the settings are fit, by the answer t
-fitting : (c : tie.After-is-fit) (t : Bool) → c .is-fit .result ≡ t → eqb (settingRefusal (configOf (c .before .before .args .self))) 0 ≡ t
+fitting : (c : tie.After-is-fit) (t : Bool) → c .is-fit .result ≡ t → eqb (settingNumberOf (c .before .before .args .self)) 0 ≡ t
 fitting c t e = ap (λ (k : ℕ). eqb k 0) (sym (c .before .settings-fit .ensures)) ∙ sym (c .is-fit .ensures) ∙ e
 
-fit : (c : tie.Else1) → eqb (settingRefusal (configOf (c .before .before .before .args .self))) 0 ≡ true
+fit : (c : tie.Else1) → eqb (settingNumberOf (c .before .before .before .args .self)) 0 ≡ true
 fit c = fitting (c .before) true (not-false _ (c .if1 .left))
 
-limits : (c : tie.Else1) → Limits (configOf (c .before .before .before .args .self))
-limits c = setting-limits _ (fit c)
+limits : (c : tie.Else1) → let a = c .before .before .before .args .self in Limits (a .fs) (a .n) (a .spans) (a .repairs)
+limits c = setting-limits _ _ _ _ (fit c)
 
 returns : tie.Need-returns
 returns c =
@@ -33,7 +37,7 @@ returns c =
     c .before .before .settings-fit .ensures ∙ unfit-setting (configOf (a .self)) (a .spans) (a .repairs) (a .words) (fitting (c .before) false (not-true _ (c .if1 .taken)))
 
 mul-if2 : tie.Need-mul-if2
-mul-if2 c = let l = limits (c .before) .repairs in omega arith
+mul-if2 c = let l = limits (c .before) .few-repairs in omega arith
 
 returns-2 : tie.Need-returns-2
 returns-2 c =
@@ -41,7 +45,7 @@ returns-2 c =
     length-by (configOf (a .self)) (a .spans) (a .repairs) (a .words) false _ _ (fit (c .before .before)) (ne-eqb _ _ (c .if2 .taken)) refl refl
 
 mul-if3 : tie.Need-mul-if3
-mul-if3 c = let l = limits (c .before .before .before) .spans in omega arith
+mul-if3 c = let l = limits (c .before .before .before) .few-spans in omega arith
 
 returns-3 : tie.Need-returns-3
 returns-3 c =
@@ -49,7 +53,7 @@ returns-3 c =
     length-by (configOf (a .self)) (a .spans) (a .repairs) (a .words) true false _ (fit (c .before .before .before .before)) (eq-eqb _ _ (c .before .before .if2 .left)) (ne-eqb _ _ (c .if3 .taken)) refl
 
 mul-if4 : tie.Need-mul-if4
-mul-if4 c = let l = limits (c .before .before .before .before .before) .n in omega arith
+mul-if4 c = let l = limits (c .before .before .before .before .before) .size in omega arith
 
 returns-4 : tie.Need-returns-4
 returns-4 c =

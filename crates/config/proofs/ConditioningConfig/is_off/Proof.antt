@@ -1,10 +1,10 @@
--- `condition::ConditioningConfig::is_off` is `allOff`. Assumes nothing.
+-- `config::ConditioningConfig::is_off` is `allOff`. Assumes nothing.
 use mathlib.Core.Path.{_≡_, refl, sym, ap, _∙_}
 use mathlib.Core.Bool.{Bool, true, false, _&&_}
 use borrow.Author.Tests.{not-true, not-false}
 use borrow.Author.Needs.{needs}
-use Rattle.condition.proofs.ConditioningConfig.is_off.Statement.{statement}
-use Rattle.condition.proofs.ConditioningConfig.is_off.Tie as tie
+use Rattle.config.proofs.ConditioningConfig.is_off.Statement.{statement}
+use Rattle.config.proofs.ConditioningConfig.is_off.Tie as tie
 
 -- three tests by their answers
 and-by : (x y z s t u : Bool) → x ≡ s → y ≡ t → z ≡ u → (s && t && u) ≡ (x && y && z)

@@ -3,7 +3,7 @@
 ghost use mathlib.Core.Path.{_≡_};
 ghost use lib.Dec.{eqb};
 ghost use Rattle.iq.specs.View.{modeOf};
-ghost use Rattle.condition.specs.Config.{configOf, isModeOff, allOff, forced, observed, numberOf, settingRefusal, refusal};
+ghost use Rattle.config.specs.Config.{configOf, isModeOff, allOff, forced, observed, numberOf, settingRefusal, refusal};
 use iq::Calibration;
 use iq::StageMode;
 
@@ -51,7 +51,7 @@ fn forced(mode: StageMode) -> StageMode
     }
 }
 
-fn is_fit(f: Fitness) -> bool
+pub fn is_fit(f: Fitness) -> bool
     ensures { λ r. ⌜ r ≡ eqb (numberOf f) 0 ⌝ }
 {
     match f {
@@ -61,6 +61,31 @@ fn is_fit(f: Fitness) -> bool
         Fitness::BadCapacity => false,
         Fitness::BadLength => false,
     }
+}
+
+// The settings alone: the rate, the channels, and the capacities of a ring and of the repairs.
+pub fn settings_fit(fs: f64, n: usize, spans: usize, repairs: usize) -> Fitness
+    ensures { λ r. ⌜ numberOf r ≡ settingRefusal fs n spans repairs ⌝ }
+{
+    if !dc::rate_fits(fs) {
+        return Fitness::BadRate;
+    }
+    if 2048 < n {
+        return Fitness::BadSize;
+    }
+    if spans == 0 {
+        return Fitness::BadCapacity;
+    }
+    if 256 < spans {
+        return Fitness::BadCapacity;
+    }
+    if repairs == 0 {
+        return Fitness::BadCapacity;
+    }
+    if 4096 < repairs {
+        return Fitness::BadCapacity;
+    }
+    Fitness::Fit
 }
 
 impl ConditioningConfig {
@@ -101,36 +126,11 @@ impl ConditioningConfig {
         }
     }
 
-    // The settings alone: rate, channels, capacities.
-    pub fn settings_fit(self) -> Fitness
-        ensures { λ r. ⌜ numberOf r ≡ settingRefusal (configOf self) ⌝ }
-    {
-        if !dc::rate_fits(self.fs) {
-            return Fitness::BadRate;
-        }
-        if 2048 < self.n {
-            return Fitness::BadSize;
-        }
-        if self.spans == 0 {
-            return Fitness::BadCapacity;
-        }
-        if 256 < self.spans {
-            return Fitness::BadCapacity;
-        }
-        if self.repairs == 0 {
-            return Fitness::BadCapacity;
-        }
-        if 4096 < self.repairs {
-            return Fitness::BadCapacity;
-        }
-        Fitness::Fit
-    }
-
     // The settings, and then the lengths of the span store, the repair store and the monitor's words.
     pub fn fits(self, spans: usize, repairs: usize, words: usize) -> Fitness
         ensures { λ r. ⌜ numberOf r ≡ refusal (configOf self) spans repairs words ⌝ }
     {
-        let settings = self.settings_fit();
+        let settings = settings_fit(self.fs, self.n, self.spans, self.repairs);
         if !is_fit(settings) {
             return settings;
         }

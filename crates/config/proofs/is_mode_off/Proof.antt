@@ -1,10 +1,10 @@
--- `condition::is_mode_off` is `isModeOff`. Assumes nothing.
+-- `config::is_mode_off` is `isModeOff`. Assumes nothing.
 use mathlib.Core.Path.{sym, ap}
 use Rattle.iq.specs.View.{modeOf}
-use Rattle.condition.specs.Config.{isModeOff}
+use Rattle.config.specs.Config.{isModeOff}
 use borrow.Author.Needs.{needs}
-use Rattle.condition.proofs.is_mode_off.Statement.{statement}
-use Rattle.condition.proofs.is_mode_off.Tie as tie
+use Rattle.config.proofs.is_mode_off.Statement.{statement}
+use Rattle.config.proofs.is_mode_off.Tie as tie
 
 enum-told : tie.Need-enum-told
 enum-told c = search needs

@@ -1,10 +1,10 @@
--- `condition::forced` is `forced`. Assumes nothing.
+-- `config::forced` is `forced`. Assumes nothing.
 use mathlib.Core.Path.{sym, ap}
 use Rattle.iq.specs.View.{modeOf}
-use Rattle.condition.specs.Config.{forced}
+use Rattle.config.specs.Config.{forced}
 use borrow.Author.Needs.{needs}
-use Rattle.condition.proofs.forced.Statement.{statement}
-use Rattle.condition.proofs.forced.Tie as tie
+use Rattle.config.proofs.forced.Statement.{statement}
+use Rattle.config.proofs.forced.Tie as tie
 
 enum-told : tie.Need-enum-told
 enum-told c = search needs

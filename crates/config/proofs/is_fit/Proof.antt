@@ -1,10 +1,10 @@
--- `condition::is_fit`: the number is 0. Assumes nothing.
+-- `config::is_fit`: the number is 0. Assumes nothing.
 use mathlib.Core.Path.{sym, ap}
 use lib.Dec.{eqb}
-use Rattle.condition.specs.Config.{numberOf}
+use Rattle.config.specs.Config.{numberOf}
 use borrow.Author.Needs.{needs}
-use Rattle.condition.proofs.is_fit.Statement.{statement}
-use Rattle.condition.proofs.is_fit.Tie as tie
+use Rattle.config.proofs.is_fit.Statement.{statement}
+use Rattle.config.proofs.is_fit.Tie as tie
 
 enum-told : tie.Need-enum-told
 enum-told c = search needs

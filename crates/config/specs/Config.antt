@@ -2,13 +2,14 @@
 use mathlib.Core.Bool.{Bool, true, false, _&&_}
 use mathlib.Core.List.{[], _∷_}
 use Prim.Native.Nat.{ℕ}
+use lib.Ieee.{Float}
 use Rattle.rules.specs.Iq.{Mode, off, observe, apply}
 use Rattle.rules.specs.Chain.{Config}
 use Rattle.rules.specs.Refusals.{firstOf, badRate, badSize, badCapacity, makingRefusal}
 use Rattle.iq.specs.View.{modeOf, calibratedOf}
-use Rattle.condition.specs.declared.ConditioningConfig.{ConditioningConfig}
-use Rattle.condition.specs.declared.Fitness.{Fitness}
-use Rattle.condition.specs.declared.Fitness.the-variants.{Fit, BadRate, BadSize, BadCapacity, BadLength}
+use Rattle.config.specs.declared.ConditioningConfig.{ConditioningConfig}
+use Rattle.config.specs.declared.Fitness.{Fitness}
+use Rattle.config.specs.declared.Fitness.the-variants.{Fit, BadRate, BadSize, BadCapacity, BadLength}
 
 abbrev pub configOf : ConditioningConfig → Config
 configOf c =
@@ -66,8 +67,8 @@ numberOf BadCapacity = 3
 numberOf BadLength = 4
 
 -- 'a setting that making refuses'
-unfoldable pub settingRefusal : Config → ℕ
-settingRefusal c = firstOf (badRate (c .fs) ∷ badSize (c .n) ∷ badCapacity (c .spans) (c .repairs) ∷ [])
+unfoldable pub settingRefusal : Float → ℕ → ℕ → ℕ → ℕ
+settingRefusal fs n spans repairs = firstOf (badRate fs ∷ badSize n ∷ badCapacity spans repairs ∷ [])
 
 -- making: '1, 2, 3, 4', by the lengths of the span store, the repair store and the monitor's words
 abbrev pub refusal : Config → ℕ → ℕ → ℕ → ℕ
