@@ -147,7 +147,7 @@ fn sink(part: &mut [f64], k: usize)
 }
 
 // Sorts, ascending.
-fn sort_words(part: &mut [f64])
+pub fn sort_words(part: &mut [f64])
     ensures { λ _. ⌜ now (part .exit) ≡ sort lt (now (part .entry)) ⌝ }
 {
     let mut k = part.len();
@@ -328,7 +328,8 @@ fn report(words: &mut [f64], n: usize, first: u64, end: u64) -> Evidence
     }
 }
 
-fn clear(words: &mut [f64])
+// Every word becomes 0.
+pub fn clear(words: &mut [f64])
     ensures { λ _. ⌜ now (words .exit) ≡ replicate (length (now (words .entry))) zeroF ⌝ }
 {
     let mut k: usize = 0;

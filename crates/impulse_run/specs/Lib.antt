@@ -1,2 +1,7 @@
 -- definitions
 pub mod Noted
+-- laws
+pub mod NotesLaws
+pub mod MoveLaws
+pub mod StageLaws
+pub mod NotedRings

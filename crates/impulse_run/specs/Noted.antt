@@ -1,17 +1,21 @@
 -- The log with its stores, as the impulse stage's events move it. Definitions only.
-use mathlib.Core.Path.{_≡_}
-use mathlib.Core.List.{List, _++_, foldl}
-use Prim.Native.Nat.{ℕ, _+_, _^_, _≤_}
-use lib.ListN.{length, drop}
+use mathlib.Core.Bool.{Bool, cond}
+use mathlib.Core.List.{List, [], _∷_, _++_, foldl}
+use Prim.Native.Nat.{ℕ, _+_, _≤_, _<_}
+use lib.Dec.{eqb}
+use lib.ListN.{length, take, drop}
 use Rattle.rules.specs.Lists.{indicator}
 use Rattle.rules.specs.Impulse.{Setting, Event, uncertain, kept, mended}
 use Rattle.rules.specs.Log as rules
-use Rattle.rules.specs.Log.{ringNumber, impulse, isRepaired, isFlagged, isUncertain, spanOf, append, repairWords}
+use Rattle.rules.specs.Log.{ringNumber, impulse, isRepaired, isFlagged, isUncertain, Span, spanOf, append, repairWords, marksOf}
 use Rattle.rules.specs.RingLaws.{Sound}
-use Rattle.log.specs.View.{Logged, ringIn, markedAt}
+use Rattle.log.specs.View.{Logged, ringIn, marksAt, markedAt}
+use Rattle.log.specs.LogLaws.{Twelve}
 use Rattle.log.specs.CheckLaws.{Bounded}
 use Rattle.impulse.specs.declared.Open.{Open}
 use Rattle.impulse.specs.declared.Open.the-variants.{Running, Closed}
+use Rattle.impulse.specs.declared.Ended.{Ended}
+use Rattle.impulse.specs.declared.Ended.the-variants.{Going, Kept, Mended}
 use Rattle.impulse.specs.declared.ImpulseSuppressor.{ImpulseSuppressor}
 use Rattle.impulse.specs.Running.{after, outs, step, emit, news}
 use Rattle.impulse_run.specs.declared.Notes.{Notes}
@@ -42,6 +46,24 @@ noteEvent cap room x (mended a n originals) =
 unfoldable pub noteAll : ℕ → ℕ → Noted → List Event → Noted
 noteAll cap room x es = foldl (noteEvent cap room) x es
 
+-- ---- what a push says, as events
+
+-- sample j was judged, and it may be uncertain
+abbrev pub doubts : ℕ → Bool → List Event
+doubts j doubt = cond doubt (uncertain j ∷ []) []
+
+-- what became of a run; a repair with all its four originals
+abbrev pub filledEvents : Ended → List Event
+filledEvents Going = []
+filledEvents (Kept a n long) = kept a n long ∷ []
+filledEvents (Mended r) = mended (r .start) (r .len) (r .first ∷ r .second ∷ r .third ∷ r .fourth ∷ []) ∷ []
+
+-- where the run that ended ends
+abbrev pub endedEnd : Ended → ℕ
+endedEnd Going = 0
+endedEnd (Kept a n long) = a + n
+endedEnd (Mended r) = r .start + r .len
+
 -- ---- the stage over new samples, from any state
 
 abbrev pub stateAfter : Setting → ImpulseSuppressor → List ℕ → ImpulseSuppressor
@@ -53,9 +75,26 @@ handed s m new = outs (step s) (emit s) m new
 abbrev pub told : Setting → ImpulseSuppressor → List ℕ → List Event
 told s m new = outs (step s) (news s) m new
 
+-- the list l with e from place i on
+abbrev pub placed : List ℕ → ℕ → List ℕ → List ℕ
+placed l i e = take i l ++ e ++ drop (i + length e) l
+
 -- a list with others in front, in place
 abbrev pub over : List ℕ → List ℕ → List ℕ
 over ys xs = ys ++ drop (length ys) xs
+
+-- ---- the rings that events may be told
+
+-- what events mark in ring number k: the impulse stage's, by their kinds, and else nothing
+abbrev pub marksFor : ℕ → List Event → List Span
+marksFor k es =
+    cond (eqb k (ringNumber impulse isRepaired)) (marksOf isRepaired es)
+    (cond (eqb k (ringNumber impulse isFlagged)) (marksOf isFlagged es) (cond (eqb k (ringNumber impulse isUncertain)) (marksOf isUncertain es) []))
+
+-- twelve rings, each of them sound
+pub record Rings (cap : ℕ) (x : Logged) : Type 0 where
+  pub twelve : Twelve cap x
+  pub sound : (k : ℕ) → k < 12 → Sound 2 cap (marksAt cap x k .ring)
 
 -- ---- what the notes must have room for
 
@@ -69,3 +108,13 @@ pub record Roomy (cap room b : ℕ) (x : Noted) : Type 0 where
   pub repairs : Sound 6 room (x .repairs)
   pub dropped : x .repairs .dropped ≤ b
   pub longruns : x .longruns ≤ b
+
+-- by how much an event raises a counter at most
+abbrev pub eventSize : Event → ℕ
+eventSize (uncertain j) = 2
+eventSize (kept a n long) = n + 1
+eventSize (mended a n originals) = n + 1
+
+abbrev pub eventsSize : List Event → ℕ
+eventsSize [] = 0
+eventsSize (e ∷ es) = eventSize e + eventsSize es

@@ -1,6 +1,6 @@
 -- Document 01's number 5, as far as it speaks of rings; and the count of dropped spans. Definitions only.
 use mathlib.Core.Bool.{Bool, true, cond, _&&_}
-use Prim.Native.Nat.{ℕ, zero, suc, _+_, _^_}
+use Prim.Native.Nat.{ℕ, zero, suc, _+_, _-_, _^_, min}
 use lib.Dec.{ltb, leb}
 use lib.ListN.{getD}
 use Rattle.rules.specs.Log as rules
@@ -42,3 +42,7 @@ endsFit cap x = allTo (λ k. endFits cap (marksAt cap x k .ring)) 12
 
 unfoldable pub spansDropped : Log → ℕ
 spansDropped l = sumTo (λ k. ringOf l k .dropped) 12
+
+-- as a u64 has it
+abbrev pub droppedInAll : Log → ℕ
+droppedInAll l = min (spansDropped l) (2 ^ 64 - 1)

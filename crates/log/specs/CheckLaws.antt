@@ -2,7 +2,6 @@
 use mathlib.Core.Path.{_≡_, refl, ap, sym, _∙_}
 use mathlib.Core.Bool.{Bool, true, false, cond, _&&_}
 use Prim.Native.Nat.{ℕ, zero, suc, _+_, _*_, _^_, _≤_, _<_}
-use native.Mathlib.Nat.{suc-mul}
 use native.Mathlib.Decide.{ℕ-discrete}
 use native.Mathlib.Omega.{arith}
 use borrow.Author.Tests.{lt-ltb, le-leb, ltb-true, leb-true}
@@ -17,7 +16,7 @@ use Rattle.log.specs.declared.Ring.{Ring}
 use Rattle.log.specs.declared.Log.{Log}
 use Rattle.log.specs.View.{Logged, freshLog, marksAt, markedAt}
 use Rattle.log.specs.Ready.{Fits}
-use Rattle.log.specs.Check.{allTo, sumTo, ringFits, ringOf, countOf, logFits, endFits, endsFit}
+use Rattle.log.specs.Check.{allTo, ringFits, ringOf, countOf, logFits, endFits, endsFit}
 use Rattle.log.specs.LogLaws.{part-inside, Twelve, marked-twelve, marked-same, marked-other, fresh-marks}
 
 both : (a b : Bool) → (a && b) ≡ true → (a ≡ true) × (b ≡ true)
@@ -51,11 +50,6 @@ all-not f n k h e = go (allTo f n) refl
     go : (b : Bool) → allTo f n ≡ b → b ≡ false
     go false a = refl
     go true a = sym (all-at f n k a h) ∙ e
-
-pub sum-under : (f : ℕ → ℕ) (b n k : ℕ) → k ≤ n → ((j : ℕ) → j < n → f j ≤ b) → sumTo f k ≤ k * b
-unfolding sumTo
-sum-under f b n zero h u = omega arith
-sum-under f b n (suc k) h u = omega (arith, sum-under f b n k (omega arith) u, u k (omega arith), suc-mul k b)
 
 -- ---- a ring whose numbers are in range
 

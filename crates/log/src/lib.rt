@@ -4,14 +4,14 @@
 ghost use mathlib.Core.Path.{_≡_};
 ghost use mathlib.Core.Bool.{true};
 ghost use mathlib.Core.List.{List, [], _∷_};
-ghost use Prim.Native.Nat.{ℕ, _+_, _-_, _*_, _%_, _<_, _≤_, _^_};
+ghost use Prim.Native.Nat.{ℕ, _+_, _-_, _*_, _%_, _<_, _^_, min};
 ghost use lib.ListN.{length, getD};
 ghost use Rattle.rules.specs.RingLaws.{Sound};
 ghost use Rattle.rules.specs.RingReading.{spansOf};
 ghost use Rattle.rules.specs.Log.{ringNumber, stageNumber, markNumber, spanOf, joins, lengthened, roomed, append, mark};
 ghost use Rattle.log.specs.View.{stageOf, markOf, ringIn, marksIn, Logged, freshRing, freshLog, markedAt, wordsOfRepair};
 ghost use Rattle.log.specs.Ready.{Open, Markable, Fits};
-ghost use Rattle.log.specs.Check.{ringOf, endFits, ringFits, logFits, endsFit, spansDropped};
+ghost use Rattle.log.specs.Check.{endFits, ringFits, logFits, endsFit, droppedInAll};
 
 // 2^49: the largest sum of a newest span's start and length.
 pub const SUM_LIMIT: u64 = 0x2_0000_0000_0000;
@@ -316,7 +316,7 @@ fn end_fits(ring: Ring, words: &[u64], capacity: usize) -> bool
 }
 
 // Whether a ring's numbers are in range.
-fn ring_fits(ring: Ring, count: u64, capacity: usize) -> bool
+pub fn ring_fits(ring: Ring, count: u64, capacity: usize) -> bool
     ensures { λ r. ⌜ r ≡ ringFits capacity ring count ⌝ }
 {
     if capacity <= ring.head {
@@ -329,6 +329,16 @@ fn ring_fits(ring: Ring, count: u64, capacity: usize) -> bool
         return false;
     }
     count <= COUNTER_LIMIT
+}
+
+// The sum, or the greatest u64 if it is more.
+fn capped_sum(a: u64, b: u64) -> u64
+    ensures { λ r. ⌜ r ≡ min (a + b) (2 ^ 64 - 1) ⌝ }
+{
+    if 0xffff_ffff_ffff_ffff - a < b {
+        return 0xffff_ffff_ffff_ffff;
+    }
+    a + b
 }
 
 impl Log {
@@ -362,15 +372,14 @@ impl Log {
         true
     }
 
-    // How many spans were dropped in all.
+    // How many spans were dropped in all, or the greatest u64 if they are more.
     pub fn dropped(self) -> u64
-        requires { ⌜ ((k : ℕ) → k < 12 → ringOf self k .dropped ≤ 2 ^ 52) ⌝ }
-        ensures { λ r. ⌜ r ≡ spansDropped self ⌝ }
+        ensures { λ r. ⌜ r ≡ droppedInAll self ⌝ }
     {
         let mut sum: u64 = 0;
         for k in 0..12 {
             let ring = self.rings[k];
-            sum = sum + ring.dropped;
+            sum = capped_sum(sum, ring.dropped);
         }
         sum
     }

@@ -1,10 +1,10 @@
 -- Document 01's number 5, as far as it speaks of a state: its causes in groups, each as a test that a fit state passes. Definitions only.
 use mathlib.Core.Bool.{Bool, true, cond, _&&_}
-use mathlib.Core.List.{List, [], _∷_, _++_}
+use mathlib.Core.List.{List}
 use Prim.Native.Nat.{ℕ, _+_, _-_, _^_, min}
 use lib.Dec.{ltb, leb, eqb}
 use lib.ListN.{getD, take}
-use lib.Ieee.{Float, binary32, binary64, le, lt, toBits, ofBits}
+use lib.Ieee.{Float, binary64, le, lt, toBits, ofBits}
 use Rattle.ieee.specs.Plain.{signClear}
 use Rattle.rules.specs.Constants.{zeroF}
 use Rattle.rules.specs.Sort.{sort}
@@ -57,9 +57,12 @@ countsFit applies seen released held = counter seen && counter released && eqb h
 -- ---- the impulse stage
 
 -- not: 'open run empty or not ending at the next judged', j
+abbrev pub endsAt : Run → ℕ → Bool
+endsAt r j = ltb 0 (r .len) && eqb (r .start + r .len) j
+
 abbrev pub runFits : Open → ℕ → Bool
 runFits Closed j = true
-runFits (Running r) j = ltb 0 (r .len) && eqb (r .start + r .len) j
+runFits (Running r) j = endsAt r j
 
 -- not: 'a .. left part not within 1e18'
 abbrev pub leftFits : Left → Bool
@@ -80,7 +83,7 @@ powerFits p = signClear p && le (magnitude p) powerLimit
 -- not: 'its sorted list not that window sorted': the first n of the window's powers, and then zeros, bit by bit
 unfoldable pub sortedFits : ℕ → List Float → List Float → Bool
 sortedFits n window sorted =
-    allTo (λ k. eqb (toBits binary32 (getD sorted k zeroF)) (toBits binary32 (getD (padded 33 (sort lt (take n window))) k zeroF))) 33
+    allTo (λ k. eqb (toBits binary64 (getD sorted k zeroF)) (toBits binary64 (getD (padded 33 (sort lt (take n window))) k zeroF))) 33
 
 -- not: 'when impulse runs, pending ≠ min(21, received), window ≠ min(33, received)': both hold the newest of so many samples as the gate has received, and those are all that were seen
 unfoldable pub suppressorFits : ImpulseSuppressor → ℕ → Bool
@@ -120,11 +123,16 @@ logsFit c = logFits (c .settings .spans) (c .log) && ringFits (c .settings .repa
 unfoldable pub stagesFit : InputConditioner → Bool
 stagesFit c = blockerFits (c .blocker) && coefficientFits (settledOf (c .settings .iq)) && monitorFits (c .monitor)
 
-unfoldable pub stateFits : InputConditioner → Bool
-stateFits c =
+-- the settings, the counts and the gate
+unfoldable pub frontFits : InputConditioner → Bool
+frontFits c =
     settingsFit (c .settings) (c .suppressor .gate .blocklen)
     && countsFit (applies c) (c .seen) (c .released) (c .held)
     && gateFits (c .suppressor .gate)
-    && cond (c .settings .impulse) (suppressorFits (c .suppressor) (c .seen)) true
-    && logsFit c
-    && stagesFit c
+
+-- the suppressor, 'when impulse runs'
+unfoldable pub impulseFits : InputConditioner → Bool
+impulseFits c = cond (c .settings .impulse) (suppressorFits (c .suppressor) (c .seen)) true
+
+unfoldable pub stateFits : InputConditioner → Bool
+stateFits c = frontFits c && impulseFits c && logsFit c && stagesFit c

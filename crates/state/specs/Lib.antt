@@ -1,2 +1,5 @@
 -- definitions
 pub mod Fits
+-- laws
+pub mod Blocks
+pub mod FitsLaws

@@ -1,9 +1,26 @@
 // The chain's state, and number 5's tests of it, a function for each group of causes.
 
 ghost use mathlib.Core.Path.{_≡_};
+ghost use mathlib.Core.Bool.{_&&_};
+ghost use mathlib.Core.List.{_++_};
+ghost use Prim.Native.Nat.{_-_, _≤_, min};
+ghost use lib.Dec.{eqb};
+ghost use lib.ListN.{length, getD, take, drop};
+ghost use lib.Ieee.{binary64, toBits};
+ghost use Rattle.rules.specs.Constants.{zeroF};
+ghost use Rattle.rules.specs.Refusals.{withinLimit};
+ghost use Rattle.part_limit.specs.Limit.{limited};
+ghost use Rattle.log.specs.Check.{allTo};
+ghost use Rattle.iq.specs.View.{settledOf};
+ghost use Rattle.state.specs.Fits.{counter, settingsFit, applies, heldBy, countsFit, endsAt, runFits, leftFits, gateFits, powerFits, sortedFits, suppressorFits, blockerFits, coefficientFits, begunFits, monitorFits, logsFit, stagesFit, frontFits, impulseFits, stateFits};
 use dc::DcBlocker;
+use image::Begun;
 use image::ImageMonitor;
+use impulse::Gate;
 use impulse::ImpulseSuppressor;
+use impulse::Left;
+use impulse::Open;
+use impulse::Run;
 use iq::Iq;
 use iq::StageMode;
 use log::Log;
@@ -32,4 +49,356 @@ pub struct InputConditioner {
     pub log: Log,
     pub repairs: Ring,
     pub longruns: u64,
+}
+
+// ---- the settings
+
+fn settings_fit(s: Settings, blocklen: u64) -> bool
+    ensures { λ r. ⌜ r ≡ settingsFit s blocklen ⌝ }
+{
+    let fitness = config::settings_fit(s.fs, s.n, s.spans, s.repairs);
+    if !config::is_fit(fitness) {
+        return false;
+    }
+    blocklen == ieee::round_half_away(s.fs)
+}
+
+// ---- the samples seen, released and held
+
+// How many samples are held of so many seen.
+fn held_by(applies: bool, seen: u64) -> usize
+    ensures { λ r. ⌜ r ≡ heldBy applies seen ⌝ }
+{
+    if !applies {
+        return 0;
+    }
+    if seen < 21 {
+        return seen as usize;
+    }
+    21
+}
+
+fn counts_fit(applies: bool, seen: u64, released: u64, held: usize) -> bool
+    ensures { λ r. ⌜ r ≡ countsFit applies seen released held ⌝ }
+{
+    if log::COUNTER_LIMIT < seen {
+        return false;
+    }
+    if log::COUNTER_LIMIT < released {
+        return false;
+    }
+    if held != held_by(applies, seen) {
+        return false;
+    }
+    released + held as u64 == seen
+}
+
+// ---- the impulse stage
+
+// Whether an open run has a sample and ends at j.
+fn ends_at(run: Run, j: u64) -> bool
+    ensures { λ r. ⌜ r ≡ endsAt run j ⌝ }
+{
+    if run.len == 0 {
+        return false;
+    }
+    if j < run.start {
+        return false;
+    }
+    j - run.start == run.len
+}
+
+fn run_fits(run: Open, j: u64) -> bool
+    ensures { λ r. ⌜ r ≡ runFits run j ⌝ }
+{
+    match run {
+        Open::Running(r) => ends_at(r, j),
+        Open::Closed => true,
+    }
+}
+
+fn left_fits(left: Left) -> bool
+    ensures { λ r. ⌜ r ≡ leftFits left ⌝ }
+{
+    match left {
+        Left::Neighbour(x) => part_limit::within(x),
+        Left::Missing => true,
+    }
+}
+
+// The next sample to be judged, of so many received.
+fn next_judged(received: u64) -> u64
+    ensures { λ r. ⌜ r ≡ received - 16 ⌝ }
+{
+    if received < 16 {
+        return 0;
+    }
+    received - 16
+}
+
+fn counters_fit(received: u64, block: u64, flagged: u64) -> bool
+    ensures { λ r. ⌜ r ≡ (counter received && counter block && counter flagged) ⌝ }
+{
+    if log::COUNTER_LIMIT < received {
+        return false;
+    }
+    if log::COUNTER_LIMIT < block {
+        return false;
+    }
+    flagged <= log::COUNTER_LIMIT
+}
+
+fn gate_fits(g: Gate) -> bool
+    ensures { λ r. ⌜ r ≡ gateFits g ⌝ }
+{
+    let run = g.run;
+    let left = g.left;
+    if !counters_fit(g.received, g.block, g.flagged) {
+        return false;
+    }
+    if !run_fits(run, next_judged(g.received)) {
+        return false;
+    }
+    left_fits(left)
+}
+
+fn power_fits(p: f32) -> bool
+    ensures { λ r. ⌜ r ≡ powerFits p ⌝ }
+{
+    if 0x8000_0000 <= ieee::to_bits32(p) {
+        return false;
+    }
+    ieee::widen(p) <= 1.0e36
+}
+
+fn powers_fit(window: &[f32; 33]) -> bool
+    requires { ⌜ length (now window) ≡ 33 ⌝ }
+    ensures { λ r. ⌜ r ≡ allTo (λ k. powerFits (getD (now (window .entry)) k zeroF)) 33 ⌝ }
+{
+    for k in 0..33 {
+        if !power_fits(window[k]) {
+            return false;
+        }
+    }
+    true
+}
+
+fn pending_fits(pending: &[u64; 21]) -> bool
+    ensures { λ r. ⌜ r ≡ allTo (λ k. withinLimit (getD (now (pending .entry)) k 0)) 21 ⌝ }
+{
+    for k in 0..21 {
+        if !part_limit::within(pending[k]) {
+            return false;
+        }
+    }
+    true
+}
+
+// The first n powers of the window, widened, over the first of these words.
+fn copy_powers(window: &[f32; 33], n: usize, wide: &mut [f64; 33])
+    requires { ⌜ n ≤ 33 ⌝ ∗ ⌜ length (now window) ≡ 33 ⌝ ∗ ⌜ length (now wide) ≡ 33 ⌝ }
+    ensures { λ _. ⌜ now (wide .exit) ≡ take n (now (window .entry)) ++ drop n (now (wide .entry)) ⌝ }
+{
+    let mut k: usize = 0;
+    while k < n {
+        wide[k] = ieee::widen(window[k]);
+        k += 1;
+    }
+}
+
+// Whether the powers are those, bit by bit.
+fn same_powers(sorted: &[f32; 33], wide: &[f64; 33]) -> bool
+    requires { ⌜ length (now sorted) ≡ 33 ⌝ ∗ ⌜ length (now wide) ≡ 33 ⌝ }
+    ensures { λ r. ⌜ r ≡ allTo (λ k. eqb (toBits binary64 (getD (now (sorted .entry)) k zeroF)) (toBits binary64 (getD (now (wide .entry)) k zeroF))) 33 ⌝ }
+{
+    for k in 0..33 {
+        let given = ieee::to_bits64(ieee::widen(sorted[k]));
+        if given != ieee::to_bits64(wide[k]) {
+            return false;
+        }
+    }
+    true
+}
+
+fn sorted_fits(n: usize, window: &[f32; 33], sorted: &[f32; 33]) -> bool
+    requires { ⌜ n ≤ 33 ⌝ ∗ ⌜ length (now window) ≡ 33 ⌝ ∗ ⌜ length (now sorted) ≡ 33 ⌝ }
+    ensures { λ r. ⌜ r ≡ sortedFits n (now (window .entry)) (now (sorted .entry)) ⌝ }
+{
+    let mut wide = [0.0f64; 33];
+    copy_powers(window, n, &mut wide);
+    image::sort_words(&mut wide[..n]);
+    same_powers(sorted, &wide)
+}
+
+// How many samples the window holds, of so many seen.
+fn window_count(seen: u64) -> usize
+    ensures { λ r. ⌜ r ≡ min seen 33 ⌝ }
+{
+    if seen < 33 {
+        return seen as usize;
+    }
+    33
+}
+
+fn suppressor_fits(m: ImpulseSuppressor, seen: u64) -> bool
+    ensures { λ r. ⌜ r ≡ suppressorFits m seen ⌝ }
+{
+    let gate = m.gate;
+    let window = m.window;
+    let sorted = m.sorted;
+    let pending = m.pending;
+    if gate.received != seen {
+        return false;
+    }
+    if !powers_fit(&window) {
+        return false;
+    }
+    if !sorted_fits(window_count(seen), &window, &sorted) {
+        return false;
+    }
+    pending_fits(&pending)
+}
+
+// ---- the other stages
+
+// Whether x is at most 1e18 in size. A NaN isn't.
+fn part_fits(x: f64) -> bool
+    ensures { λ r. ⌜ r ≡ limited x ⌝ }
+{
+    if -1.0e18 <= x {
+        return x <= 1.0e18;
+    }
+    false
+}
+
+fn blocker_fits(b: DcBlocker) -> bool
+    ensures { λ r. ⌜ r ≡ blockerFits b ⌝ }
+{
+    let level = b.dc;
+    if log::COUNTER_LIMIT < b.n {
+        return false;
+    }
+    if !part_fits(level.re) {
+        return false;
+    }
+    part_fits(level.im)
+}
+
+fn coefficient_fits(iq: Iq) -> bool
+    ensures { λ r. ⌜ r ≡ coefficientFits (settledOf iq) ⌝ }
+{
+    match iq {
+        Iq::Off => true,
+        Iq::Observing => true,
+        Iq::Correcting(rho) => iq::accepted(rho),
+        Iq::Withheld => true,
+    }
+}
+
+fn begun_fits(first: Begun, end: u64) -> bool
+    ensures { λ r. ⌜ r ≡ begunFits first end ⌝ }
+{
+    match first {
+        Begun::Never => true,
+        Begun::At(f) => f <= end,
+    }
+}
+
+fn monitor_fits(m: ImageMonitor) -> bool
+    ensures { λ r. ⌜ r ≡ monitorFits m ⌝ }
+{
+    let first = m.first;
+    if log::COUNTER_LIMIT < m.end {
+        return false;
+    }
+    begun_fits(first, m.end)
+}
+
+// ---- the state
+
+impl InputConditioner {
+    // Whether the impulse stage runs and applies.
+    pub fn applies(self) -> bool
+        ensures { λ r. ⌜ r ≡ applies self ⌝ }
+    {
+        let settings = self.settings;
+        let suppressor = self.suppressor;
+        let gate = suppressor.gate;
+        if !settings.impulse {
+            return false;
+        }
+        gate.apply
+    }
+
+    // The settings, the counts and the gate.
+    fn front_fits(self) -> bool
+        ensures { λ r. ⌜ r ≡ frontFits self ⌝ }
+    {
+        let settings = self.settings;
+        let suppressor = self.suppressor;
+        let gate = suppressor.gate;
+        if !settings_fit(settings, gate.blocklen) {
+            return false;
+        }
+        if !counts_fit(self.applies(), self.seen, self.released, self.held) {
+            return false;
+        }
+        gate_fits(gate)
+    }
+
+    // The suppressor, where its stage runs.
+    fn impulse_fits(self) -> bool
+        ensures { λ r. ⌜ r ≡ impulseFits self ⌝ }
+    {
+        let settings = self.settings;
+        let suppressor = self.suppressor;
+        if !settings.impulse {
+            return true;
+        }
+        suppressor_fits(suppressor, self.seen)
+    }
+
+    fn logs_fit(self) -> bool
+        ensures { λ r. ⌜ r ≡ logsFit self ⌝ }
+    {
+        let settings = self.settings;
+        let log = self.log;
+        let repairs = self.repairs;
+        if !log.fits(settings.spans) {
+            return false;
+        }
+        log::ring_fits(repairs, self.longruns, settings.repairs)
+    }
+
+    fn stages_fit(self) -> bool
+        ensures { λ r. ⌜ r ≡ stagesFit self ⌝ }
+    {
+        let settings = self.settings;
+        let blocker = self.blocker;
+        let iq = settings.iq;
+        let monitor = self.monitor;
+        if !blocker_fits(blocker) {
+            return false;
+        }
+        if !coefficient_fits(iq) {
+            return false;
+        }
+        monitor_fits(monitor)
+    }
+
+    // Number 5's tests of a state. The lent words have their own.
+    pub fn fits(self) -> bool
+        ensures { λ r. ⌜ r ≡ stateFits self ⌝ }
+    {
+        if !self.front_fits() {
+            return false;
+        }
+        if !self.impulse_fits() {
+            return false;
+        }
+        if !self.logs_fit() {
+            return false;
+        }
+        self.stages_fit()
+    }
 }

@@ -1,12 +1,11 @@
--- `log::Log::dropped` meets its contract: the sum is that of the rings before number k. Assumes nothing.
-use mathlib.Core.Path.{_≡_, refl}
-use Prim.Native.Nat.{ℕ, _-_, _≤_, _^_}
+-- `log::Log::dropped` meets its contract: the sum is that of the rings before number k, as a u64 has it. Assumes nothing.
+use mathlib.Core.Path.{_≡_, refl, ap, _∙_}
+use Prim.Native.Nat.{ℕ, _+_, _-_, _≤_, _^_, min}
 use native.Mathlib.Numerals.{add-one}
 use native.Mathlib.Omega.{arith}
 use borrow.Author.Needs.{needs}
 use Rattle.log.specs.declared.Log.{Log}
 use Rattle.log.specs.Check.{sumTo, ringOf, spansDropped}
-use Rattle.log.specs.CheckLaws.{sum-under}
 use Rattle.log.proofs.Log.dropped.Statement.{statement}
 use Rattle.log.proofs.Log.dropped.Tie as tie
 
@@ -14,7 +13,7 @@ abbrev each : Log → ℕ → ℕ
 each l k = ringOf l k .dropped
 
 abbrev Inv-loop : tie.InvT-loop
-Inv-loop self sum₀ k₀ sum k = (k ≤ 12) × (sum ≡ sumTo (each self) k)
+Inv-loop self sum₀ k₀ sum k = (k ≤ 12) × (sum ≡ min (sumTo (each self) k) (2 ^ 64 - 1))
 
 abbrev μ-loop : tie.MeasureT-loop
 μ-loop self sum₀ k₀ sum k = 12 - k
@@ -29,11 +28,12 @@ mul-ring c = search needs
 element-copy-out-ring : tie.Need-element-copy-out-ring Inv-loop μ-loop
 element-copy-out-ring c = search needs
 
-add-sum : tie.Need-add-sum Inv-loop μ-loop
-add-sum c =
-    let s = c .before .before .before .before in
-    let l = c .before .before .before .loop in
-    omega (arith, sum-under (each (s .args .t1)) (2 ^ 52) 12 (l .k) (l .inv .0) (s .pre), l .inv .1, s .pre (l .k) (c .before .before .loop-test .taken))
+capped-sum-requires : tie.Need-capped-sum-requires Inv-loop μ-loop
+capped-sum-requires c κs = search needs
+
+-- a cap on the way, and the cap at the end
+capped : (s d m : ℕ) → min (min s m + d) m ≡ min (s + d) m
+capped s d m = omega arith
 
 add-k : tie.Need-add-k Inv-loop μ-loop
 add-k c = search needs
@@ -45,7 +45,9 @@ loop-again : tie.Need-loop-again Inv-loop μ-loop
 unfolding sumTo
 loop-again c =
     let l = c .before .before .before .loop in
-    (search needs, rw (add-one (l .k), l .inv .1))
+    let f = each (c .before .before .before .before .args .t1) in
+    let m = 2 ^ 64 - 1 in
+    (search needs, rw (add-one (l .k)) (c .capped-sum .ensures ∙ ap (λ (n : ℕ). min (n + f (l .k)) m) (l .inv .1) ∙ capped (sumTo f (l .k)) (f (l .k)) m))
 
 returns : tie.Need-returns Inv-loop μ-loop
 unfolding spansDropped
@@ -63,7 +65,7 @@ dropped-spec =
     loop-holds
     mul-ring
     element-copy-out-ring
-    add-sum
+    capped-sum-requires
     add-k
     loop-less
     loop-again

@@ -1,0 +1,2 @@
+pub mod Notings
+pub mod Turns
