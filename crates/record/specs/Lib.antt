@@ -1,0 +1,5 @@
+-- definitions
+pub mod Rings
+-- laws
+pub mod RingLaws
+pub mod Append
