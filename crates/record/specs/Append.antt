@@ -78,7 +78,7 @@ map-append f (x ∷ xs) ys = ap (λ t. f x ∷ t) (map-append f xs ys)
 -- ---- one ring
 
 -- no event marks a ring of the other stages
-others-none : (k : ℕ) (es : List Event) → 4 ≤ k → marksFor k es ≡ []
+pub others-none : (k : ℕ) (es : List Event) → 4 ≤ k → marksFor k es ≡ []
 others-none k es h = let a = ne-eqb k 0 (λ e. omega arith) in let b = ne-eqb k 1 (λ e. omega arith) in let c = ne-eqb k 3 (λ e. omega arith) in simp (a, b, c)
 
 marks-for-append : (k : ℕ) (es fs : List Event) → marksFor k (es ++ fs) ≡ marksFor k es ++ marksFor k fs

@@ -1,5 +1,15 @@
 -- definitions
 pub mod Rings
+pub mod Lists
 -- laws
 pub mod RingLaws
 pub mod Append
+pub mod Hopping
+pub mod Accepted
+pub mod Reaching
+pub mod ByRules
+pub mod GoodImpulse
+pub mod GoodStages
+pub mod GoodRings
+pub mod GoodRepairs
+pub mod NewRings

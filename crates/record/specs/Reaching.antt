@@ -1,0 +1,472 @@
+-- The chain after samples and hops in closed form; each operation leads from one such chain to another, and so does a list. Assumes nothing.
+use mathlib.Core.Path.{_≡_, refl, ap, sym, _∙_, subst}
+use mathlib.Core.Bool.{Bool, true, false, cond, not, false≢true}
+use mathlib.Core.List.{List, [], _∷_, _++_, foldl, foldl-append, append-nil, append-assoc}
+use Prim.Native.Nat.{ℕ, zero, suc, _+_, _-_, _*_, _^_, _≤_, _<_}
+use native.Mathlib.Omega.{arith}
+use lib.Dec.{T, eqb, ltb}
+use borrow.Author.Tests.{eqb-true, eq-eqb, ltb-false}
+use lib.ListN.{length, take, drop, replicate, length-append, length-drop}
+use lib.Seq.{take-at}
+use lib.Ieee.{Float}
+use Rattle.rules.specs.Constants.{zeroF}
+use Rattle.rules.specs.Iq.{Settled, isOff, observing, withheld, correcting}
+use Rattle.rules.specs.Guard.{usable, firstUnusableFrom}
+use Rattle.rules.specs.Log.{Span, noMarks}
+use Rattle.rules.specs.Monitor.{Hop, Answer, noReport, report, windowLength, answers, openWindow, monitorWords, nextWindow, answerTo, hopEnd, suspectedSpan, suspectedSpans}
+use Rattle.rules.specs.Chain.{Config, settledBy, evidence}
+use Rattle.rules.specs.SortLaws.{All}
+use Rattle.log.specs.View.{Logged, freshLog}
+use Rattle.log.specs.CheckLaws.{Bounded, fresh-bounded}
+use Rattle.impulse.specs.Stage.{Usable}
+use Rattle.impulse_run.specs.Noted.{Rings}
+use Rattle.impulse_run.specs.NotedRings.{bounded-rings}
+use Rattle.image.specs.Observe as image
+use Rattle.image.specs.Hops.{Accepted, InOrder, lastEnd, windowState, byRules, answerOf}
+use Rattle.image.specs.Evidence.{one-hop, stepped, answers-append, window-append, end-append}
+use Rattle.iq.specs.View.{settledOf}
+use Rattle.config.specs.declared.ConditioningConfig.{ConditioningConfig}
+use Rattle.config.specs.Config.{configOf}
+use Rattle.rules.specs.Refusals.{badStart}
+use Rattle.state.specs.declared.Settings.{Settings}
+use Rattle.state.specs.declared.InputConditioner.{InputConditioner}
+use Rattle.condition.specs.Making.{freshState, freshSettings}
+use Rattle.condition.specs.MakingLaws.{settled-again}
+use Rattle.condition.specs.Calls.{Machine, machineOf, notesIn, newPart, callRefusal, Said, refused, ready, Outcome, taken, declined, called, process, handsOn}
+use Rattle.condition.specs.Hops as hops
+use Rattle.condition.specs.Hops.{isObserving, isOffIq, uncertain, saidHop, Hopped, hopOf}
+use Rattle.record.specs.Lists.{Given, own, other, handed, kept, Operation, call, hop, Chain, afterCall, callOn, afterHop, hopOn, next, run, IsOwn, isReady, Found, Proper, freshMachine, freshChain}
+use Rattle.record.specs.RingLaws.{call-rings}
+use Rattle.record.specs.Append.{process-append, hands-append}
+use Rattle.record.specs.Hopping.{withHops, process-hops, hands-hops}
+use Rattle.record.specs.Accepted.{ready-none, refused-keeps, passes, usable-append, scan-usable, Taken, answered-taken}
+use Rattle.condition.specs.CallTests.{taken-by}
+use Rattle.condition.specs.HopLaws.{watched-by, hop-taken}
+use Rattle.condition.specs.HopKeeps.{isAnswered, Keeps, hop-keeps}
+
+-- ---- the chain after samples xs and hops hs
+
+-- the windows that an observing monitor suspected
+unfoldable pub hopMarks : ConditioningConfig → List Hop → List Span
+hopMarks g hs = cond (isObserving (settledBy (configOf g))) (suspectedSpans (evidence (configOf g) hs)) []
+
+-- what calls move
+unfoldable pub core : ConditioningConfig → List ℕ → Machine
+core g xs = process (freshMachine g) xs
+
+unfoldable pub chainAt : ConditioningConfig → List ℕ → List Hop → Chain
+chainAt g xs hs =
+    let w = byRules (g .fs) (g .n) [] 0 hs in
+    record {
+      machine = withHops (core g xs) (w .monitor) (hopMarks g hs);
+      words = w .words;
+      brought = xs;
+      released = handsOn (freshState g) xs;
+      hops = hs;
+      answers = evidence (configOf g) hs;
+    }
+
+-- the samples are usable, and at most 2^48; the hops are accepted, one after another, and none where IQ is off
+pub record Reached (g : ConditioningConfig) (xs : List ℕ) (hs : List Hop) : Type 0 where
+  pub usable : Usable xs
+  pub few : length xs ≤ 2 ^ 48
+  pub order : InOrder (g .n) 0 hs
+  pub watching : isOffIq (settledBy (configOf g)) ≡ true → hs ≡ []
+
+-- ---- answers
+
+suspected-is : (a : Answer) → hops.suspectedBy (answerOf a) ≡ suspectedSpan a
+suspected-is noReport = refl
+suspected-is (report r) = refl
+
+said-is : (a : Answer) → saidHop (hops.answerOf (answerOf a)) ≡ image.answered a
+said-is noReport = refl
+said-is (report r) = refl
+
+suspected-snoc : (l : List Answer) (a : Answer) → suspectedSpans (l ++ (a ∷ [])) ≡ suspectedSpans l ++ suspectedSpan a
+unfolding suspectedSpans
+suspected-snoc [] a = append-nil (suspectedSpan a)
+suspected-snoc (b ∷ l) a = ap (λ (t : List Span). suspectedSpan b ++ t) (suspected-snoc l a) ∙ sym (append-assoc (suspectedSpan b) (suspectedSpans l) (suspectedSpan a))
+
+in-order : (n end : ℕ) (hs : List Hop) (h : Hop) → InOrder n end hs → Accepted n (lastEnd n end hs) h → InOrder n end (hs ++ (h ∷ []))
+unfolding lastEnd
+in-order n end [] h o a = (a, tt)
+in-order n end (k ∷ hs) h o a = (o .0, in-order n (hopEnd n k) hs h (o .1) a)
+
+end-of : (w : List Hop) (end : ℕ) → windowState w end .end ≡ end
+end-of [] end = refl
+end-of (h ∷ w) end = refl
+
+-- ---- an operation that is not accepted leaves the chain as it was
+
+kept-same : {A : Type 0} (g : Given A) (a left : A) → left ≡ handed g a → kept g a left ≡ a
+kept-same own a left e = e
+kept-same (other b) a left e = refl
+
+call-kept : (y : Chain) (gs : Given InputConditioner) (gp gr : Given (List ℕ)) (slice : List ℕ) → isReady (callOn y gs gp gr slice .said) ≡ false → next y (call gs gp gr slice) ≡ y
+unfolding next
+call-kept y gs gp gr slice e = go (callOn y gs gp gr slice .said) refl
+  where
+    k : callOn y gs gp gr slice .machine ≡ machineOf (handed gs (y .machine .state)) (handed gp (y .machine .spans)) (handed gr (y .machine .repairs))
+    k = refused-keeps (machineOf (handed gs (y .machine .state)) (handed gp (y .machine .spans)) (handed gr (y .machine .repairs))) slice e
+
+    go : (s : Said) → callOn y gs gp gr slice .said ≡ s → afterCall y (handed gs (y .machine .state)) gs gp gr slice (callOn y gs gp gr slice) s ≡ y
+    go (ready n) q = absurd (false≢true (sym e ∙ ap isReady q))
+    go (refused l) q =
+        λ i.
+          record {
+            machine =
+              record {
+                state = kept-same gs (y .machine .state) (callOn y gs gp gr slice .machine .state) (ap (λ (m : Machine). m .state) k) i;
+                spans = kept-same gp (y .machine .spans) (callOn y gs gp gr slice .machine .spans) (ap (λ (m : Machine). m .spans) k) i;
+                repairs = kept-same gr (y .machine .repairs) (callOn y gs gp gr slice .machine .repairs) (ap (λ (m : Machine). m .repairs) k) i;
+              };
+            words = y .words;
+            brought = y .brought;
+            released = y .released;
+            hops = y .hops;
+            answers = y .answers;
+          }
+
+hop-kept : (y : Chain) (gs : Given InputConditioner) (gp : Given (List ℕ)) (gw : Given (List Float)) (h : Hop) → isAnswered (saidHop (hopOn y gs gp gw h .called .answer)) ≡ false → next y (hop gs gp gw h) ≡ y
+unfolding next
+hop-kept y gs gp gw h e = go (saidHop (hopOn y gs gp gw h .called .answer)) refl
+  where
+    same : (t : InputConditioner) (p : List ℕ) (w : List Float) → t ≡ handed gs (y .machine .state) → p ≡ handed gp (y .machine .spans) → w ≡ handed gw (y .words)
+        → _≡_ {A = Chain}
+          (record {
+            machine = machineOf (kept gs (y .machine .state) t) (kept gp (y .machine .spans) p) (y .machine .repairs);
+            words = kept gw (y .words) w;
+            brought = y .brought;
+            released = y .released;
+            hops = y .hops;
+            answers = y .answers;
+          })
+          y
+    same t p w a b d =
+        λ i.
+          record {
+            machine = machineOf (kept-same gs (y .machine .state) t a i) (kept-same gp (y .machine .spans) p b i) (y .machine .repairs);
+            words = kept-same gw (y .words) w d i;
+            brought = y .brought;
+            released = y .released;
+            hops = y .hops;
+            answers = y .answers;
+          }
+
+    all : Keeps (handed gs (y .machine .state)) (handed gp (y .machine .spans)) (handed gw (y .words)) (hopOn y gs gp gw h)
+    all = hop-keeps (handed gs (y .machine .state)) (h .channels) (h .start) (handed gp (y .machine .spans)) (handed gw (y .words)) e
+
+    go : (s : image.Said) → saidHop (hopOn y gs gp gw h .called .answer) ≡ s → afterHop y gs gp gw h (hopOn y gs gp gw h) s ≡ y
+    go (image.answered a) q = absurd (false≢true (sym e ∙ ap isAnswered q))
+    go image.nothing q = same _ _ _ (all .state) (all .spans) (all .words)
+    go (image.refused l) q = same _ _ _ (all .state) (all .spans) (all .words)
+
+module _ (g : ConditioningConfig) (some : 0 < g .spans) where
+  -- ---- what never changes
+
+  settings-at : (xs : List ℕ) → core g xs .state .settings ≡ freshSettings g
+  unfolding core process freshState
+  settings-at xs = refl
+
+  settled-at : settledOf (freshSettings g .iq) ≡ settledBy (configOf g)
+  unfolding freshSettings
+  settled-at = settled-again (settledBy (configOf g))
+
+  pub fresh-rings : Rings (freshMachine g .state .settings .spans) (notesIn (freshMachine g) .logged)
+  unfolding freshState freshSettings
+  fresh-rings =
+      bounded-rings (g .spans) 0 (record { log = freshLog; spans = replicate (24 * g .spans) 0 })
+      (subst (λ (n : ℕ). Bounded (g .spans) 0 (record { log = freshLog; spans = replicate n 0 })) (let q : g .spans * 24 ≡ 24 * g .spans = omega arith in q) (fresh-bounded (g .spans) some))
+
+  rings-at : (xs : List ℕ) → Rings (core g xs .state .settings .spans) (notesIn (core g xs) .logged)
+  unfolding core process
+  rings-at xs = call-rings (freshMachine g) xs fresh-rings
+
+  -- ---- a call
+
+  core-more : (xs ys : List ℕ) → process (core g xs) ys ≡ core g (xs ++ ys)
+  unfolding core
+  core-more xs ys = sym (process-append (freshMachine g) xs ys fresh-rings)
+
+  -- an observing monitor's marks are none where IQ does not observe
+  no-marks : (xs : List ℕ) (hs : List Hop) → isObserving (settledOf (core g xs .state .settings .iq)) ≡ false → hopMarks g hs ≡ []
+  unfolding hopMarks core process freshState
+  no-marks xs hs e = ap (λ (b : Bool). cond b (suspectedSpans (evidence (configOf g) hs)) []) (ap isObserving (sym settled-at) ∙ e)
+
+  pub machine-more : (xs ys : List ℕ) (hs : List Hop) → process (chainAt g xs hs .machine) ys ≡ chainAt g (xs ++ ys) hs .machine
+  unfolding chainAt
+  machine-more xs ys hs =
+      process-hops (core g xs) (byRules (g .fs) (g .n) [] 0 hs .monitor) (hopMarks g hs) ys (rings-at xs) (no-marks xs hs)
+      ∙ ap (λ (m : Machine). withHops m (byRules (g .fs) (g .n) [] 0 hs .monitor) (hopMarks g hs)) (core-more xs ys)
+
+  pub released-more : (xs ys : List ℕ) (hs : List Hop) → handsOn (freshState g) xs ++ handsOn (chainAt g xs hs .machine .state) ys ≡ handsOn (freshState g) (xs ++ ys)
+  unfolding chainAt core
+  released-more xs ys hs =
+      ap (λ (l : List ℕ). handsOn (freshState g) xs ++ l) (hands-hops (core g xs) (byRules (g .fs) (g .n) [] 0 hs .monitor) (hopMarks g hs) ys (rings-at xs) (no-marks xs hs))
+      ∙ sym (hands-append (freshMachine g) xs ys)
+
+  -- the parts of the chain that are no machine
+  record At (xs : List ℕ) (hs : List Hop) : Type 0 where
+    brought : chainAt g xs hs .brought ≡ xs
+    released : chainAt g xs hs .released ≡ handsOn (freshState g) xs
+    hops : chainAt g xs hs .hops ≡ hs
+    answers : chainAt g xs hs .answers ≡ evidence (configOf g) hs
+
+  chain-is : (xs : List ℕ) (hs : List Hop) → At xs hs
+  unfolding chainAt
+  chain-is xs hs = record { brought = refl; released = refl; hops = refl; answers = refl }
+
+  chain-again : (xs new : List ℕ) (hs : List Hop)
+      → _≡_ {A = Chain}
+        (record {
+          machine = chainAt g (xs ++ new) hs .machine;
+          words = chainAt g xs hs .words;
+          brought = xs ++ new;
+          released = handsOn (freshState g) (xs ++ new);
+          hops = hs;
+          answers = evidence (configOf g) hs;
+        })
+        (chainAt g (xs ++ new) hs)
+  unfolding chainAt
+  chain-again xs new hs = refl
+
+  seen-at : (xs : List ℕ) (hs : List Hop) → chainAt g xs hs .machine .state .seen ≡ length xs
+  unfolding chainAt withHops core process freshState
+  seen-at xs hs = omega arith
+
+  pub own-call : (xs : List ℕ) (hs : List Hop) (slice : List ℕ) → Reached g xs hs
+      → let y = chainAt g xs hs in callRefusal (y .machine .state) slice (y .machine .spans) (y .machine .repairs) ≡ 0
+      → (next (chainAt g xs hs) (call own own own slice) ≡ chainAt g (xs ++ newPart (chainAt g xs hs .machine .state) slice) hs)
+      × Reached g (xs ++ newPart (chainAt g xs hs .machine .state) slice) hs
+  unfolding next
+  own-call xs hs slice r e =
+      let y = chainAt g xs hs in
+      let m = y .machine in
+      let c = m .state in
+      let new = newPart c slice in
+      let ys = handsOn c new in
+      let p = passes c slice (m .spans) (m .repairs) e in
+      let few = ltb-false (2 ^ 48 - c .seen) (length slice - c .held) (p .few) in
+      let at = chain-is xs hs in
+      (ap (λ (o : Outcome). afterCall y c own own own slice o (o .said)) (taken-by c slice (m .spans) (m .repairs) e)
+      ∙ (λ i.
+        record {
+          machine = machine-more xs new hs i;
+          words = y .words;
+          brought = at .brought i ++ new;
+          released = (ap (λ (l : List ℕ). y .released ++ l) (take-at ys (drop (length ys) slice) (length ys) refl) ∙ ap (λ (l : List ℕ). l ++ ys) (at .released) ∙ released-more xs new hs) i;
+          hops = at .hops i;
+          answers = at .answers i;
+        })
+      ∙ chain-again xs new hs,
+      record {
+        usable = usable-append xs new (r .usable) (scan-usable (c .held) new (p .fine));
+        few = omega (arith, length-append xs new, length-drop (c .held) slice, few, seen-at xs hs, r .few);
+        order = r .order;
+        watching = r .watching;
+      })
+
+  -- ---- a hop
+
+  -- the window that is open after hops, and where the last ended
+  abbrev windowAt : List Hop → List Hop
+  windowAt hs = openWindow (g .n) (windowLength (g .fs)) [] hs
+
+  abbrev endAt : List Hop → ℕ
+  endAt hs = lastEnd (g .n) 0 hs
+
+  module _ (hs : List Hop) (h : Hop) where
+    abbrev answerAt : Answer
+    answerAt = answerTo (g .n) (windowLength (g .fs)) (windowAt hs) h
+
+    window-next : windowAt (hs ++ (h ∷ [])) ≡ nextWindow (g .n) (windowLength (g .fs)) (windowAt hs) h
+    unfolding openWindow
+    window-next = window-append (g .n) (windowLength (g .fs)) [] hs (h ∷ [])
+
+    end-next : endAt (hs ++ (h ∷ [])) ≡ hopEnd (g .n) h
+    unfolding lastEnd
+    end-next = end-append (g .n) 0 hs (h ∷ [])
+
+    evidence-next : evidence (configOf g) (hs ++ (h ∷ [])) ≡ evidence (configOf g) hs ++ (answerAt ∷ [])
+    unfolding evidence answers
+    evidence-next = answers-append (g .n) (windowLength (g .fs)) [] hs (h ∷ [])
+
+    marks-next : hopMarks g (hs ++ (h ∷ [])) ≡ hopMarks g hs ++ cond (isObserving (settledBy (configOf g))) (suspectedSpan answerAt) []
+    unfolding hopMarks
+    marks-next = go (isObserving (settledBy (configOf g)))
+      where
+        go : (b : Bool) → cond b (suspectedSpans (evidence (configOf g) (hs ++ (h ∷ [])))) [] ≡ cond b (suspectedSpans (evidence (configOf g) hs)) [] ++ cond b (suspectedSpan answerAt) []
+        go true = ap suspectedSpans evidence-next ∙ suspected-snoc (evidence (configOf g) hs) answerAt
+        go false = refl
+
+    order-next : InOrder (g .n) 0 hs → Accepted (g .n) (endAt hs) h → InOrder (g .n) 0 (hs ++ (h ∷ []))
+    order-next o a = in-order (g .n) 0 hs h o a
+
+    module _ (xs : List ℕ) (o : InOrder (g .n) 0 hs) (on : isOffIq (settledBy (configOf g)) ≡ false) (a : Accepted (g .n) (endAt hs) h) where
+      abbrev state : InputConditioner
+      state = chainAt g xs hs .machine .state
+
+      -- what the monitor makes of it
+      seen-is : hops.watched (chainAt g xs hs .machine .state) (h .channels) (h .start) (chainAt g xs hs .words) ≡ stepped (g .n) (windowLength (g .fs)) (windowAt hs) h
+      unfolding chainAt withHops core process freshState freshSettings
+      seen-is =
+          watched-by (chainAt g xs hs .machine .state) (h .channels) (h .start) (chainAt g xs hs .words) false (ap isOffIq settled-at ∙ on)
+          ∙ one-hop (g .fs) (g .n) (windowAt hs) (endAt hs) h a
+
+      -- the chain's machine after it
+      machine-hop : hops.followed (chainAt g xs hs .machine .state) (chainAt g xs hs .machine .spans) (stepped (g .n) (windowLength (g .fs)) (windowAt hs) h)
+          ≡ record {
+            called = record { state = chainAt g xs (hs ++ (h ∷ [])) .machine .state; answer = hops.answerOf (answerOf answerAt) };
+            spans = chainAt g xs (hs ++ (h ∷ [])) .machine .spans;
+            words = chainAt g xs (hs ++ (h ∷ [])) .words;
+          }
+      unfolding chainAt withHops core process freshState freshSettings
+      machine-hop =
+          let cap = g .spans in
+          let base = notesIn (core g xs) .logged in
+          let observes = isObserving (settledOf (freshSettings g .iq)) in
+          let l : foldl (uncertain cap) (foldl (uncertain cap) base (hopMarks g hs)) (cond observes (hops.suspectedBy (answerOf answerAt)) []) ≡ foldl (uncertain cap) base (hopMarks g (hs ++ (h ∷ []))) =
+            sym (foldl-append (uncertain cap) base (hopMarks g hs) (cond observes (hops.suspectedBy (answerOf answerAt)) []))
+            ∙ ap (λ (l : List Span). foldl (uncertain cap) base (hopMarks g hs ++ cond observes l [])) (suspected-is answerAt)
+            ∙ ap (λ (b : Bool). foldl (uncertain cap) base (hopMarks g hs ++ cond b (suspectedSpan answerAt) [])) (ap isObserving settled-at)
+            ∙ ap (foldl (uncertain cap) base) (sym marks-next) in
+          let w : nextWindow (g .n) (windowLength (g .fs)) (windowAt hs) h ≡ windowAt (hs ++ (h ∷ [])) = sym window-next in
+          let e : hopEnd (g .n) h ≡ endAt (hs ++ (h ∷ [])) = sym end-next in
+          λ i.
+            record {
+              called =
+                record {
+                  state =
+                    record {
+                      settings = freshSettings g;
+                      seen = core g xs .state .seen;
+                      released = core g xs .state .released;
+                      held = core g xs .state .held;
+                      suppressor = core g xs .state .suppressor;
+                      blocker = core g xs .state .blocker;
+                      monitor = windowState (w i) (e i);
+                      log = l i .log;
+                      repairs = core g xs .state .repairs;
+                      longruns = core g xs .state .longruns;
+                    };
+                  answer = hops.answerOf (answerOf answerAt);
+                };
+              spans = l i .spans;
+              words = monitorWords (g .n) (w i);
+            }
+
+  monitor-end : (xs : List ℕ) (hs : List Hop) → chainAt g xs hs .machine .state .monitor .end ≡ endAt hs
+  unfolding chainAt withHops
+  monitor-end xs hs = end-of (windowAt hs) (endAt hs)
+
+  size-at : (xs : List ℕ) (hs : List Hop) → chainAt g xs hs .machine .state .settings ≡ freshSettings g
+  unfolding chainAt withHops
+  size-at xs hs = settings-at xs
+
+  n-is : freshSettings g .n ≡ g .n
+  unfolding freshSettings
+  n-is = refl
+
+  hop-again : (xs : List ℕ) (hs : List Hop) (h : Hop)
+      → _≡_ {A = Chain}
+        (record {
+          machine = machineOf (chainAt g xs (hs ++ (h ∷ [])) .machine .state) (chainAt g xs (hs ++ (h ∷ [])) .machine .spans) (chainAt g xs hs .machine .repairs);
+          words = chainAt g xs (hs ++ (h ∷ [])) .words;
+          brought = chainAt g xs hs .brought;
+          released = chainAt g xs hs .released;
+          hops = chainAt g xs hs .hops ++ (h ∷ []);
+          answers = chainAt g xs hs .answers ++ (answerAt hs h ∷ []);
+        })
+        (chainAt g xs (hs ++ (h ∷ [])))
+  unfolding chainAt withHops
+  hop-again xs hs h =
+      λ i.
+        record {
+          machine = chainAt g xs (hs ++ (h ∷ [])) .machine;
+          words = chainAt g xs (hs ++ (h ∷ [])) .words;
+          brought = xs;
+          released = handsOn (freshState g) xs;
+          hops = hs ++ (h ∷ []);
+          answers = sym (evidence-next hs h) i;
+        }
+
+  pub own-hop : (xs : List ℕ) (hs : List Hop) (h : Hop) → Reached g xs hs
+      → let y = chainAt g xs hs in Taken (y .machine .state) (h .channels) (h .start) (y .machine .spans) (y .words)
+      → (next (chainAt g xs hs) (hop own own own h) ≡ chainAt g xs (hs ++ (h ∷ []))) × Reached g xs (hs ++ (h ∷ []))
+  unfolding next hops.taken
+  own-hop xs hs h r t =
+      let y = chainAt g xs hs in
+      let c = y .machine .state in
+      let n = ap (λ (z : Settings). z .n) (size-at xs hs) ∙ n-is in
+      let on = ap isOffIq (sym settled-at ∙ ap (λ (z : Settings). settledOf (z .iq)) (sym (size-at xs hs))) ∙ t .watching in
+      let a : Accepted (g .n) (endAt hs) h =
+        record {
+          some = ap (λ (k : ℕ). image.isNone k (h .channels)) (sym n) ∙ t .some;
+          start = ap (λ (k : ℕ). badStart k (h .start) .holds) (sym (monitor-end xs hs)) ∙ t .starts;
+          parts = t .parts;
+        } in
+      let q = hop-taken c (h .channels) (h .start) (y .machine .spans) (y .words) (t .none)
+        ∙ ap (hops.followed c (y .machine .spans)) (seen-is hs h xs (r .order) on a)
+        ∙ machine-hop hs h xs (r .order) on a in
+      (ap (λ (o : Hopped). afterHop y own own own h o (saidHop (o .called .answer))) q
+      ∙ ap
+        (afterHop y own own own h
+        (record {
+          called = record { state = chainAt g xs (hs ++ (h ∷ [])) .machine .state; answer = hops.answerOf (answerOf (answerAt hs h)) };
+          spans = chainAt g xs (hs ++ (h ∷ [])) .machine .spans;
+          words = chainAt g xs (hs ++ (h ∷ [])) .words;
+        }))
+        (said-is (answerAt hs h))
+      ∙ hop-again xs hs h,
+      record { usable = r .usable; few = r .few; order = order-next hs h (r .order) a; watching = λ e. absurd (false≢true (sym on ∙ e)) })
+
+  -- ---- any operation
+
+  -- it leads to the chain after some samples and hops
+  pub record Leads (y : Chain) : Type 0 where
+    pub samples : List ℕ
+    pub hops : List Hop
+    pub is : y ≡ chainAt g samples hops
+    pub reached : Reached g samples hops
+
+  by-call : (xs : List ℕ) (hs : List Hop) (gs : Given InputConditioner) (gp gr : Given (List ℕ)) (slice : List ℕ) → Reached g xs hs
+      → isReady (callOn (chainAt g xs hs) gs gp gr slice .said) ≡ true → IsOwn gs → IsOwn gp → IsOwn gr
+      → Leads (next (chainAt g xs hs) (call gs gp gr slice))
+  by-call xs hs own own own slice r e a b d =
+      let n = own-call xs hs slice r (ready-none (chainAt g xs hs .machine) slice e) in
+      record { samples = xs ++ newPart (chainAt g xs hs .machine .state) slice; hops = hs; is = n .0; reached = n .1 }
+  by-call xs hs own own (other w) slice r e a b d = absurd d
+  by-call xs hs own (other w) gr slice r e a b d = absurd b
+  by-call xs hs (other s) gp gr slice r e a b d = absurd a
+
+  by-hop : (xs : List ℕ) (hs : List Hop) (gs : Given InputConditioner) (gp : Given (List ℕ)) (gw : Given (List Float)) (h : Hop) → Reached g xs hs
+      → isAnswered (saidHop (hopOn (chainAt g xs hs) gs gp gw h .called .answer)) ≡ true → IsOwn gs → IsOwn gp → IsOwn gw
+      → Leads (next (chainAt g xs hs) (hop gs gp gw h))
+  by-hop xs hs own own own h r e a b d =
+      let y = chainAt g xs hs in
+      let n = own-hop xs hs h r (answered-taken (y .machine .state) (h .channels) (h .start) (y .machine .spans) (y .words) e) in
+      record { samples = xs; hops = hs ++ (h ∷ []); is = n .0; reached = n .1 }
+  by-hop xs hs own own (other w) h r e a b d = absurd d
+  by-hop xs hs own (other w) gw h r e a b d = absurd b
+  by-hop xs hs (other s) gp gw h r e a b d = absurd a
+
+  leads : (xs : List ℕ) (hs : List Hop) (o : Operation) → Reached g xs hs → Found (chainAt g xs hs) o → Leads (next (chainAt g xs hs) o)
+  unfolding Found
+  leads xs hs (call gs gp gr slice) r f = go (isReady (callOn (chainAt g xs hs) gs gp gr slice .said)) refl
+    where
+      go : (b : Bool) → isReady (callOn (chainAt g xs hs) gs gp gr slice .said) ≡ b → Leads (next (chainAt g xs hs) (call gs gp gr slice))
+      go true e = by-call xs hs gs gp gr slice r e (f e .0) (f e .1 .0) (f e .1 .1)
+      go false e = record { samples = xs; hops = hs; is = call-kept (chainAt g xs hs) gs gp gr slice e; reached = r }
+  leads xs hs (hop gs gp gw h) r f = go (isAnswered (saidHop (hopOn (chainAt g xs hs) gs gp gw h .called .answer))) refl
+    where
+      go : (b : Bool) → isAnswered (saidHop (hopOn (chainAt g xs hs) gs gp gw h .called .answer)) ≡ b → Leads (next (chainAt g xs hs) (hop gs gp gw h))
+      go true e = by-hop xs hs gs gp gw h r e (f e .0) (f e .1 .0) (f e .1 .1)
+      go false e = record { samples = xs; hops = hs; is = hop-kept (chainAt g xs hs) gs gp gw h e; reached = r }
+
+  ends : (xs : List ℕ) (hs : List Hop) (os : List Operation) → Reached g xs hs → Proper (chainAt g xs hs) os → Leads (run (chainAt g xs hs) os)
+  ends xs hs [] r p = record { samples = xs; hops = hs; is = refl; reached = r }
+  ends xs hs (o ∷ os) r p =
+      let n = leads xs hs o r (p .0) in
+      let m = ends (n .samples) (n .hops) os (n .reached) (subst (λ (y : Chain). Proper y os) (n .is) (p .1)) in
+      record { samples = m .samples; hops = m .hops; is = ap (λ (y : Chain). run y os) (n .is) ∙ m .is; reached = m .reached }
