@@ -1,6 +1,6 @@
 -- A call: what it declines, and what it makes of the state, the samples and the stores. Definitions only.
 use mathlib.Core.Path.{_≡_}
-use mathlib.Core.Bool.{Bool, true, not, cond}
+use mathlib.Core.Bool.{Bool, true, cond}
 use mathlib.Core.List.{List, [], _∷_, _++_, map}
 use Prim.Native.Nat.{ℕ, _+_, _-_, _*_, _^_, _≤_}
 use lib.Dec.{eqb}
@@ -8,7 +8,7 @@ use lib.ListN.{length, drop}
 use Rattle.rules.specs.Impulse.{Setting, Event}
 use Rattle.rules.specs.Iq.{Mode, off, observe, apply, Settled, isOff, observing, withheld, correcting, correctedBy}
 use Rattle.rules.specs.Log.{Span, spanOf, ringNumber, dc, iq, isCorrected, isUncertain}
-use Rattle.rules.specs.Refusals.{Cause, firstOf, badLength, shortSlice, tooMany, unusableAt, anyUnusable}
+use Rattle.rules.specs.Refusals.{firstOf, badLength, shortSlice, tooMany, unusableAt, anyUnusable}
 use Rattle.part_limit.specs.Limit.{returned}
 use Rattle.log.specs.View.{Logged, ringIn, bare, markedAt}
 use Rattle.log.specs.Check.{endsFit}
@@ -20,18 +20,11 @@ use Rattle.dc.specs.Blocker.{blockerAfter, processedAll}
 use Rattle.iq.specs.View.{modeOf, settledOf}
 use Rattle.state.specs.declared.InputConditioner.{InputConditioner}
 use Rattle.state.specs.Fits.{stateFits}
+use Rattle.state.specs.Causes.{badState, badSpans}
 use Rattle.condition.specs.declared.Conditioned.{Conditioned}
 use Rattle.condition.specs.declared.Conditioned.the-variants as answer
 
 -- ---- what a call declines: '5, 4', 5's rule on lent words straight after, '6, 8, 7'
-
--- number 5, of the state
-abbrev pub badState : InputConditioner → Cause
-badState c = record { holds = not (stateFits c); number = 5 }
-
--- number 5, of a lent span store
-abbrev pub badSpans : InputConditioner → List ℕ → Cause
-badSpans c spans = record { holds = not (endsFit (c .settings .spans) (record { log = c .log; spans = spans })); number = 5 }
 
 -- the new part of a slice: 'the held samples, then the new'
 abbrev pub newPart : InputConditioner → List ℕ → List ℕ

@@ -11,7 +11,6 @@ use Rattle.rules.specs.Monitor.{noReport, report, suspectedSpan}
 use Rattle.rules.specs.Refusals.{Cause, firstOf, badLength}
 use Rattle.log.specs.declared.Log.{Log}
 use Rattle.log.specs.View.{Logged, markedAt}
-use Rattle.log.specs.Check.{endsFit}
 use Rattle.iq.specs.View.{settledOf}
 use Rattle.image.specs.declared.HopAnswer.{HopAnswer}
 use Rattle.image.specs.declared.HopAnswer.the-variants as monitor
@@ -19,7 +18,7 @@ use Rattle.image.specs.declared.ImageMonitor.{ImageMonitor}
 use Rattle.image.specs.Words.{wordsFit}
 use Rattle.image.specs.Observe.{Said, nothing, refused, answered, reportFrom, Seen, leaving, observed, hopSaid}
 use Rattle.state.specs.declared.InputConditioner.{InputConditioner}
-use Rattle.state.specs.Fits.{stateFits}
+use Rattle.state.specs.Causes.{badState, badSpans}
 use Rattle.condition.specs.declared.HopFitness.{HopFitness}
 use Rattle.condition.specs.declared.HopFitness.the-variants as fitness
 use Rattle.condition.specs.declared.HopSaid.{HopSaid}
@@ -28,15 +27,7 @@ use Rattle.condition.specs.declared.HopCalled.{HopCalled}
 
 -- ---- what is refused before the monitor sees the hop
 
--- number 5, of the state
-abbrev pub badState : InputConditioner → Cause
-badState c = record { holds = not (stateFits c); number = 5 }
-
--- of the span store: a 'newest span's sum > 2^49'
-abbrev pub badEnds : InputConditioner → List ℕ → Cause
-badEnds c spans = record { holds = not (endsFit (c .settings .spans) (record { log = c .log; spans = spans })); number = 5 }
-
--- of the monitor's words
+-- number 5, of the monitor's words
 abbrev pub badWords : InputConditioner → List Float → Cause
 badWords c ws = record { holds = not (wordsFit (c .settings .n) ws); number = 5 }
 
@@ -47,7 +38,7 @@ hopRefusal c spans ws =
     (badState c
     ∷ badLength (24 * c .settings .spans) (length spans)
     ∷ badLength (4 * c .settings .n) (length ws)
-    ∷ badEnds c spans
+    ∷ badSpans c spans
     ∷ badWords c ws
     ∷ [])
 

@@ -128,7 +128,7 @@ module _ (cap : ℕ) (q : rules.Marks) (k : Sound 2 cap (q .ring)) (es fs : List
 -- ---- the chain after xs, and what it makes of ys
 
 module _ (m : Machine) (xs ys : List ℕ) where
-  setting-same : settingIn (process m xs .state) ≡ settingIn (m .state)
+  pub setting-same : settingIn (process m xs .state) ≡ settingIn (m .state)
   unfolding process impulseAfter
   setting-same = setting-by (m .state .settings .impulse) (settingIn (m .state)) (m .state .suppressor) xs
 

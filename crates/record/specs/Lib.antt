@@ -8,8 +8,10 @@ pub mod Hopping
 pub mod Accepted
 pub mod Reaching
 pub mod ByRules
+pub mod Made
 pub mod GoodImpulse
 pub mod GoodStages
 pub mod GoodRings
 pub mod GoodRepairs
 pub mod NewRings
+pub mod Good
