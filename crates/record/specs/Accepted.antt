@@ -117,7 +117,7 @@ module _ (c : InputConditioner) (xs : List ℕ) (start : ℕ) (spans : List ℕ)
 
       by-tests : hopRefusal c spans ws ≡ 0 → (o a b d : Bool) → isOffIq (settledOf (c .settings .iq)) ≡ o → isNone (c .settings .n) xs ≡ a → badStart (c .monitor .end) start .holds ≡ b → anyBeyond xs .holds ≡ d
           → Said? (cond o (leaving (c .monitor) ws answer.Nothing)
-            (cond a (leaving (c .monitor) ws answer.Nothing) (cond b (leaving (c .monitor) ws answer.Early) (cond d (leaving (c .monitor) ws (answer.Beyond (firstBeyondFrom 0 xs))) (acceptedOf (c .monitor) (c .settings .fs) xs start ws)))))
+          (cond a (leaving (c .monitor) ws answer.Nothing) (cond b (leaving (c .monitor) ws answer.Early) (cond d (leaving (c .monitor) ws (answer.Beyond (firstBeyondFrom 0 xs))) (acceptedOf (c .monitor) (c .settings .fs) xs start ws)))))
           → Taken
       by-tests n true a b d p q r s h = absurd (false≢true h)
       by-tests n false true b d p q r s h = absurd (false≢true h)

@@ -39,8 +39,7 @@ use Rattle.record.specs.Rings.{dcMarks, iqMarks, markIf, ringAfter}
 use Rattle.record.specs.RingLaws.{call-rings, call-at}
 use Rattle.record.specs.Append.{others-none}
 use Rattle.record.specs.Hopping.{hopLogged, uncertain-own, uncertain-other}
-use Rattle.record.specs.Lists.{freshMachine}
-use Rattle.record.specs.Reaching.{hopMarks, core, fresh-rings}
+use Rattle.record.specs.Reaching.{freshMachine, hopMarks, core, fresh-rings}
 
 -- the rings that the DC and the IQ stage leave alone
 dc-only : (d : Mode) (k : ℕ) → (k ≡ 6 → ⊥) → dcMarks d k ≡ false
@@ -137,7 +136,7 @@ module _ (g : ConditioningConfig) (blocks : 0 < blockLength (g .fs)) (xs : List 
     called-at k h =
         call-at (freshMachine g) xs (fresh-rings g some) k
         ∙ ap (ringAfter (g .spans) (freshState g) xs k)
-          (ap (λ (n : ℕ). marksAt (g .spans) (record { log = freshLog; spans = replicate n 0 }) k) (let q : 24 * g .spans ≡ g .spans * 24 = omega arith in q) ∙ fresh-marks (g .spans) k h)
+        (ap (λ (n : ℕ). marksAt (g .spans) (record { log = freshLog; spans = replicate n 0 }) k) (let q : 24 * g .spans ≡ g .spans * 24 = omega arith in q) ∙ fresh-marks (g .spans) k h)
 
     -- and after the hops
     hopped-at : (k : ℕ) → k < 12 → (k ≡ 11 → ⊥) → marksAt (g .spans) (hopLogged (core g xs) (hopMarks g hs)) k ≡ ringAfter (g .spans) (freshState g) xs k (noMarks (g .spans))
@@ -203,7 +202,6 @@ module _ (g : ConditioningConfig) (blocks : 0 < blockLength (g .fs)) (xs : List 
     iq-plain : (k : ℕ) → 8 ≤ k → (i : Bool) → iqMarks (settledBy (configOf g)) k ≡ i
         → ringAfter (g .spans) (freshState g) xs k (noMarks (g .spans)) ≡ markIf (g .spans) i (noMarks (g .spans)) (spanOf 0 (length (released (configOf g) xs)))
     iq-plain k h i e = plain-at k (omega arith) false i (dc-only (modeOf (g .dc)) k (λ q. omega arith)) e
-
 
     -- the marks that the rules give an IQ ring, by what was settled
     abbrev given : Settled → Mark → List Span

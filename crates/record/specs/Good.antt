@@ -31,10 +31,9 @@ use Rattle.state.specs.Fits.{heldBy, applies, settingsFit, countsFit, gateFits,
 use Rattle.condition.specs.Making.{freshState, freshSettings}
 use Rattle.condition.specs.MakingLaws.{settled-again}
 use Rattle.condition.specs.Calls.{notesIn, impulseAfter, impulseOut, process, notesAfter}
-use Rattle.record.specs.Lists.{Chain, freshMachine}
 use Rattle.record.specs.Append.{setting-same}
 use Rattle.record.specs.Hopping.{withHops, hopLogged}
-use Rattle.record.specs.Reaching.{hopMarks, core, chainAt, Reached}
+use Rattle.record.specs.Reaching.{freshMachine, hopMarks, core, chainAt, Reached}
 use Rattle.record.specs.ByRules.{impulse-out, impulse-state, dc-state, repairs-is, long-is, rings-are}
 use Rattle.record.specs.Made.{Fit}
 use Rattle.record.specs.GoodImpulse.{and-so, gate-good, suppressor-good, fresh-gate-good}
@@ -110,7 +109,7 @@ module _ (g : ConditioningConfig) (f : Fit g) (xs : List ℕ) (hs : List Hop) (r
   unfolding chainAt withHops core process freshState freshSettings
   running = refl
 
-  settled-is : settledOf (chainAt g xs hs .machine .state .settings .iq) ≡ settledBy (configOf g)
+  pub settled-is : settledOf (chainAt g xs hs .machine .state .settings .iq) ≡ settledBy (configOf g)
   unfolding chainAt withHops core process freshState freshSettings
   settled-is = settled-again (settledBy (configOf g))
 

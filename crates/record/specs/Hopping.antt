@@ -140,8 +140,8 @@ module _ (m : Machine) (monitor : ImageMonitor) (ms : List Span) (new : List ℕ
   process-hops =
       let c = m .state in
       λ i.
-        record {
-          state =
+      record {
+        state =
             record {
               settings = c .settings;
               seen = process m new .state .seen;
@@ -154,9 +154,9 @@ module _ (m : Machine) (monitor : ImageMonitor) (ms : List Span) (new : List ℕ
               repairs = bare (repairs-hops i);
               longruns = long-hops i;
             };
-          spans = logged-hops i .spans;
-          repairs = repairs-hops i .words;
-        }
+        spans = logged-hops i .spans;
+        repairs = repairs-hops i .words;
+      }
 
   pub hands-hops : handsOn (withHops m monitor ms .state) new ≡ handsOn (m .state) new
   unfolding withHops handsOn impulseOut

@@ -15,3 +15,5 @@ pub mod GoodRings
 pub mod GoodRepairs
 pub mod NewRings
 pub mod Good
+pub mod Fresh
+pub mod OneRecord

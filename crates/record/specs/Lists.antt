@@ -1,19 +1,28 @@
--- Document 01, 'Lists of calls': sample calls and hops handed to a chain one after another, and what they leave. Definitions only.
+-- Document 01, 'Lists of calls': sample calls and hops handed to a chain one after another, what they leave, and demand 3 as a record with a part for each of its sentences. Definitions only.
 use mathlib.Core.Path.{_≡_}
 use mathlib.Core.Bool.{Bool, true, false}
 use mathlib.Core.List.{List, [], _∷_, _++_}
-use Prim.Native.Nat.{ℕ, _*_}
-use lib.ListN.{take, replicate}
+use Prim.Native.Nat.{ℕ, _+_, _≤_}
+use lib.ListN.{length, take}
 use lib.Ieee.{Float}
 use Rattle.rules.specs.Constants.{zeroF}
+use Rattle.rules.specs.Iq.{off, apply}
+use Rattle.rules.specs.Log.{Stage, Mark, ringNumber, repairsOf}
 use Rattle.rules.specs.Monitor.{Hop, Answer}
+use Rattle.rules.specs.Chain.{released, heldOf, ringOf, impulseEvents, repairRing, longRunsOf, dcLevel, settledBy, evidence, lastWords}
+use Rattle.log.specs.View.{ringIn, marksAt}
+use Rattle.iq.specs.View.{modeOf, settledOf}
 use Rattle.image.specs.Observe as monitor
 use Rattle.config.specs.declared.ConditioningConfig.{ConditioningConfig}
+use Rattle.config.specs.Config.{configOf}
 use Rattle.state.specs.declared.InputConditioner.{InputConditioner}
-use Rattle.condition.specs.Making.{freshState}
+use Rattle.condition.specs.Making.{freshState, makingSaid, madeWords}
+use Rattle.condition.specs.Reading.{stateLevel}
 use Rattle.condition.specs.Calls.{Machine, machineOf, newPart, Said, refused, ready, Outcome, called}
 use Rattle.condition.specs.Hops.{saidHop, Hopped, hopOf}
 use Rattle.condition.specs.HopKeeps.{isAnswered}
+use Rattle.undo.specs.Undoing as undo
+use Rattle.undo.specs.Undoing.{undoOf}
 
 -- ---- operations
 
@@ -67,11 +76,11 @@ afterCall y c gs gp gr slice o (ready k) =
 afterCall y c gs gp gr slice o (refused r) =
     record {
       machine =
-        record {
-          state = kept gs (y .machine .state) (o .machine .state);
-          spans = kept gp (y .machine .spans) (o .machine .spans);
-          repairs = kept gr (y .machine .repairs) (o .machine .repairs);
-        };
+          record {
+            state = kept gs (y .machine .state) (o .machine .state);
+            spans = kept gp (y .machine .spans) (o .machine .spans);
+            repairs = kept gr (y .machine .repairs) (o .machine .repairs);
+          };
       words = y .words;
       brought = y .brought;
       released = y .released;
@@ -147,10 +156,70 @@ abbrev pub Proper : Chain → List Operation → Type 0
 Proper y [] = Unit {0}
 Proper y (o ∷ os) = Found y o × Proper (next y o) os
 
--- ---- a chain that was made, with lent words of 0
+-- ---- a chain that was made
 
-abbrev pub freshMachine : ConditioningConfig → Machine
-freshMachine g = machineOf (freshState g) (replicate (24 * g .spans) 0) (replicate (6 * g .repairs) 0)
+-- as making leaves it: its state, and the lent words, whatever stood in them
+unfoldable pub madeChain : ConditioningConfig → List ℕ → List ℕ → List Float → Chain
+madeChain g spans repairs words =
+    let said = makingSaid (configOf g) (length spans) (length repairs) (length words) in
+    record {
+      machine = machineOf (freshState g) (madeWords 0 said spans) (madeWords 0 said repairs);
+      words = madeWords zeroF said words;
+      brought = [];
+      released = [];
+      hops = [];
+      answers = [];
+    }
 
-unfoldable pub freshChain : ConditioningConfig → Chain
-freshChain g = record { machine = freshMachine g; words = replicate (4 * g .n) zeroF; brought = []; released = []; hops = []; answers = [] }
+-- ---- what the rules give for the whole input: the samples brought and the hops
+
+pub record ByRules (g : ConditioningConfig) (y : Chain) : Type 0 where
+  -- 'joined released samples, bits included'
+  pub released : y .released ≡ released (configOf g) (y .brought)
+  -- 'Log, as the last state and stores hold it: these three' (released, seen, held)
+  pub seen : y .machine .state .seen ≡ length (y .brought)
+  pub count : y .machine .state .released ≡ length (y .released)
+  pub held : y .machine .state .held ≡ heldOf (configOf g) (y .brought)
+  -- 'every count and ring head, all span .. words'
+  pub rings : (st : Stage) (m : Mark) → marksAt (g .spans) (record { log = y .machine .state .log; spans = y .machine .spans }) (ringNumber st m) ≡ ringOf (configOf g) (y .brought) (y .hops) st m
+  -- 'and repair words'
+  pub repairs : ringIn (y .machine .state .repairs) (y .machine .repairs) ≡ repairRing (configOf g) (y .brought)
+  pub longruns : y .machine .state .longruns ≡ longRunsOf (configOf g) (y .brought)
+  -- 'DC level, what IQ settled'
+  pub level : stateLevel (y .machine .state) ≡ dcLevel (configOf g) (y .brought)
+  pub settled : settledOf (y .machine .state .settings .iq) ≡ settledBy (configOf g)
+  -- 'Evidence: the accepted hops' answers in order and the last monitor words.'
+  pub answers : y .answers ≡ evidence (configOf g) (y .hops)
+  pub words : y .words ≡ lastWords (configOf g) (y .hops)
+
+-- ---- number 5
+
+pub record NoFive (y : Chain) : Type 0 where
+  pub call : (slice : List ℕ) → called (y .machine) slice .said ≡ refused (5 ∷ []) → ⊥
+  pub hop : (h : Hop) → saidHop (hopOf (y .machine .state) (h .channels) (h .start) (y .machine .spans) (y .words) .called .answer) ≡ monitor.refused (5 ∷ []) → ⊥
+  pub undo : (samples : List ℕ) (first : ℕ) → undoOf (y .machine .state) (y .machine .repairs) samples first .said ≡ undo.refused (5 ∷ []) → ⊥
+
+-- ---- DEMAND 3
+
+-- hops one after another, each handed what the one before left
+abbrev pub ownHops : List Hop → List Operation
+ownHops [] = []
+ownHops (h ∷ hs) = hop own own own h ∷ ownHops hs
+
+-- two lists of operations, from chains y and z that were made with one configuration
+pub record OneRecord (g : ConditioningConfig) (y z : Chain) (os ps : List Operation) : Type 0 where
+  -- 'they share joined released samples, bits included, and every part of the final log and evidence'
+  pub alike : run y os ≡ run z ps
+  -- 'All these are as demand 2's rules give them for the whole input.'
+  pub ruled : ByRules g (run y os)
+  -- 'On a fresh chain one call with all the samples is accepted: with those hops, at any points, it is such a list too.'
+  pub once : (before behind : List Hop) → before ++ behind ≡ run y os .hops
+      → let all = ownHops before ++ (call own own own (run y os .brought) ∷ ownHops behind) in Proper y all × (run y all ≡ run y os)
+  -- 'No operation handed the state and stores that such a list leaves meets number 5.'
+  pub no-five : NoFive (run y os)
+  -- 'After each list seen = released + held, held at most 21.'
+  pub sum : run y os .machine .state .seen ≡ run y os .machine .state .released + run y os .machine .state .held
+  pub few : run y os .machine .state .held ≤ 21
+  -- 'Where impulse repair alone applies, the other stages are off and no repair was dropped, undoing repairs on the joined released samples, from sample 0, gives each its input bits again.'
+  pub undone : modeOf (g .impulse) ≡ apply → modeOf (g .dc) ≡ off → modeOf (g .iq) ≡ off → length (repairsOf (impulseEvents (configOf g) (run y os .brought))) ≤ g .repairs
+      → undoOf (run y os .machine .state) (run y os .machine .repairs) (run y os .released) 0 ≡ record { said = undo.restored; samples = take (length (run y os .released)) (run y os .brought) }

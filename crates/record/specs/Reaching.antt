@@ -35,7 +35,7 @@ use Rattle.condition.specs.MakingLaws.{settled-again}
 use Rattle.condition.specs.Calls.{Machine, machineOf, notesIn, newPart, callRefusal, Said, refused, ready, Outcome, taken, declined, called, process, handsOn}
 use Rattle.condition.specs.Hops as hops
 use Rattle.condition.specs.Hops.{isObserving, isOffIq, uncertain, saidHop, Hopped, hopOf}
-use Rattle.record.specs.Lists.{Given, own, other, handed, kept, Operation, call, hop, Chain, afterCall, callOn, afterHop, hopOn, next, run, IsOwn, isReady, Found, Proper, freshMachine, freshChain}
+use Rattle.record.specs.Lists.{Given, own, other, handed, kept, Operation, call, hop, Chain, afterCall, callOn, afterHop, hopOn, next, run, IsOwn, isReady, Found, Proper}
 use Rattle.record.specs.RingLaws.{call-rings}
 use Rattle.record.specs.Append.{process-append, hands-append}
 use Rattle.record.specs.Hopping.{withHops, process-hops, hands-hops}
@@ -43,6 +43,14 @@ use Rattle.record.specs.Accepted.{ready-none, refused-keeps, passes, usa
 use Rattle.condition.specs.CallTests.{taken-by}
 use Rattle.condition.specs.HopLaws.{watched-by, hop-taken}
 use Rattle.condition.specs.HopKeeps.{isAnswered, Keeps, hop-keeps}
+
+-- ---- a fresh chain
+
+abbrev pub freshMachine : ConditioningConfig → Machine
+freshMachine g = machineOf (freshState g) (replicate (24 * g .spans) 0) (replicate (6 * g .repairs) 0)
+
+unfoldable pub freshChain : ConditioningConfig → Chain
+freshChain g = record { machine = freshMachine g; words = replicate (4 * g .n) zeroF; brought = []; released = []; hops = []; answers = [] }
 
 -- ---- the chain after samples xs and hops hs
 
@@ -114,19 +122,19 @@ call-kept y gs gp gr slice e = go (callOn y gs gp gr slice .said) refl
     go (ready n) q = absurd (false≢true (sym e ∙ ap isReady q))
     go (refused l) q =
         λ i.
-          record {
-            machine =
+        record {
+          machine =
               record {
                 state = kept-same gs (y .machine .state) (callOn y gs gp gr slice .machine .state) (ap (λ (m : Machine). m .state) k) i;
                 spans = kept-same gp (y .machine .spans) (callOn y gs gp gr slice .machine .spans) (ap (λ (m : Machine). m .spans) k) i;
                 repairs = kept-same gr (y .machine .repairs) (callOn y gs gp gr slice .machine .repairs) (ap (λ (m : Machine). m .repairs) k) i;
               };
-            words = y .words;
-            brought = y .brought;
-            released = y .released;
-            hops = y .hops;
-            answers = y .answers;
-          }
+          words = y .words;
+          brought = y .brought;
+          released = y .released;
+          hops = y .hops;
+          answers = y .answers;
+        }
 
 hop-kept : (y : Chain) (gs : Given InputConditioner) (gp : Given (List ℕ)) (gw : Given (List Float)) (h : Hop) → isAnswered (saidHop (hopOn y gs gp gw h .called .answer)) ≡ false → next y (hop gs gp gw h) ≡ y
 unfolding next
@@ -134,25 +142,25 @@ hop-kept y gs gp gw h e = go (saidHop (hopOn y gs gp gw h .called .answer)) refl
   where
     same : (t : InputConditioner) (p : List ℕ) (w : List Float) → t ≡ handed gs (y .machine .state) → p ≡ handed gp (y .machine .spans) → w ≡ handed gw (y .words)
         → _≡_ {A = Chain}
-          (record {
-            machine = machineOf (kept gs (y .machine .state) t) (kept gp (y .machine .spans) p) (y .machine .repairs);
-            words = kept gw (y .words) w;
-            brought = y .brought;
-            released = y .released;
-            hops = y .hops;
-            answers = y .answers;
-          })
-          y
+        (record {
+          machine = machineOf (kept gs (y .machine .state) t) (kept gp (y .machine .spans) p) (y .machine .repairs);
+          words = kept gw (y .words) w;
+          brought = y .brought;
+          released = y .released;
+          hops = y .hops;
+          answers = y .answers;
+        })
+        y
     same t p w a b d =
         λ i.
-          record {
-            machine = machineOf (kept-same gs (y .machine .state) t a i) (kept-same gp (y .machine .spans) p b i) (y .machine .repairs);
-            words = kept-same gw (y .words) w d i;
-            brought = y .brought;
-            released = y .released;
-            hops = y .hops;
-            answers = y .answers;
-          }
+        record {
+          machine = machineOf (kept-same gs (y .machine .state) t a i) (kept-same gp (y .machine .spans) p b i) (y .machine .repairs);
+          words = kept-same gw (y .words) w d i;
+          brought = y .brought;
+          released = y .released;
+          hops = y .hops;
+          answers = y .answers;
+        }
 
     all : Keeps (handed gs (y .machine .state)) (handed gp (y .machine .spans)) (handed gw (y .words)) (hopOn y gs gp gw h)
     all = hop-keeps (handed gs (y .machine .state)) (h .channels) (h .start) (handed gp (y .machine .spans)) (handed gw (y .words)) e
@@ -219,15 +227,15 @@ module _ (g : ConditioningConfig) (some : 0 < g .spans) where
 
   chain-again : (xs new : List ℕ) (hs : List Hop)
       → _≡_ {A = Chain}
-        (record {
-          machine = chainAt g (xs ++ new) hs .machine;
-          words = chainAt g xs hs .words;
-          brought = xs ++ new;
-          released = handsOn (freshState g) (xs ++ new);
-          hops = hs;
-          answers = evidence (configOf g) hs;
-        })
-        (chainAt g (xs ++ new) hs)
+      (record {
+        machine = chainAt g (xs ++ new) hs .machine;
+        words = chainAt g xs hs .words;
+        brought = xs ++ new;
+        released = handsOn (freshState g) (xs ++ new);
+        hops = hs;
+        answers = evidence (configOf g) hs;
+      })
+      (chainAt g (xs ++ new) hs)
   unfolding chainAt
   chain-again xs new hs = refl
 
@@ -248,24 +256,25 @@ module _ (g : ConditioningConfig) (some : 0 < g .spans) where
       let ys = handsOn c new in
       let p = passes c slice (m .spans) (m .repairs) e in
       let few = ltb-false (2 ^ 48 - c .seen) (length slice - c .held) (p .few) in
-      let at = chain-is xs hs in
-      (ap (λ (o : Outcome). afterCall y c own own own slice o (o .said)) (taken-by c slice (m .spans) (m .repairs) e)
-      ∙ (λ i.
+      let at = chain-is xs hs in (
+        ap (λ (o : Outcome). afterCall y c own own own slice o (o .said)) (taken-by c slice (m .spans) (m .repairs) e)
+            ∙ (λ i.
+            record {
+              machine = machine-more xs new hs i;
+              words = y .words;
+              brought = at .brought i ++ new;
+              released = (ap (λ (l : List ℕ). y .released ++ l) (take-at ys (drop (length ys) slice) (length ys) refl) ∙ ap (λ (l : List ℕ). l ++ ys) (at .released) ∙ released-more xs new hs) i;
+              hops = at .hops i;
+              answers = at .answers i;
+            })
+            ∙ chain-again xs new hs,
         record {
-          machine = machine-more xs new hs i;
-          words = y .words;
-          brought = at .brought i ++ new;
-          released = (ap (λ (l : List ℕ). y .released ++ l) (take-at ys (drop (length ys) slice) (length ys) refl) ∙ ap (λ (l : List ℕ). l ++ ys) (at .released) ∙ released-more xs new hs) i;
-          hops = at .hops i;
-          answers = at .answers i;
-        })
-      ∙ chain-again xs new hs,
-      record {
-        usable = usable-append xs new (r .usable) (scan-usable (c .held) new (p .fine));
-        few = omega (arith, length-append xs new, length-drop (c .held) slice, few, seen-at xs hs, r .few);
-        order = r .order;
-        watching = r .watching;
-      })
+          usable = usable-append xs new (r .usable) (scan-usable (c .held) new (p .fine));
+          few = omega (arith, length-append xs new, length-drop (c .held) slice, few, seen-at xs hs, r .few);
+          order = r .order;
+          watching = r .watching;
+        },
+      )
 
   -- ---- a hop
 
@@ -284,7 +293,7 @@ module _ (g : ConditioningConfig) (some : 0 < g .spans) where
     unfolding openWindow
     window-next = window-append (g .n) (windowLength (g .fs)) [] hs (h ∷ [])
 
-    end-next : endAt (hs ++ (h ∷ [])) ≡ hopEnd (g .n) h
+    pub end-next : endAt (hs ++ (h ∷ [])) ≡ hopEnd (g .n) h
     unfolding lastEnd
     end-next = end-append (g .n) 0 hs (h ∷ [])
 
@@ -327,36 +336,36 @@ module _ (g : ConditioningConfig) (some : 0 < g .spans) where
           let base = notesIn (core g xs) .logged in
           let observes = isObserving (settledOf (freshSettings g .iq)) in
           let l : foldl (uncertain cap) (foldl (uncertain cap) base (hopMarks g hs)) (cond observes (hops.suspectedBy (answerOf answerAt)) []) ≡ foldl (uncertain cap) base (hopMarks g (hs ++ (h ∷ []))) =
-            sym (foldl-append (uncertain cap) base (hopMarks g hs) (cond observes (hops.suspectedBy (answerOf answerAt)) []))
-            ∙ ap (λ (l : List Span). foldl (uncertain cap) base (hopMarks g hs ++ cond observes l [])) (suspected-is answerAt)
-            ∙ ap (λ (b : Bool). foldl (uncertain cap) base (hopMarks g hs ++ cond b (suspectedSpan answerAt) [])) (ap isObserving settled-at)
-            ∙ ap (foldl (uncertain cap) base) (sym marks-next) in
+          sym (foldl-append (uncertain cap) base (hopMarks g hs) (cond observes (hops.suspectedBy (answerOf answerAt)) []))
+          ∙ ap (λ (l : List Span). foldl (uncertain cap) base (hopMarks g hs ++ cond observes l [])) (suspected-is answerAt)
+          ∙ ap (λ (b : Bool). foldl (uncertain cap) base (hopMarks g hs ++ cond b (suspectedSpan answerAt) [])) (ap isObserving settled-at)
+          ∙ ap (foldl (uncertain cap) base) (sym marks-next) in
           let w : nextWindow (g .n) (windowLength (g .fs)) (windowAt hs) h ≡ windowAt (hs ++ (h ∷ [])) = sym window-next in
           let e : hopEnd (g .n) h ≡ endAt (hs ++ (h ∷ [])) = sym end-next in
           λ i.
-            record {
-              called =
+          record {
+            called =
                 record {
                   state =
-                    record {
-                      settings = freshSettings g;
-                      seen = core g xs .state .seen;
-                      released = core g xs .state .released;
-                      held = core g xs .state .held;
-                      suppressor = core g xs .state .suppressor;
-                      blocker = core g xs .state .blocker;
-                      monitor = windowState (w i) (e i);
-                      log = l i .log;
-                      repairs = core g xs .state .repairs;
-                      longruns = core g xs .state .longruns;
-                    };
+                      record {
+                        settings = freshSettings g;
+                        seen = core g xs .state .seen;
+                        released = core g xs .state .released;
+                        held = core g xs .state .held;
+                        suppressor = core g xs .state .suppressor;
+                        blocker = core g xs .state .blocker;
+                        monitor = windowState (w i) (e i);
+                        log = l i .log;
+                        repairs = core g xs .state .repairs;
+                        longruns = core g xs .state .longruns;
+                      };
                   answer = hops.answerOf (answerOf answerAt);
                 };
-              spans = l i .spans;
-              words = monitorWords (g .n) (w i);
-            }
+            spans = l i .spans;
+            words = monitorWords (g .n) (w i);
+          }
 
-  monitor-end : (xs : List ℕ) (hs : List Hop) → chainAt g xs hs .machine .state .monitor .end ≡ endAt hs
+  pub monitor-end : (xs : List ℕ) (hs : List Hop) → chainAt g xs hs .machine .state .monitor .end ≡ endAt hs
   unfolding chainAt withHops
   monitor-end xs hs = end-of (windowAt hs) (endAt hs)
 
@@ -370,26 +379,26 @@ module _ (g : ConditioningConfig) (some : 0 < g .spans) where
 
   hop-again : (xs : List ℕ) (hs : List Hop) (h : Hop)
       → _≡_ {A = Chain}
-        (record {
-          machine = machineOf (chainAt g xs (hs ++ (h ∷ [])) .machine .state) (chainAt g xs (hs ++ (h ∷ [])) .machine .spans) (chainAt g xs hs .machine .repairs);
-          words = chainAt g xs (hs ++ (h ∷ [])) .words;
-          brought = chainAt g xs hs .brought;
-          released = chainAt g xs hs .released;
-          hops = chainAt g xs hs .hops ++ (h ∷ []);
-          answers = chainAt g xs hs .answers ++ (answerAt hs h ∷ []);
-        })
-        (chainAt g xs (hs ++ (h ∷ [])))
+      (record {
+        machine = machineOf (chainAt g xs (hs ++ (h ∷ [])) .machine .state) (chainAt g xs (hs ++ (h ∷ [])) .machine .spans) (chainAt g xs hs .machine .repairs);
+        words = chainAt g xs (hs ++ (h ∷ [])) .words;
+        brought = chainAt g xs hs .brought;
+        released = chainAt g xs hs .released;
+        hops = chainAt g xs hs .hops ++ (h ∷ []);
+        answers = chainAt g xs hs .answers ++ (answerAt hs h ∷ []);
+      })
+      (chainAt g xs (hs ++ (h ∷ [])))
   unfolding chainAt withHops
   hop-again xs hs h =
       λ i.
-        record {
-          machine = chainAt g xs (hs ++ (h ∷ [])) .machine;
-          words = chainAt g xs (hs ++ (h ∷ [])) .words;
-          brought = xs;
-          released = handsOn (freshState g) xs;
-          hops = hs ++ (h ∷ []);
-          answers = sym (evidence-next hs h) i;
-        }
+      record {
+        machine = chainAt g xs (hs ++ (h ∷ [])) .machine;
+        words = chainAt g xs (hs ++ (h ∷ [])) .words;
+        brought = xs;
+        released = handsOn (freshState g) xs;
+        hops = hs ++ (h ∷ []);
+        answers = sym (evidence-next hs h) i;
+      }
 
   pub own-hop : (xs : List ℕ) (hs : List Hop) (h : Hop) → Reached g xs hs
       → let y = chainAt g xs hs in Taken (y .machine .state) (h .channels) (h .start) (y .machine .spans) (y .words)
@@ -401,25 +410,26 @@ module _ (g : ConditioningConfig) (some : 0 < g .spans) where
       let n = ap (λ (z : Settings). z .n) (size-at xs hs) ∙ n-is in
       let on = ap isOffIq (sym settled-at ∙ ap (λ (z : Settings). settledOf (z .iq)) (sym (size-at xs hs))) ∙ t .watching in
       let a : Accepted (g .n) (endAt hs) h =
-        record {
-          some = ap (λ (k : ℕ). image.isNone k (h .channels)) (sym n) ∙ t .some;
-          start = ap (λ (k : ℕ). badStart k (h .start) .holds) (sym (monitor-end xs hs)) ∙ t .starts;
-          parts = t .parts;
-        } in
+      record {
+        some = ap (λ (k : ℕ). image.isNone k (h .channels)) (sym n) ∙ t .some;
+        start = ap (λ (k : ℕ). badStart k (h .start) .holds) (sym (monitor-end xs hs)) ∙ t .starts;
+        parts = t .parts;
+      } in
       let q = hop-taken c (h .channels) (h .start) (y .machine .spans) (y .words) (t .none)
-        ∙ ap (hops.followed c (y .machine .spans)) (seen-is hs h xs (r .order) on a)
-        ∙ machine-hop hs h xs (r .order) on a in
-      (ap (λ (o : Hopped). afterHop y own own own h o (saidHop (o .called .answer))) q
-      ∙ ap
-        (afterHop y own own own h
-        (record {
-          called = record { state = chainAt g xs (hs ++ (h ∷ [])) .machine .state; answer = hops.answerOf (answerOf (answerAt hs h)) };
-          spans = chainAt g xs (hs ++ (h ∷ [])) .machine .spans;
-          words = chainAt g xs (hs ++ (h ∷ [])) .words;
-        }))
-        (said-is (answerAt hs h))
-      ∙ hop-again xs hs h,
-      record { usable = r .usable; few = r .few; order = order-next hs h (r .order) a; watching = λ e. absurd (false≢true (sym on ∙ e)) })
+      ∙ ap (hops.followed c (y .machine .spans)) (seen-is hs h xs (r .order) on a)
+      ∙ machine-hop hs h xs (r .order) on a in (
+        ap (λ (o : Hopped). afterHop y own own own h o (saidHop (o .called .answer))) q
+            ∙ ap
+            (afterHop y own own own h
+            (record {
+              called = record { state = chainAt g xs (hs ++ (h ∷ [])) .machine .state; answer = hops.answerOf (answerOf (answerAt hs h)) };
+              spans = chainAt g xs (hs ++ (h ∷ [])) .machine .spans;
+              words = chainAt g xs (hs ++ (h ∷ [])) .words;
+            }))
+            (said-is (answerAt hs h))
+            ∙ hop-again xs hs h,
+        record { usable = r .usable; few = r .few; order = order-next hs h (r .order) a; watching = λ e. absurd (false≢true (sym on ∙ e)) },
+      )
 
   -- ---- any operation
 
@@ -464,7 +474,7 @@ module _ (g : ConditioningConfig) (some : 0 < g .spans) where
       go true e = by-hop xs hs gs gp gw h r e (f e .0) (f e .1 .0) (f e .1 .1)
       go false e = record { samples = xs; hops = hs; is = hop-kept (chainAt g xs hs) gs gp gw h e; reached = r }
 
-  ends : (xs : List ℕ) (hs : List Hop) (os : List Operation) → Reached g xs hs → Proper (chainAt g xs hs) os → Leads (run (chainAt g xs hs) os)
+  pub ends : (xs : List ℕ) (hs : List Hop) (os : List Operation) → Reached g xs hs → Proper (chainAt g xs hs) os → Leads (run (chainAt g xs hs) os)
   ends xs hs [] r p = record { samples = xs; hops = hs; is = refl; reached = r }
   ends xs hs (o ∷ os) r p =
       let n = leads xs hs o r (p .0) in

@@ -125,7 +125,7 @@ chain-back k xs = go (runs (k .impulseMode))
 
 -- a state whose repair ring stands as the rules say for a configuration and an input
 module _ (k : Config) (c : InputConditioner) (repairs xs : List ℕ) (long : length xs ≤ 2 ^ 48) (f : stateFits c ≡ true) (same : c .settings .repairs ≡ k .repairs) (ring : ringIn (c .repairs) repairs ≡ repairRing k xs) where
-  chain-made : Made c repairs (repairsOf (impulseEvents k xs))
+  pub chain-made : Made c repairs (repairsOf (impulseEvents k xs))
   unfolding repairRing
   chain-made =
       record {

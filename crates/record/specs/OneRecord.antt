@@ -1,0 +1,448 @@
+-- DEMAND 3: one record, however a signal is cut into calls. The statement is the record `OneRecord` of Lists.antt. Assumes nothing.
+use mathlib.Core.Path.{_≡_, refl, ap, sym, _∙_, subst}
+use mathlib.Core.Bool.{Bool, true, false, cond, not, false≢true}
+use mathlib.Core.List.{List, [], _∷_, _++_, map, append-nil, append-assoc}
+use Prim.Native.Nat.{ℕ, zero, suc, _+_, _-_, _*_, _^_, _≤_, _<_, min}
+use native.Mathlib.Omega.{arith}
+use lib.Dec.{T, eqb, ltb}
+use borrow.Author.Tests.{eq-eqb, eqb-true, le-ltb}
+use lib.ListN.{length, take, drop}
+use lib.Ieee.{Float}
+use Rattle.complex.specs.View.{view64}
+use Rattle.rules.specs.Dc.{corner, firstLevel, levelAfter, blockedAll}
+use Rattle.rules.specs.Guard.{usable, firstUnusableFrom}
+use Rattle.rules.specs.Iq.{off, isOff, settled, correctedBy}
+use Rattle.rules.specs.Log.{repairsOf}
+use Rattle.rules.specs.Monitor.{Hop, hopEnd}
+use Rattle.rules.specs.Refusals.{badStart, tooMany, unusableAt, anyUnusable, firstBeyondFrom}
+use Rattle.rules.specs.Chain as rules
+use Rattle.rules.specs.Chain.{isApply, runs, afterImpulse, afterDc, impulseEvents, dcLevel, levelIs, noLevel, settledBy, evidence, lastWords}
+use Rattle.part_limit.specs.Limit.{returned}
+use Rattle.impulse.specs.Stage.{Usable}
+use Rattle.dc.specs.declared.DcBlocker.{DcBlocker}
+use Rattle.dc.specs.Blocker.{blockerOf}
+use Rattle.iq.specs.Maps.{unchanged}
+use Rattle.iq.specs.View.{modeOf, calibratedOf}
+use Rattle.image.specs.Observe as image
+use Rattle.image.specs.Hops.{Accepted, InOrder, lastEnd}
+use Rattle.image.specs.WordsLaws.{length-words}
+use Rattle.config.specs.declared.ConditioningConfig.{ConditioningConfig}
+use Rattle.config.specs.Config.{configOf}
+use Rattle.state.specs.declared.InputConditioner.{InputConditioner}
+use Rattle.state.specs.declared.Settings.{Settings}
+use Rattle.state.specs.Fits.{heldBy}
+use Rattle.condition.specs.Making.{freshState, freshSettings, Said, made, makingSaid}
+use Rattle.condition.specs.Calls as call
+use Rattle.condition.specs.Calls.{Machine, newPart, callRefusal, refused, ready, Outcome, taken, declined, called, impulseOut, process, handsOn}
+use Rattle.condition.specs.CallTests.{callNumber, refusal-by}
+use Rattle.condition.specs.Accepting.{hands-length}
+use Rattle.condition.specs.Hops as hop
+use Rattle.image.specs.declared.HopAnswer.{HopAnswer}
+use Rattle.image.specs.declared.HopAnswer.the-variants as answer
+use Rattle.rules.specs.Undo.{undoneAll}
+use Rattle.condition.specs.Hops.{isOffIq, saidHop, Hopped, hopOf, hopRefusal}
+use Rattle.condition.specs.HopLaws as hopLaws
+use Rattle.condition.specs.HopKeeps.{isAnswered}
+use Rattle.undo.specs.Undoing as undo
+use Rattle.undo.specs.Undoing.{undoOf, undoRefusal}
+use Rattle.undo.specs.UndoLaws.{chain-made, made-length, chain-accepted, chain-returns}
+use Rattle.record.specs.Lists.{Given, own, other, Operation, Chain, next, run, Proper, Found, ByRules, NoFive, ownHops, OneRecord, madeChain}
+use Rattle.record.specs.Lists as list
+use Rattle.record.specs.Hopping.{withHops, hopLogged, uncertain-rings}
+use Rattle.record.specs.RingLaws.{call-rings}
+use Rattle.record.specs.Accepted.{Taken}
+use Rattle.record.specs.Reaching.{freshMachine, freshChain, hopMarks, core, chainAt, Reached, Leads, own-call, own-hop, ends, fresh-rings, end-next, monitor-end}
+use Rattle.record.specs.ByRules.{released-is, rings-are}
+use Rattle.record.specs.Made.{Fit, made-fit}
+use Rattle.record.specs.Good.{seen-is, released-count, held-is, repair-ring, long-runs, blocker-is, settled-is, state-good, spans-good, words-fit}
+use Rattle.record.specs.GoodStages.{held-most}
+use Rattle.record.specs.Fresh.{fresh-is, made-is}
+
+brought-is : (g : ConditioningConfig) (xs : List ℕ) (hs : List Hop) → chainAt g xs hs .brought ≡ xs
+unfolding chainAt
+brought-is g xs hs = refl
+
+hops-is : (g : ConditioningConfig) (xs : List ℕ) (hs : List Hop) → chainAt g xs hs .hops ≡ hs
+unfolding chainAt
+hops-is g xs hs = refl
+
+size-is : (g : ConditioningConfig) (xs : List ℕ) (hs : List Hop) → chainAt g xs hs .machine .state .settings .n ≡ g .n
+unfolding chainAt withHops core process freshState freshSettings
+size-is g xs hs = refl
+
+-- ---- lists of hops
+
+cons-not : {A : Type 0} (x : A) (l : List A) → x ∷ l ≡ [] → ⊥
+cons-not x l e = let h = ap length e in omega arith
+
+not-off : (b : Bool) (h : Hop) (es : List Hop) → (b ≡ true → h ∷ es ≡ []) → b ≡ false
+not-off true h es w = absurd (cons-not h es (w refl))
+not-off false h es w = refl
+
+no-front : (a b : List Hop) → a ++ b ≡ [] → a ≡ []
+no-front [] b e = refl
+no-front (h ∷ a) b e = absurd (cons-not h (a ++ b) e)
+
+no-back : (a b : List Hop) → a ++ b ≡ [] → b ≡ []
+no-back [] b e = e
+no-back (h ∷ a) b e = absurd (cons-not h (a ++ b) e)
+
+none-held : (b : Bool) → heldBy b 0 ≡ 0
+none-held true = refl
+none-held false = refl
+
+-- ---- the chain after samples and hops
+
+module _ (g : ConditioningConfig) (f : Fit g) (xs : List ℕ) (hs : List Hop) (r : Reached g xs hs) where
+  abbrev chain : Chain
+  chain = chainAt g xs hs
+
+  -- ---- the lengths of its stores
+
+  spans-long : length (chainAt g xs hs .machine .spans) ≡ 24 * chainAt g xs hs .machine .state .settings .spans
+  unfolding chainAt withHops core process freshState freshSettings
+  spans-long =
+      let t = uncertain-rings (g .spans) (call.loggedAfter (freshMachine g) xs) (hopMarks g hs) (call-rings (freshMachine g) xs (fresh-rings g (f .limits .some-spans))) .twelve .store in
+      omega (arith, t)
+
+  same-repairs : chainAt g xs hs .machine .state .settings .repairs ≡ g .repairs
+  unfolding chainAt withHops core process freshState freshSettings
+  same-repairs = refl
+
+  repairs-long : length (chainAt g xs hs .machine .repairs) ≡ 6 * chainAt g xs hs .machine .state .settings .repairs
+  repairs-long =
+      made-length (chain .machine .state) (chain .machine .repairs) (repairsOf (impulseEvents (configOf g) xs))
+      (chain-made (configOf g) (chain .machine .state) (chain .machine .repairs) xs (r .few) (state-good g f xs hs r) same-repairs (repair-ring g f xs hs r))
+
+  words-long : length (chainAt g xs hs .words) ≡ 4 * chainAt g xs hs .machine .state .settings .n
+  unfolding chainAt withHops core process freshState freshSettings
+  words-long = length-words (g .n) _
+
+  -- ---- a call is refused for its own slice alone
+
+  call-number : (slice : List ℕ) → let c = chainAt g xs hs .machine .state in
+      callRefusal c slice (chainAt g xs hs .machine .spans) (chainAt g xs hs .machine .repairs)
+      ≡ callNumber true true true true (ltb (length slice) (c .held)) (tooMany (c .seen) (length slice - c .held) .holds) (anyUnusable (c .held) (newPart c slice) .holds)
+  call-number slice =
+      refusal-by (chain .machine .state) slice (chain .machine .spans) (chain .machine .repairs) true true true true _ _ _
+      (state-good g f xs hs r) (eq-eqb _ _ repairs-long) (eq-eqb _ _ spans-long) (spans-good g f xs hs r) refl refl refl
+
+  -- and a hop for itself
+  hop-number : hopRefusal (chainAt g xs hs .machine .state) (chainAt g xs hs .machine .spans) (chainAt g xs hs .words) ≡ 0
+  hop-number =
+      sym
+      (hopLaws.refusal-by (chain .machine .state) (chain .machine .spans) (chain .words) true true true true true (state-good g f xs hs r) (eq-eqb _ _ spans-long) (eq-eqb _ _ words-long)
+      (spans-good g f xs hs r) (words-fit g f xs hs r))
+
+  undo-number : undoRefusal (chainAt g xs hs .machine .state) (chainAt g xs hs .machine .repairs) ≡ 0
+  undo-number = chain-accepted (configOf g) (chain .machine .state) (chain .machine .repairs) xs (r .few) (state-good g f xs hs r) same-repairs (repair-ring g f xs hs r)
+
+  -- ---- by the rules
+
+  level-by : (b : Bool) (a z : DcBlocker) → cond b (levelIs (view64 (cond b a z .dc))) noLevel ≡ cond b (levelIs (view64 (a .dc))) noLevel
+  level-by true a z = refl
+  level-by false a z = refl
+
+  dc-is : chainAt g xs hs .machine .state .settings .dc ≡ g .dc
+  unfolding chainAt withHops core process freshState freshSettings
+  dc-is = refl
+
+  level-same : cond (runs (modeOf (chainAt g xs hs .machine .state .settings .dc))) (levelIs (view64 (chainAt g xs hs .machine .state .blocker .dc))) noLevel ≡ dcLevel (configOf g) xs
+  unfolding dcLevel
+  level-same =
+      let a = blockerOf (corner (g .fs)) (levelAfter (corner (g .fs)) firstLevel (afterImpulse (configOf g) xs)) in
+      let z = blockerOf (corner (g .fs)) firstLevel in
+      (λ i. cond (runs (modeOf (dc-is i))) (levelIs (view64 (blocker-is g f xs hs r i .dc))) noLevel) ∙ level-by (runs (modeOf (g .dc))) a z
+
+  count-is : chainAt g xs hs .machine .state .released ≡ length (handsOn (freshState g) xs)
+  unfolding chainAt withHops core process freshState
+  count-is = let l = hands-length (freshState g) xs in omega (arith, l)
+
+  pub at-rules : ByRules g (chainAt g xs hs)
+  unfolding chainAt lastWords withHops
+  at-rules =
+      record {
+        released = released-is g (f .blocks) xs (r .usable);
+        seen = seen-is g f xs hs r;
+        count = count-is;
+        held = held-is g f xs hs r;
+        rings = rings-are g (f .blocks) xs (r .usable) (f .limits .some-spans) hs;
+        repairs = repair-ring g f xs hs r;
+        longruns = long-runs g f xs hs r;
+        level = level-same;
+        settled = settled-is g f xs hs r;
+        answers = refl;
+        words = refl;
+      }
+
+  -- ---- number 5 is not met
+
+  -- the number that a call returns
+  abbrev callHead : call.Said → ℕ
+  callHead (ready k) = 0
+  callHead (refused []) = 0
+  callHead (refused (n ∷ l)) = n
+
+  slice-number : (h t u : Bool) → (callNumber true true true true h t u ≡ 5) → ⊥
+  slice-number true t u e = omega arith
+  slice-number false true u e = omega arith
+  slice-number false false true e = omega arith
+  slice-number false false false e = omega arith
+
+  head-returned : (n place : ℕ) → callHead (refused (returned n place)) ≡ n
+  unfolding returned
+  head-returned n place = go (eqb n 0) refl (eqb n 7)
+    where
+      go : (b : Bool) → eqb n 0 ≡ b → (d : Bool) → callHead (refused (cond b [] (cond d (n ∷ place ∷ []) (n ∷ [])))) ≡ n
+      go true e d = sym (eqb-true n 0 e)
+      go false e true = refl
+      go false e false = refl
+
+  no-five-call : (slice : List ℕ) → called (chainAt g xs hs .machine) slice .said ≡ refused (5 ∷ []) → ⊥
+  unfolding called
+  no-five-call slice e = go (eqb n 0) (ap callHead e)
+    where
+      n : ℕ
+      n = callRefusal (chainAt g xs hs .machine .state) slice (chainAt g xs hs .machine .spans) (chainAt g xs hs .machine .repairs)
+
+      place : ℕ
+      place = unusableAt (chainAt g xs hs .machine .state .held) (newPart (chainAt g xs hs .machine .state) slice)
+
+      go : (b : Bool) → callHead (cond b (taken (chainAt g xs hs .machine) slice) (declined (chainAt g xs hs .machine) slice (returned n place)) .said) ≡ 5 → ⊥
+      go true h = omega arith
+      go false h =
+          let c = chainAt g xs hs .machine .state in
+          slice-number (ltb (length slice) (c .held)) (tooMany (c .seen) (length slice - c .held) .holds) (anyUnusable (c .held) (newPart c slice) .holds)
+          (sym (call-number slice) ∙ sym (head-returned n place) ∙ h)
+
+  abbrev hopHead : image.Said → ℕ
+  hopHead image.nothing = 0
+  hopHead (image.answered a) = 0
+  hopHead (image.refused []) = 0
+  hopHead (image.refused (n ∷ l)) = n
+
+  monitor-number : (a : HopAnswer) → hopHead (saidHop (hop.answerOf a)) ≡ 5 → ⊥
+  monitor-number answer.Nothing e = omega arith
+  monitor-number answer.NoReport e = omega arith
+  monitor-number (answer.Report v) e = omega arith
+  monitor-number answer.Early e = omega arith
+  monitor-number (answer.Beyond k) e = omega arith
+
+  no-five-hop : (h : Hop) → saidHop (hopOf (chainAt g xs hs .machine .state) (h .channels) (h .start) (chainAt g xs hs .machine .spans) (chainAt g xs hs .words) .called .answer) ≡ image.refused (5 ∷ []) → ⊥
+  unfolding hop.taken
+  no-five-hop h e =
+      let c = chain .machine .state in
+      monitor-number (hop.watched c (h .channels) (h .start) (chain .words) .seen .answer)
+      (ap (λ (o : Hopped). hopHead (saidHop (o .called .answer))) (sym (hopLaws.hop-taken c (h .channels) (h .start) (chain .machine .spans) (chain .words) hop-number)) ∙ ap hopHead e)
+
+  abbrev undoHead : undo.Said → ℕ
+  undoHead undo.restored = 0
+  undoHead (undo.refused []) = 0
+  undoHead (undo.refused (n ∷ l)) = n
+
+  -- what undo says, by its number
+  undo-said : (c : InputConditioner) (repairs samples : List ℕ) (first : ℕ) → undoRefusal c repairs ≡ 0 → undoHead (undoOf c repairs samples first .said) ≡ 0
+  unfolding undoOf
+  undo-said c repairs samples first e = go (eqb (undoRefusal c repairs) 0) (eq-eqb _ _ e)
+    where
+      go : (b : Bool) → b ≡ true → undoHead (cond {A = undo.Outcome} b (record { said = undo.restored; samples = undoneAll first (undo.recordsOf c repairs) samples }) (record { said = undo.refused (undoRefusal c repairs ∷ []); samples = samples }) .said) ≡ 0
+      go true t = refl
+      go false t = absurd (false≢true t)
+
+  no-five-undo : (samples : List ℕ) (first : ℕ) → undoOf (chainAt g xs hs .machine .state) (chainAt g xs hs .machine .repairs) samples first .said ≡ undo.refused (5 ∷ []) → ⊥
+  no-five-undo samples first e =
+      let a = undo-said (chain .machine .state) (chain .machine .repairs) samples first undo-number in
+      let b = ap undoHead e in
+      omega (arith, a, b)
+
+  pub at-no-five : NoFive (chainAt g xs hs)
+  at-no-five = record { call = no-five-call; hop = no-five-hop; undo = no-five-undo }
+
+  -- ---- seen = released + held
+
+  at-sum : chainAt g xs hs .machine .state .seen ≡ chainAt g xs hs .machine .state .released + chainAt g xs hs .machine .state .held
+  at-sum =
+      let a = seen-is g f xs hs r in
+      let b = released-count g f xs hs r in
+      let d = held-is g f xs hs r in
+      let m = held-most (isApply (modeOf (g .impulse))) (length xs) in
+      omega (arith, a, b, d, m)
+
+  at-few : chainAt g xs hs .machine .state .held ≤ 21
+  at-few = subst (λ (n : ℕ). n ≤ 21) (sym (held-is g f xs hs r)) (go (isApply (modeOf (g .impulse))))
+    where
+      go : (b : Bool) → heldBy b (length xs) ≤ 21
+      go true = omega arith
+      go false = omega arith
+
+  -- ---- undoing repairs
+
+  alone : modeOf (g .dc) ≡ off → modeOf (g .iq) ≡ off → rules.released (configOf g) xs ≡ afterImpulse (configOf g) xs
+  unfolding rules.released afterDc settled
+  alone d q =
+      (λ i. map (correctedBy (settled (q i) (calibratedOf (g .calibration)) (g .centre))) (cond (isApply (d i)) (blockedAll (corner (g .fs)) firstLevel (afterImpulse (configOf g) xs)) (afterImpulse (configOf g) xs)))
+      ∙ sym (unchanged isOff (λ w. refl) (afterImpulse (configOf g) xs))
+
+  at-undone : modeOf (g .dc) ≡ off → modeOf (g .iq) ≡ off → length (repairsOf (impulseEvents (configOf g) xs)) ≤ g .repairs
+      → undoOf (chainAt g xs hs .machine .state) (chainAt g xs hs .machine .repairs) (chainAt g xs hs .released) 0 ≡ record { said = undo.restored; samples = take (length (chainAt g xs hs .released)) xs }
+  at-undone d q h =
+      let e = at-rules .released ∙ ap (rules.released (configOf g)) (brought-is g xs hs) ∙ alone d q in
+      ap (λ (l : List ℕ). undoOf (chain .machine .state) (chain .machine .repairs) l 0) e
+      ∙ chain-returns (configOf g) (chain .machine .state) (chain .machine .repairs) xs (r .few) (state-good g f xs hs r) same-repairs (repair-ring g f xs hs r) h
+      ∙ ap (λ (l : List ℕ). record { said = undo.restored; samples = take (length l) xs }) (sym e)
+
+-- ---- lists of own operations
+
+-- an accepted operation with the chain's own is properly handed
+found-call : (y : Chain) (slice : List ℕ) → Found y (list.call own own own slice)
+unfolding Found
+found-call y slice e = (tt, (tt, tt))
+
+found-hop : (y : Chain) (h : Hop) → Found y (list.hop own own own h)
+unfolding Found
+found-hop y h e = (tt, (tt, tt))
+
+run-append : (y : Chain) (os ps : List Operation) → run y (os ++ ps) ≡ run (run y os) ps
+run-append y [] ps = refl
+run-append y (o ∷ os) ps = run-append (next y o) os ps
+
+proper-append : (y : Chain) (os ps : List Operation) → Proper y os → Proper (run y os) ps → Proper y (os ++ ps)
+proper-append y [] ps p q = q
+proper-append y (o ∷ os) ps p q = (p .0, proper-append (next y o) os ps (p .1) q)
+
+proper-hops : (y : Chain) (hs : List Hop) → Proper y (ownHops hs)
+proper-hops y [] = tt
+proper-hops y (h ∷ hs) = (found-hop y h, proper-hops (next y (list.hop own own own h)) hs)
+
+-- where the scan goes to the end, nothing is unusable
+scan-all : (k : ℕ) (ws : List ℕ) → Usable ws → firstUnusableFrom k ws ≡ k + length ws
+unfolding firstUnusableFrom
+scan-all k [] u = omega arith
+scan-all k (w ∷ ws) u = go (usable w) (u .0) (scan-all (suc k) ws (u .1))
+  where
+    go : (b : Bool) → T b → firstUnusableFrom (suc k) ws ≡ suc k + length ws → cond b (firstUnusableFrom (suc k) ws) k ≡ k + length (w ∷ ws)
+    go true t e = omega (arith, e)
+    go false t e = absurd t
+
+-- hops in order, cut anywhere
+order-cut : (n end : ℕ) (hs es : List Hop) → InOrder n end (hs ++ es) → InOrder n end hs × InOrder n (lastEnd n end hs) es
+unfolding lastEnd
+order-cut n end [] es o = (tt, o)
+order-cut n end (h ∷ hs) es o = let m = order-cut n (hopEnd n h) hs es (o .1) in ((o .0, m .0), m .1)
+
+module _ (g : ConditioningConfig) (f : Fit g) where
+  abbrev some : 0 < g .spans
+  some = f .limits .some-spans
+
+  -- a hop that is accepted by the rules is taken
+  hop-taken : (xs : List ℕ) (hs : List Hop) (h : Hop) → Reached g xs hs → isOffIq (settledBy (configOf g)) ≡ false → Accepted (g .n) (lastEnd (g .n) 0 hs) h
+      → let y = chainAt g xs hs in Taken (y .machine .state) (h .channels) (h .start) (y .machine .spans) (y .words)
+  hop-taken xs hs h r on a =
+      record {
+        none = hop-number g f xs hs r;
+        watching = ap isOffIq (settled-is g f xs hs r) ∙ on;
+        some = ap (λ (k : ℕ). image.isNone k (h .channels)) (size-is g xs hs) ∙ a .some;
+        starts = ap (λ (k : ℕ). badStart k (h .start) .holds) (monitor-end g some xs hs) ∙ a .start;
+        parts = a .parts;
+      }
+
+  -- hops one after another, from the chain after xs and hs
+  hops-run : (xs : List ℕ) (hs es : List Hop) → Reached g xs hs → InOrder (g .n) (lastEnd (g .n) 0 hs) es → (isOffIq (settledBy (configOf g)) ≡ true → es ≡ [])
+      → (run (chainAt g xs hs) (ownHops es) ≡ chainAt g xs (hs ++ es)) × Reached g xs (hs ++ es)
+  hops-run xs hs [] r o w = (ap (chainAt g xs) (sym (append-nil hs)), subst (Reached g xs) (sym (append-nil hs)) r)
+  hops-run xs hs (h ∷ es) r o w =
+      let n = own-hop g some xs hs h r (hop-taken xs hs h r (not-off (isOffIq (settledBy (configOf g))) h es w) (o .0)) in
+      let m = hops-run xs (hs ++ (h ∷ [])) es (n .1) (subst (λ (e : ℕ). InOrder (g .n) e es) (sym (end-next g some hs h)) (o .1)) (λ e. absurd (cons-not h es (w e))) in
+      let a : (hs ++ (h ∷ [])) ++ es ≡ hs ++ (h ∷ es) = append-assoc hs (h ∷ []) es in
+      (ap (λ (y : Chain). run y (ownHops es)) (n .0) ∙ m .0 ∙ ap (chainAt g xs) a, subst (Reached g xs) a (m .1))
+
+  -- all the samples in one call
+  call-all : (xs : List ℕ) (hs : List Hop) → Reached g [] hs → Usable xs → length xs ≤ 2 ^ 48
+      → (next (chainAt g [] hs) (list.call own own own xs) ≡ chainAt g xs hs)
+  call-all xs hs r u l =
+      let c = chainAt g [] hs .machine .state in
+      let h = held-is g f [] hs r ∙ none-held (isApply (modeOf (g .impulse))) in
+      let z = seen-is g f [] hs r in
+      let d : newPart c xs ≡ xs = ap (λ (n : ℕ). drop n xs) h in
+      let scan = scan-all (c .held) (newPart c xs) (subst Usable (sym d) u) in
+      let none : callRefusal c xs (chainAt g [] hs .machine .spans) (chainAt g [] hs .machine .repairs) ≡ 0 =
+      call-number g f [] hs r xs
+      ∙ (λ i. callNumber true true true true
+      (le-ltb (length xs) (c .held) (omega (arith, h)) i)
+      (le-ltb (2 ^ 48 - c .seen) (length xs - c .held) (omega (arith, h, z, l)) i)
+      (le-ltb (unusableAt (c .held) (newPart c xs)) (c .held + length (newPart c xs)) (omega (arith, scan)) i)) in
+      own-call g some [] hs xs r none .0 ∙ ap (λ (ys : List ℕ). chainAt g ys hs) d
+
+  once-run : (xs : List ℕ) (before behind : List Hop) → Reached g xs (before ++ behind)
+      → let all = ownHops before ++ (list.call own own own xs ∷ ownHops behind) in Proper (freshChain g) all × (run (freshChain g) all ≡ chainAt g xs (before ++ behind))
+  unfolding lastEnd
+  once-run xs before behind r =
+      let o = order-cut (g .n) 0 before behind (r .order) in
+      let none : Reached g [] [] = record { usable = tt; few = omega arith; order = tt; watching = λ e. refl } in
+      let a = hops-run [] [] before none (o .0) (λ e. no-front before behind (r .watching e)) in
+      let b = call-all xs before (a .1) (r .usable) (r .few) in
+      let t : Reached g xs before = record { usable = r .usable; few = r .few; order = o .0; watching = λ e. no-front before behind (r .watching e) } in
+      let d = hops-run xs before behind t (o .1) (λ e. no-back before behind (r .watching e)) in
+      let rest : List Operation = list.call own own own xs ∷ ownHops behind in (
+        proper-append (freshChain g) (ownHops before) rest (proper-hops (freshChain g) before) (found-call (run (freshChain g) (ownHops before)) xs, proper-hops _ behind),
+        run-append (freshChain g) (ownHops before) rest
+            ∙ ap (λ (y : Chain). run y rest) (ap (λ (y : Chain). run y (ownHops before)) (fresh-is g some) ∙ a .0)
+            ∙ ap (λ (y : Chain). run y (ownHops behind)) b
+            ∙ d .0,
+      )
+
+  from-fresh : (os : List Operation) → Proper (freshChain g) os → Leads g some (run (freshChain g) os)
+  from-fresh os p =
+      let none : Reached g [] [] = record { usable = tt; few = omega arith; order = tt; watching = λ e. refl } in
+      let n = ends g some [] [] os none (subst (λ (y : Chain). Proper y os) (fresh-is g some) p) in
+      record { samples = n .samples; hops = n .hops; is = ap (λ (y : Chain). run y os) (fresh-is g some) ∙ n .is; reached = n .reached }
+
+  fresh-record : (os ps : List Operation) → Proper (freshChain g) os → Proper (freshChain g) ps
+      → run (freshChain g) os .brought ≡ run (freshChain g) ps .brought → run (freshChain g) os .hops ≡ run (freshChain g) ps .hops
+      → OneRecord g (freshChain g) (freshChain g) os ps
+  fresh-record os ps p q same-samples same-hops =
+      let n = from-fresh os p in
+      let m = from-fresh ps q in
+      let xs = n .samples in
+      let hs = n .hops in
+      let t = n .reached in
+      let y = run (freshChain g) os in
+      let x-is : y .brought ≡ xs = ap (λ (c : Chain). c .brought) (n .is) ∙ brought-is g xs hs in
+      let h-is : y .hops ≡ hs = ap (λ (c : Chain). c .hops) (n .is) ∙ hops-is g xs hs in
+      let x'-is : run (freshChain g) ps .brought ≡ m .samples = ap (λ (c : Chain). c .brought) (m .is) ∙ brought-is g (m .samples) (m .hops) in
+      let h'-is : run (freshChain g) ps .hops ≡ m .hops = ap (λ (c : Chain). c .hops) (m .is) ∙ hops-is g (m .samples) (m .hops) in
+      record {
+        alike = n .is ∙ (λ i. chainAt g ((sym x-is ∙ same-samples ∙ x'-is) i) ((sym h-is ∙ same-hops ∙ h'-is) i)) ∙ sym (m .is);
+        ruled = subst (ByRules g) (sym (n .is)) (at-rules g f xs hs t);
+        once = λ before behind k.
+            let w = k ∙ h-is in
+            let o = once-run xs before behind (subst (Reached g xs) (sym w) t) in
+            let back : chainAt g xs (before ++ behind) ≡ y = ap (chainAt g xs) w ∙ sym (n .is) in
+            subst (λ (zs : List ℕ). let all = ownHops before ++ (list.call own own own zs ∷ ownHops behind) in Proper (freshChain g) all × (run (freshChain g) all ≡ y)) (sym x-is) (o .0, o .1 ∙ back);
+        no-five = subst NoFive (sym (n .is)) (at-no-five g f xs hs t);
+        sum = subst (λ (c : Chain). c .machine .state .seen ≡ c .machine .state .released + c .machine .state .held) (sym (n .is)) (at-sum g f xs hs t);
+        few = subst (λ (c : Chain). c .machine .state .held ≤ 21) (sym (n .is)) (at-few g f xs hs t);
+        undone = λ i d s h.
+            subst (λ (c : Chain). undoOf (c .machine .state) (c .machine .repairs) (c .released) 0 ≡ record { said = undo.restored; samples = take (length (c .released)) (c .brought) }) (sym (n .is))
+            (at-undone g f xs hs t d s (subst (λ (zs : List ℕ). length (repairsOf (impulseEvents (configOf g) zs)) ≤ g .repairs) x-is h) ∙ ap (λ (zs : List ℕ). record { said = undo.restored; samples = take (length (chainAt g xs hs .released)) zs }) (sym (brought-is g xs hs)));
+      }
+
+-- ---- THE THEOREM
+
+pub one-record : (g : ConditioningConfig)
+    → (spans repairs : List ℕ) (words : List Float) → makingSaid (configOf g) (length spans) (length repairs) (length words) ≡ made
+    → (spans' repairs' : List ℕ) (words' : List Float) → makingSaid (configOf g) (length spans') (length repairs') (length words') ≡ made
+    → let y = madeChain g spans repairs words in let z = madeChain g spans' repairs' words' in
+    (os ps : List Operation) → Proper y os → Proper z ps
+    → run y os .brought ≡ run z ps .brought
+    → run y os .hops ≡ run z ps .hops
+    → OneRecord g y z os ps
+one-record g spans repairs words e spans' repairs' words' e' os ps p q same-samples same-hops =
+    let f = made-fit g (length spans) (length repairs) (length words) e .fit in
+    let a = made-is g spans repairs words e in
+    let b = made-is g spans' repairs' words' e' in
+    subst (λ (y : Chain). OneRecord g y (madeChain g spans' repairs' words') os ps) (sym a)
+    (subst (λ (z : Chain). OneRecord g (freshChain g) z os ps) (sym b)
+    (fresh-record g f os ps (subst (λ (y : Chain). Proper y os) a p) (subst (λ (z : Chain). Proper z ps) b q)
+    (ap (λ (y : Chain). run y os .brought) (sym a) ∙ same-samples ∙ ap (λ (z : Chain). run z ps .brought) b)
+    (ap (λ (y : Chain). run y os .hops) (sym a) ∙ same-hops ∙ ap (λ (z : Chain). run z ps .hops) b)))
