@@ -2,13 +2,11 @@
 use mathlib.Core.Path.{_≡_, refl, sym, ap, _∙_, subst}
 use mathlib.Core.Bool.{Bool, true, false, cond, _&&_}
 use mathlib.Core.List.{List, [], _∷_, _++_, map, append-nil}
-use Prim.Native.Nat.{ℕ, suc, _+_, _-_, _*_, _^_, _≤_, _<_}
+use Prim.Native.Nat.{ℕ, _+_, _-_, _*_, _^_, _≤_, _<_}
 use native.Mathlib.Omega.{arith}
 use lib.ListN.{length, take, drop, length-drop, drop-of-length-le}
 use lib.Seq.{take-at, drop-at}
 use lib.Dec.{lit<}
-use lib.Ieee.{Float}
-use Rattle.rules.specs.Dc.{Level, stepped, blockedAll}
 use Rattle.rules.specs.Iq.{Mode, off, observe, apply}
 use Rattle.rules.specs.Log.{Span}
 use Rattle.rules.specs.RingLaws.{Sound}
@@ -19,6 +17,7 @@ use Rattle.log.specs.CheckLaws.{Bounded, ring-range, log-range, log-sound, mark
 use Rattle.impulse.specs.Room.{Room}
 use Rattle.dc.specs.declared.DcBlocker.{DcBlocker}
 use Rattle.dc.specs.Blocker.{levelOf}
+use Rattle.dc.specs.Cutting.{blocked-length}
 use Rattle.impulse_run.specs.NotesLaws.{bounded-up}
 use Rattle.impulse_run.specs.Noted.{noteAll, stateAfter, handed, told, over, Roomy}
 use Rattle.state.specs.declared.InputConditioner.{InputConditioner}
@@ -114,11 +113,6 @@ module _ (c : InputConditioner) (samples spans repairs : List ℕ) (a : Acceptab
     on-out = sym (ap (λ (t : Bool). cond t (handed (settingIn c) (c .suppressor) (newPart c samples)) (newPart c samples)) on)
 
 -- ---- the stages over what is ready
-
-blocked-length : (a : Float) (l : Level) (xs : List ℕ) → length (blockedAll a l xs) ≡ length xs
-unfolding blockedAll
-blocked-length a l [] = refl
-blocked-length a l (x ∷ xs) = ap suc (blocked-length a (stepped a l x) xs)
 
 -- the DC stage hands on as many as it gets
 pub blocked-by-length : (m : Mode) (b : DcBlocker) (ys : List ℕ) → length (blockedBy m b ys) ≡ length ys

@@ -8,6 +8,7 @@ use borrow.Author.Tests.{ltb-true, ltb-false, leb-true, eqb-true}
 use lib.Dec.{ltb, leb, eqb}
 use lib.ListN.{length, getD, drop, length-drop}
 use lib.Seq.{length-take-le}
+use Rattle.rules.specs.TestLaws.{both}
 use Rattle.rules.specs.Log.{Span, spanOf}
 use Rattle.rules.specs.RingLaws.{Sound}
 use Rattle.rules.specs.RingReading.{length-spans}
@@ -37,10 +38,6 @@ number-past (s ∷ l) zero h = absurd (omega arith)
 number-past (s ∷ l) (suc i) h = number-past l i (omega arith)
 
 -- ---- what the tests say
-
-both : (a b : Bool) → (a && b) ≡ true → (a ≡ true) × (b ≡ true)
-both true b e = (refl, e)
-both false b e = absurd (false≢true e)
 
 pub record Store (cap words : ℕ) : Type 0 where
   pub some : 0 < cap

@@ -1,7 +1,8 @@
 -- The stage theorem: however the samples are cut into calls, the blocker and what it wrote are the rules' for all of them. Assumes nothing.
 use mathlib.Core.Path.{_≡_, refl, sym, ap, _∙_}
 use mathlib.Core.List.{List, [], _∷_, _++_, flatten}
-use Prim.Native.Nat.{ℕ}
+use Prim.Native.Nat.{ℕ, suc}
+use lib.ListN.{length}
 use lib.Ieee.{Float}
 use Rattle.complex.specs.Complex.{wordOf, sampleOf}
 use Rattle.rules.specs.Dc.{Level, corner, firstLevel, blocked, stepped, levelAfter, blockedAll}
@@ -18,6 +19,11 @@ pub blocked-append : (a : Float) (l : Level) (xs ys : List ℕ) → blockedAll a
 unfolding levelAfter blockedAll
 blocked-append a l [] ys = refl
 blocked-append a l (x ∷ xs) ys = ap (λ (r : List ℕ). wordOf (blocked (l .level) (sampleOf x)) ∷ r) (blocked-append a (stepped a l x) xs ys)
+
+pub blocked-length : (a : Float) (l : Level) (xs : List ℕ) → length (blockedAll a l xs) ≡ length xs
+unfolding blockedAll
+blocked-length a l [] = refl
+blocked-length a l (x ∷ xs) = ap suc (blocked-length a (stepped a l x) xs)
 
 -- ---- calls after calls
 after-joined : (b : DcBlocker) (calls : List (List ℕ)) → afterCalls b calls ≡ blockerAfter b (flatten calls)

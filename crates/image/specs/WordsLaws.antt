@@ -10,7 +10,7 @@ use lib.Ieee.{Float, nan, binary64, add}
 use Rattle.complex.specs.Complex.{Complex, product}
 use Rattle.rules.specs.Constants.{zeroF}
 use Rattle.rules.specs.Lists.{upTo}
-use Rattle.rules.specs.ListLaws.{length-upTo, getD-upTo}
+use Rattle.rules.specs.ListLaws.{length-upTo, getD-upTo, upTo-same}
 use Rattle.rules.specs.SortLaws.{map-snoc}
 use Rattle.rules.specs.Monitor.{Hop, channel, mirrorOf, channelPower, channelProduct, total, powerSum, realSum, imagSum, monitorWords}
 use Rattle.image.specs.Words.{more, powerIn, productIn, addedTerms, addedHop}
@@ -85,11 +85,6 @@ turned-is g l (suc k) h =
     ∙ set-at (upTo F k) (getD l k nan) (drop (suc k) l) (g (getD (upTo F k ++ (getD l k nan ∷ drop (suc k) l)) k nan) k) k (length-upTo F k)
     ∙ ap (λ (x : Float). upTo F k ++ (g x k ∷ drop (suc k) l)) (getD-at (upTo F k) (getD l k nan) (drop (suc k) l) nan k (length-upTo F k))
     ∙ sym (append-assoc (upTo F k) (F k ∷ []) (drop (suc k) l))
-
-pub upTo-same : {A : Type 0} (f g : ℕ → A) (n : ℕ) → ((i : ℕ) → i < n → f i ≡ g i) → upTo f n ≡ upTo g n
-unfolding upTo
-upTo-same f g zero h = refl
-upTo-same {A = A} f g (suc n) h = ap (λ (l : List A). l ++ (f n ∷ [])) (upTo-same f g n (λ i k. h i (omega arith))) ∙ ap (λ (x : A). upTo g n ++ (x ∷ [])) (h n (omega arith))
 
 -- the whole of a part
 turned-all : (g : Float → ℕ → Float) (f F : ℕ → Float) (n : ℕ) → ((i : ℕ) → i < n → g (f i) i ≡ F i) → turned g (upTo f n) n ≡ upTo F n

@@ -8,6 +8,7 @@ use lib.Dec.{ltb}
 use lib.ListN.{take, drop}
 use Rattle.rules.specs.Impulse.{Setting, before, start, closes, blockOf, paused, touches, mendable, Event, uncertain, kept, mended, eventsAt, events}
 use Rattle.rules.specs.Runs.{before-le, before-off, start-on}
+use Rattle.rules.specs.EventLaws.{marks-append}
 use Rattle.rules.specs.Log.{Span, Mark, isRepaired, isFlagged, isCorrected, isUncertain, marksOfEvent, marksOf}
 
 -- each span starts at the end of the one before or later
@@ -35,11 +36,6 @@ climbs-append lo (p ∷ ps) qs c d = (c .0, climbs-append (p .start + p .len) ps
 end-append : (lo : ℕ) (ps qs : List Span) → endOf lo (ps ++ qs) ≡ endOf (endOf lo ps) qs
 end-append lo [] qs = refl
 end-append lo (p ∷ ps) qs = end-append (p .start + p .len) ps qs
-
-pub marks-append : (r : Mark) (es fs : List Event) → marksOf r (es ++ fs) ≡ marksOf r es ++ marksOf r fs
-unfolding marksOf
-marks-append r [] fs = refl
-marks-append r (e ∷ es) fs = ap (λ (t : List Span). marksOfEvent r e ++ t) (marks-append r es fs) ∙ sym (append-assoc (marksOfEvent r e) (marksOf r es) (marksOf r fs))
 
 -- what a ring may hold when j are judged: all of it before this
 abbrev pub bound : Mark → (ℕ → Bool) → ℕ → ℕ

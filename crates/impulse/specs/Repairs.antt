@@ -12,7 +12,8 @@ use lib.Seq.{getD-set-same, getD-set-other, getD-take, getD-drop, ext-getD, leng
 use borrow.Author.Tests.{ltb-true, leb-true, lt-ltb, le-leb}
 use Rattle.rules.specs.Lists.{at, upTo}
 use Rattle.rules.specs.ListLaws.{length-upTo, getD-upTo}
-use Rattle.rules.specs.SortLaws.{All}
+use Rattle.rules.specs.EventLaws.{repairs-append}
+use Rattle.rules.specs.SortLaws.{All, all-append}
 use Rattle.rules.specs.Impulse.{Setting, lookahead, flagged, judged, before, start, closes, blockOf, paused, touches, mendable, mends, covers, value, Event, uncertain, kept, mended, eventsAt, events, handedOn, happened}
 use Rattle.rules.specs.Log.{repairWords, repairsOfEvent, repairsOf}
 use Rattle.rules.specs.Undo.{returned, undone, undoneAll}
@@ -55,10 +56,6 @@ run-original xs a n z w h =
           ∙ getD-drop a xs t 0;
     }
 
-all-append : {A : Type 0} (P : A → Type 0) (l m : List A) → All P l → All P m → All P (l ++ m)
-all-append P [] m a b = b
-all-append P (x ∷ l) m a b = (a .0, all-append P l m (a .1) b)
-
 covered-left : (k : ℕ) (es fs : List (List ℕ)) → Covered k es → Covered k (es ++ fs)
 covered-left k [] fs c = absurd c
 covered-left k (e ∷ es) fs (inl c) = inl c
@@ -69,13 +66,6 @@ covered-right k [] fs c = c
 covered-right k (e ∷ es) fs c = inr (covered-right k es fs c)
 
 -- ---- the records of the rules
-
-pub repairs-append : (es fs : List Event) → repairsOf (es ++ fs) ≡ repairsOf es ++ repairsOf fs
-unfolding repairsOf
-repairs-append [] fs = refl
-repairs-append (e ∷ es) fs =
-    ap (λ (t : List (List ℕ)). repairsOfEvent e ++ t) (repairs-append es fs)
-    ∙ sym (append-assoc (repairsOfEvent e) (repairsOf es) (repairsOf fs))
 
 module _ (s : Setting) (F : ℕ → Bool) (xs : List ℕ) where
   -- the record of the run that ends at j

@@ -180,7 +180,7 @@ left-keeps P F xs each j h x = go (eqb (start F j) 0) refl
 
 -- ---- what is handed on, from what is received
 
-value-keeps : (P Q : ℕ → Type 0) (s : Setting) (F : ℕ → Bool) (xs : List ℕ) → ((x : ℕ) → P x → Q x)
+pub value-keeps : (P Q : ℕ → Type 0) (s : Setting) (F : ℕ → Bool) (xs : List ℕ) → ((x : ℕ) → P x → Q x)
     → ((l r t n : ℕ) → P l → P r → t < n → n ≤ s .run → Q (wordOf (between (sampleOf l) (sampleOf r) t n)))
     → ((i : ℕ) → i < length xs → P (at xs i)) → (j k : ℕ) → j ≤ length xs → k < length xs → Q (value s F xs j k)
 unfolding value mendedAt

@@ -16,7 +16,7 @@ use Rattle.complex.specs.Words.{NoNan}
 use Rattle.rules.specs.Constants.{zeroF}
 use Rattle.rules.specs.Lists.{upTo, at, count}
 use Rattle.rules.specs.Sort.{sort}
-use Rattle.rules.specs.SortLaws.{All, Ordered, plain-order, power-plain}
+use Rattle.rules.specs.SortLaws.{All, all-append, Ordered, plain-order, power-plain}
 use Rattle.rules.specs.Impulse.{Setting, width, lookahead, powerOf, flagged, judged, before, start, closes, blockOf, paused, touches, mendable, value, Event, uncertain, kept, mended, eventsAt, events, handedOn, happened}
 use Rattle.impulse.specs.declared.ImpulseSuppressor.{ImpulseSuppressor}
 use Rattle.impulse.specs.declared.Answer.the-variants.{Released, Nothing}
@@ -197,10 +197,6 @@ pub fine-all : (xs : List ℕ) → All Clean xs → All (Fine (Plain binary32)) 
 fine-all [] a = tt
 fine-all (x ∷ xs) a = (power-plain x (a .0), fine-all xs (a .1))
 
-all-append : (xs ys : List ℕ) → All Clean xs → All Clean ys → All Clean (xs ++ ys)
-all-append [] ys a b = b
-all-append (x ∷ xs) ys a b = (a .0, all-append xs ys (a .1) b)
-
 -- what stands after the samples xs
 abbrev pub stateOf : Setting → List ℕ → ImpulseSuppressor
 stateOf s xs = stateAt s xs (length xs)
@@ -219,7 +215,7 @@ module _ (s : Setting) (l : 0 < s .block) where
   pub goes-on : (xs ys : List ℕ) → All Clean xs → All Clean ys → Goes xs ys
   goes-on xs ys a b =
       let w = whole xs a in
-      let v = whole (xs ++ ys) (all-append xs ys a b) in
+      let v = whole (xs ++ ys) (all-append Clean xs ys a b) in
       record {
         state =
             ap (λ (m : ImpulseSuppressor). after (step s) m ys) (sym (w .stands-so))

@@ -10,6 +10,7 @@ use lib.ListN.{length, drop, replicate, length-drop, length-replicate}
 use lib.Seq.{length-take-le}
 use Rattle.rules.specs.Log as rules
 use Rattle.rules.specs.Log.{Span, mark}
+use Rattle.rules.specs.TestLaws.{both}
 use Rattle.rules.specs.RingLaws.{Sound, empty-sound}
 use Rattle.rules.specs.MarkLaws.{newestEnd, EndsBy, mark-count, mark-sound, mark-drops}
 use Rattle.log.specs.declared.Ring.{Ring}
@@ -18,10 +19,6 @@ use Rattle.log.specs.View.{Logged, freshLog, marksAt, markedAt}
 use Rattle.log.specs.Ready.{Fits}
 use Rattle.log.specs.Check.{allTo, ringFits, ringOf, countOf, logFits, endFits, endsFit}
 use Rattle.log.specs.LogLaws.{part-inside, Twelve, marked-twelve, marked-same, marked-other, fresh-marks}
-
-both : (a b : Bool) → (a && b) ≡ true → (a ≡ true) × (b ≡ true)
-both true b e = (refl, e)
-both false b e = absurd (let z : _≡_ {A = ℕ} 0 1 = cc in omega arith)
 
 -- ---- all below a number
 

@@ -10,7 +10,7 @@ use lib.ListN.{length}
 use lib.Ieee.{Float}
 use Rattle.rules.specs.Guard.{usable, firstUnusableFrom}
 use Rattle.rules.specs.Refusals.{tooMany, unusableAt, anyUnusable, badStart, anyBeyond, firstBeyondFrom}
-use Rattle.rules.specs.SortLaws.{All}
+use Rattle.rules.specs.SortLaws.{all-append}
 use Rattle.part_limit.specs.Limit.{returned}
 use Rattle.log.specs.Check.{endsFit}
 use Rattle.impulse.specs.Stage.{Usable}
@@ -79,8 +79,7 @@ passes c slice spans repairs e =
     go false r s n h t u a b d w z = absurd (omega arith)
 
 pub usable-append : (xs ys : List ℕ) → Usable xs → Usable ys → Usable (xs ++ ys)
-usable-append [] ys a b = b
-usable-append (x ∷ xs) ys a b = (a .0, usable-append xs ys (a .1) b)
+usable-append xs ys a b = all-append (λ w. T (usable w)) xs ys a b
 
 -- where the scan finds nothing, all are usable
 pub scan-usable : (k : ℕ) (ws : List ℕ) → ltb (firstUnusableFrom k ws) (k + length ws) ≡ false → Usable ws

@@ -11,6 +11,7 @@ use Rattle.rules.specs.Iq.{Mode, off, observe, apply, Settled}
 use Rattle.rules.specs.Log as rules
 use Rattle.rules.specs.Log.{Stage, impulse, dc, iq, Mark, isRepaired, isFlagged, isCorrected, isUncertain, ringNumber}
 use Rattle.rules.specs.Monitor.{Hop}
+use Rattle.rules.specs.TestLaws.{and-so}
 use Rattle.rules.specs.Lists.{upTo}
 use Rattle.rules.specs.ListLaws.{length-upTo}
 use Rattle.rules.specs.Chain.{Config, isApply, runs, blockLength, settingOf, afterImpulse, settledBy, repairRing, longRunsOf}
@@ -36,7 +37,7 @@ use Rattle.record.specs.Hopping.{withHops, hopLogged}
 use Rattle.record.specs.Reaching.{freshMachine, hopMarks, core, chainAt, Reached}
 use Rattle.record.specs.ByRules.{impulse-out, impulse-state, dc-state, repairs-is, long-is, rings-are}
 use Rattle.record.specs.Made.{Fit}
-use Rattle.record.specs.GoodImpulse.{and-so, gate-good, suppressor-good, fresh-gate-good}
+use Rattle.record.specs.GoodImpulse.{gate-good, suppressor-good, fresh-gate-good}
 use Rattle.record.specs.GoodStages.{blocker-good, fresh-blocker-good, coefficient-good, monitor-good, words-good, counts-good, held-most, settings-good}
 use Rattle.record.specs.GoodRings.{ring-good}
 use Rattle.record.specs.GoodRepairs.{repairs-good}

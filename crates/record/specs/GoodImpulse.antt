@@ -11,6 +11,7 @@ use lib.Ieee.{Float, binary64, le, lt, toBits, ofBits}
 use lib.ListN.{length, getD, take}
 use Rattle.ieee.specs.Bounds.{within-mono}
 use Rattle.ieee.specs.Plain.{signClear}
+use Rattle.rules.specs.TestLaws.{and-so}
 use Rattle.rules.specs.Constants.{zeroF}
 use Rattle.rules.specs.Guard.{magnitude}
 use Rattle.rules.specs.SizeLaws.{within-size}
@@ -37,9 +38,6 @@ use Rattle.state.specs.Fits.{counter, runFits, leftFits, gateFits, powerLimit, 
 
 holds : (b : Bool) → T b → b ≡ true
 holds true t = refl
-
-pub and-so : (a b : Bool) → a ≡ true → b ≡ true → (a && b) ≡ true
-and-so a b p q = λ i. p i && q i
 
 -- ---- a sample and a power
 

@@ -8,7 +8,8 @@ use lib.Dec.{ltb, leb}
 use lib.ListN.{length, take, drop, length-append}
 use borrow.Author.Tests.{ltb-true, leb-true}
 use Rattle.rules.specs.Lists.{at}
-use Rattle.rules.specs.SortLaws.{All}
+use Rattle.rules.specs.SortLaws.{All, all-append}
+use Rattle.rules.specs.TestLaws.{both}
 use Rattle.rules.specs.Impulse.{Setting, flagged, judged, before, start, closes, blockOf, paused, touches, mendable, Event, uncertain, kept, mended, eventsAt, events, happened}
 use Rattle.rules.specs.Log.{Ring, emptyRing, append, repairWords, repairWidth, repaired, repairsOf, longRuns}
 use Rattle.rules.specs.RingLaws.{Sound, append-sound, append-drops, empty-sound, filled}
@@ -19,10 +20,6 @@ use Rattle.rules.specs.Chain.{Config, runs, settingOf, impulseEvents, repairRin
 use Rattle.log.specs.View.{bare}
 use Rattle.log.specs.Check.{ringFits}
 use Rattle.log.specs.CheckLaws.{InRange, range-ring}
-
-both : (a b : Bool) → (a && b) ≡ true → (a ≡ true) × (b ≡ true)
-both true b e = (refl, e)
-both false b e = absurd (false≢true e)
 
 -- ---- no more entries are dropped than were entered
 
@@ -77,10 +74,6 @@ module _ (s : Setting) (few : s .run ≤ 4) (F : ℕ → Bool) (xs : List ℕ) w
       go false false m a b = record { repairs = omega arith; longruns = omega arith; short = tt }
 
 -- ---- what is recorded in all
-
-all-append : {A : Type 0} (P : A → Type 0) (l m : List A) → All P l → All P m → All P (l ++ m)
-all-append P [] m g h = h
-all-append P (x ∷ l) m g h = (g .0, all-append P l m (g .1) h)
 
 later : (a b : ℕ) (l : List (List ℕ)) → a ≤ b → All (Short a) l → All (Short b) l
 later a b [] h g = tt

@@ -4,12 +4,10 @@ use mathlib.Core.Bool.{Bool, true, false, cond}
 use mathlib.Core.List.{List, [], _∷_, _++_}
 use Prim.Native.Nat.{ℕ, suc, _+_, _-_, _^_, _≤_, _<_}
 use native.Mathlib.Omega.{arith}
-use lib.Ieee.{Float}
 use lib.ListN.{length}
-use Rattle.rules.specs.Lists.{upTo}
-use Rattle.rules.specs.ListLaws.{length-upTo, length-map}
+use Rattle.rules.specs.ListLaws.{length-map}
 use Rattle.rules.specs.Impulse.{Setting, flagged, judged, start, events, happened, handedOn, value, lookahead}
-use Rattle.rules.specs.Dc.{Level, corner, firstLevel, blockedAll}
+use Rattle.rules.specs.Dc.{corner, firstLevel, blockedAll}
 use Rattle.rules.specs.Iq.{Settled, isOff, observing, withheld, correcting, correctedBy}
 use Rattle.rules.specs.Monitor.{Hop, hopEnd, reported, Answer, noReport, report, windowLength, windowStart, due, reportOf, answerTo, nextWindow, answers, suspectedSpan, suspectedSpans}
 use Rattle.rules.specs.Log.{Span, spanOf, Marks, marked, Stage, impulse, dc, iq, Mark, isRepaired, isFlagged, isCorrected, isUncertain, marksOf}
@@ -19,9 +17,11 @@ use Rattle.log.specs.View.{bare}
 use Rattle.log.specs.Check.{ringFits, endFits}
 use Rattle.log.specs.CheckLaws.{InRange, range-ring, end-fits}
 use Rattle.impulse.specs.Once.{Climbs, endOf, total, total-fits, bound, once}
+use Rattle.dc.specs.Cutting.{blocked-length}
 use Rattle.image.specs.ObserveLaws.{is-next}
 use Rattle.image.specs.Hops.{InOrder, lastEnd}
 use Rattle.image.specs.WordBounds.{sound-hops, sound-none}
+use Rattle.record.specs.GoodStages.{after-most}
 
 -- ---- marks that climb
 
@@ -87,30 +87,6 @@ impulse-up c xs r = go (runs (c .impulseMode))
 
 -- ---- what is released is no more than what came
 
-handed-length : (s : Setting) (xs : List ℕ) → length (handedOn s xs) ≤ length xs
-unfolding handedOn
-handed-length s xs = go (s .apply)
-  where
-    F : ℕ → Bool
-    F = flagged s xs
-
-    go : (t : Bool) → length (cond t (upTo (value s F xs (judged s (length xs))) (length xs - lookahead s)) xs) ≤ length xs
-    go true = let l = length-upTo (value s F xs (judged s (length xs))) (length xs - lookahead s) in omega arith
-    go false = omega arith
-
-blocked-length : (a : Float) (l : Level) (xs : List ℕ) → length (blockedAll a l xs) ≡ length xs
-unfolding blockedAll
-blocked-length a l [] = refl
-blocked-length a l (x ∷ xs) = ap suc (blocked-length a _ xs)
-
-impulse-length : (c : Config) (xs : List ℕ) → length (afterImpulse c xs) ≤ length xs
-unfolding afterImpulse
-impulse-length c xs = go (runs (c .impulseMode))
-  where
-    go : (t : Bool) → length (cond t (handedOn (settingOf c) xs) xs) ≤ length xs
-    go true = handed-length (settingOf c) xs
-    go false = omega arith
-
 dc-length : (c : Config) (xs : List ℕ) → length (afterDc c xs) ≡ length (afterImpulse c xs)
 unfolding afterDc
 dc-length c xs = go (isApply (c .dcMode))
@@ -124,7 +100,7 @@ unfolding released
 released-length c xs =
     let m = length-map (correctedBy (settledBy c)) (afterDc c xs) in
     let d = dc-length c xs in
-    let i = impulse-length c xs in
+    let i = after-most c xs in
     omega arith
 
 -- ---- the DC stage

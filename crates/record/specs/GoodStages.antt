@@ -11,6 +11,7 @@ use lib.ListN.{length}
 use Rattle.ieee.specs.Bounds.{within-mono}
 use Rattle.complex.specs.Complex.{sampleOf}
 use Rattle.rules.specs.Constants.{one, rateLimit}
+use Rattle.rules.specs.TestLaws.{both, and-so}
 use Rattle.rules.specs.Lists.{upTo, at}
 use Rattle.rules.specs.ListLaws.{length-upTo}
 use Rattle.rules.specs.Guard.{magnitude, usable}
@@ -24,6 +25,7 @@ use Rattle.rules.specs.Monitor.{Hop, windowStart, windowLength, openWindow}
 use Rattle.part_limit.specs.Limit.{limited}
 use Rattle.impulse.specs.Sound.{WordWithin}
 use Rattle.impulse.specs.PartBounds.{usable-within, within-more, mended-within}
+use Rattle.impulse.specs.StateBounds.{value-keeps}
 use Rattle.impulse.specs.Stage.{Usable}
 use Rattle.dc.specs.Blocker.{blockerOf}
 use Rattle.dc.specs.LevelBounds as level
@@ -35,27 +37,14 @@ use Rattle.image.specs.WordBounds.{no-five}
 use Rattle.config.specs.Config.{settingRefusal}
 use Rattle.state.specs.declared.Settings.{Settings}
 use Rattle.state.specs.Fits.{counter, settingsFit, heldBy, countsFit, blockerFits, coefficientFits, monitorFits}
-use Rattle.state.specs.FitsLaws.{both}
-use Rattle.record.specs.GoodImpulse.{and-so}
 
 -- ---- the samples that the DC stage gets
 
 -- a mended part is within 2 ^ 59, and so is a usable one
 value-within : (s : Setting) → s .run ≤ 32 → (F : ℕ → Bool) (xs : List ℕ) → ((i : ℕ) → i < length xs → WordWithin (2 ^ 57) (at xs i))
     → (j k : ℕ) → j ≤ length xs → k < length xs → WordWithin (2 ^ 59) (value s F xs j k)
-unfolding value mendedAt
-value-within s short F xs each zero k h w = within-more (2 ^ 57) (2 ^ 59) (at xs k) (lit≤ tt) (each k w)
-value-within s short F xs each (suc j) k h w = go (mends s F j && covers F j k) refl (value-within s short F xs each j k (omega arith) w)
-  where
-    left-well : (b : Bool) → WordWithin (2 ^ 57) (cond b (at xs j) (at xs (leftPlace (start F j))))
-    left-well true = each j h
-    left-well false = each (leftPlace (start F j)) (omega arith)
-
-    go : (b : Bool) → mends s F j && covers F j k ≡ b → WordWithin (2 ^ 59) (value s F xs j k) → WordWithin (2 ^ 59) (cond b (mendedAt F xs j k) (value s F xs j k))
-    go true e q =
-        let t = hit-says s F xs j k e in
-        mended-within (leftOf xs (start F j) (at xs j)) (at xs j) (k - start F j) (before F j) (omega (arith, t .from, t .upto)) (omega (arith, t .short)) (left-well (eqb (start F j) 0)) (each j h)
-    go false e q = q
+value-within s short F xs each =
+    value-keeps (WordWithin (2 ^ 57)) (WordWithin (2 ^ 59)) s F xs (λ x w. within-more (2 ^ 57) (2 ^ 59) x (lit≤ tt) w) (λ l r t n wl wr a b. mended-within l r t n a (omega arith) wl wr) each
 
 given : (w : ℕ) → WordWithin (2 ^ 59) w → Given w
 given w h = record { re = within-mono (sampleOf w .re) (2 ^ 59) 1 (2 ^ 60) 1 (lit< tt) (lit≤ tt) (h .0); im = within-mono (sampleOf w .im) (2 ^ 59) 1 (2 ^ 60) 1 (lit< tt) (lit≤ tt) (h .1) }

@@ -214,7 +214,8 @@ pub record OneRecord (g : ConditioningConfig) (y z : Chain) (os ps : List Operat
   pub ruled : ByRules g (run y os)
   -- 'On a fresh chain one call with all the samples is accepted: with those hops, at any points, it is such a list too.'
   pub once : (before behind : List Hop) → before ++ behind ≡ run y os .hops
-      → let all = ownHops before ++ (call own own own (run y os .brought) ∷ ownHops behind) in Proper y all × (run y all ≡ run y os)
+      → let all = ownHops before ++ (call own own own (run y os .brought) ∷ ownHops behind) in
+      (isReady (callOn (run y (ownHops before)) own own own (run y os .brought) .said) ≡ true) × (Proper y all × (run y all ≡ run y os))
   -- 'No operation handed the state and stores that such a list leaves meets number 5.'
   pub no-five : NoFive (run y os)
   -- 'After each list seen = released + held, held at most 21.'

@@ -34,7 +34,7 @@ use Rattle.state.specs.Fits.{heldBy}
 use Rattle.condition.specs.Making.{freshState, freshSettings, Said, made, makingSaid}
 use Rattle.condition.specs.Calls as call
 use Rattle.condition.specs.Calls.{Machine, newPart, callRefusal, refused, ready, Outcome, taken, declined, called, impulseOut, process, handsOn}
-use Rattle.condition.specs.CallTests.{callNumber, refusal-by}
+use Rattle.condition.specs.CallTests.{callNumber, refusal-by, taken-by}
 use Rattle.condition.specs.Accepting.{hands-length}
 use Rattle.condition.specs.Hops as hop
 use Rattle.image.specs.declared.HopAnswer.{HopAnswer}
@@ -46,7 +46,7 @@ use Rattle.condition.specs.HopKeeps.{isAnswered}
 use Rattle.undo.specs.Undoing as undo
 use Rattle.undo.specs.Undoing.{undoOf, undoRefusal}
 use Rattle.undo.specs.UndoLaws.{chain-made, made-length, chain-accepted, chain-returns}
-use Rattle.record.specs.Lists.{Given, own, other, Operation, Chain, next, run, Proper, Found, ByRules, NoFive, ownHops, OneRecord, madeChain}
+use Rattle.record.specs.Lists.{own, Operation, Chain, callOn, next, run, isReady, Proper, Found, ByRules, NoFive, ownHops, OneRecord, madeChain}
 use Rattle.record.specs.Lists as list
 use Rattle.record.specs.Hopping.{withHops, hopLogged, uncertain-rings}
 use Rattle.record.specs.RingLaws.{call-rings}
@@ -358,7 +358,7 @@ module _ (g : ConditioningConfig) (f : Fit g) where
 
   -- all the samples in one call
   call-all : (xs : List ℕ) (hs : List Hop) → Reached g [] hs → Usable xs → length xs ≤ 2 ^ 48
-      → (next (chainAt g [] hs) (list.call own own own xs) ≡ chainAt g xs hs)
+      → (isReady (callOn (chainAt g [] hs) own own own xs .said) ≡ true) × (next (chainAt g [] hs) (list.call own own own xs) ≡ chainAt g xs hs)
   call-all xs hs r u l =
       let c = chainAt g [] hs .machine .state in
       let h = held-is g f [] hs r ∙ none-held (isApply (modeOf (g .impulse))) in
@@ -371,10 +371,11 @@ module _ (g : ConditioningConfig) (f : Fit g) where
       (le-ltb (length xs) (c .held) (omega (arith, h)) i)
       (le-ltb (2 ^ 48 - c .seen) (length xs - c .held) (omega (arith, h, z, l)) i)
       (le-ltb (unusableAt (c .held) (newPart c xs)) (c .held + length (newPart c xs)) (omega (arith, scan)) i)) in
-      own-call g some [] hs xs r none .0 ∙ ap (λ (ys : List ℕ). chainAt g ys hs) d
+      (ap (λ (o : Outcome). isReady (o .said)) (taken-by c xs (chainAt g [] hs .machine .spans) (chainAt g [] hs .machine .repairs) none), own-call g some [] hs xs r none .0 ∙ ap (λ (ys : List ℕ). chainAt g ys hs) d)
 
   once-run : (xs : List ℕ) (before behind : List Hop) → Reached g xs (before ++ behind)
-      → let all = ownHops before ++ (list.call own own own xs ∷ ownHops behind) in Proper (freshChain g) all × (run (freshChain g) all ≡ chainAt g xs (before ++ behind))
+      → let all = ownHops before ++ (list.call own own own xs ∷ ownHops behind) in
+      (isReady (callOn (run (freshChain g) (ownHops before)) own own own xs .said) ≡ true) × (Proper (freshChain g) all × (run (freshChain g) all ≡ chainAt g xs (before ++ behind)))
   unfolding lastEnd
   once-run xs before behind r =
       let o = order-cut (g .n) 0 before behind (r .order) in
@@ -383,12 +384,16 @@ module _ (g : ConditioningConfig) (f : Fit g) where
       let b = call-all xs before (a .1) (r .usable) (r .few) in
       let t : Reached g xs before = record { usable = r .usable; few = r .few; order = o .0; watching = λ e. no-front before behind (r .watching e) } in
       let d = hops-run xs before behind t (o .1) (λ e. no-back before behind (r .watching e)) in
-      let rest : List Operation = list.call own own own xs ∷ ownHops behind in (
-        proper-append (freshChain g) (ownHops before) rest (proper-hops (freshChain g) before) (found-call (run (freshChain g) (ownHops before)) xs, proper-hops _ behind),
-        run-append (freshChain g) (ownHops before) rest
-            ∙ ap (λ (y : Chain). run y rest) (ap (λ (y : Chain). run y (ownHops before)) (fresh-is g some) ∙ a .0)
-            ∙ ap (λ (y : Chain). run y (ownHops behind)) b
-            ∙ d .0,
+      let rest : List Operation = list.call own own own xs ∷ ownHops behind in
+      let led = ap (λ (y : Chain). run y (ownHops before)) (fresh-is g some) ∙ a .0 in (
+        ap (λ (y : Chain). isReady (callOn y own own own xs .said)) led ∙ b .0,
+        (
+          proper-append (freshChain g) (ownHops before) rest (proper-hops (freshChain g) before) (found-call (run (freshChain g) (ownHops before)) xs, proper-hops _ behind),
+          run-append (freshChain g) (ownHops before) rest
+              ∙ ap (λ (y : Chain). run y rest) led
+              ∙ ap (λ (y : Chain). run y (ownHops behind)) (b .1)
+              ∙ d .0,
+        ),
       )
 
   from-fresh : (os : List Operation) → Proper (freshChain g) os → Leads g some (run (freshChain g) os)
@@ -418,7 +423,10 @@ module _ (g : ConditioningConfig) (f : Fit g) where
             let w = k ∙ h-is in
             let o = once-run xs before behind (subst (Reached g xs) (sym w) t) in
             let back : chainAt g xs (before ++ behind) ≡ y = ap (chainAt g xs) w ∙ sym (n .is) in
-            subst (λ (zs : List ℕ). let all = ownHops before ++ (list.call own own own zs ∷ ownHops behind) in Proper (freshChain g) all × (run (freshChain g) all ≡ y)) (sym x-is) (o .0, o .1 ∙ back);
+            subst
+            (λ (zs : List ℕ). let all = ownHops before ++ (list.call own own own zs ∷ ownHops behind) in
+            (isReady (callOn (run (freshChain g) (ownHops before)) own own own zs .said) ≡ true) × (Proper (freshChain g) all × (run (freshChain g) all ≡ y)))
+            (sym x-is) (o .0, (o .1 .0, o .1 .1 ∙ back));
         no-five = subst NoFive (sym (n .is)) (at-no-five g f xs hs t);
         sum = subst (λ (c : Chain). c .machine .state .seen ≡ c .machine .state .released + c .machine .state .held) (sym (n .is)) (at-sum g f xs hs t);
         few = subst (λ (c : Chain). c .machine .state .held ≤ 21) (sym (n .is)) (at-few g f xs hs t);

@@ -9,12 +9,12 @@ use native.Mathlib.Omega.{arith}
 use lib.Dec.{eqb, lit<}
 use borrow.Author.Tests.{eq-eqb, ne-eqb}
 use lib.ListN.{length, getD, take, drop, List·getD-map}
-use lib.Seq.{take-all}
+use lib.Seq.{take-all, ext-getD}
 use Rattle.rules.specs.Iq.{Mode, off, observe, apply, Settled, isOff, observing, withheld, correcting}
 use Rattle.rules.specs.Log as rules
 use Rattle.rules.specs.Log.{Span, mark, noMarks}
 use Rattle.rules.specs.Lists.{upTo}
-use Rattle.rules.specs.ListLaws.{length-upTo, getD-upTo, length-map}
+use Rattle.rules.specs.ListLaws.{length-upTo, getD-upTo, upTo-same, length-map}
 use Rattle.log.specs.View.{Logged, bare, freshRing, partOf, marksAt, markedAt, joined, logOf}
 use Rattle.log.specs.LogLaws.{Twelve, marked-same, marked-other}
 use Rattle.impulse_run.specs.Noted.{Noted, Rings, noteAll}
@@ -24,20 +24,6 @@ use Rattle.condition.specs.Calls.{Machine, notesIn, impulseTold, releasedSpan, 
 use Rattle.record.specs.Rings.{ringsOf, dcMarks, iqMarks, markIf, ringAfter}
 
 -- ---- the view can be undone
-
--- lists that agree at every place below their length
-same-lists : {A : Type 0} (d : A) (xs ys : List A) → length xs ≡ length ys → ((k : ℕ) → k < length ys → getD xs k d ≡ getD ys k d) → xs ≡ ys
-same-lists d [] [] l h = refl
-same-lists d [] (y ∷ ys) l h = absurd (omega arith)
-same-lists d (x ∷ xs) [] l h = absurd (omega arith)
-same-lists d (x ∷ xs) (y ∷ ys) l h =
-    let t = same-lists d xs ys (omega arith) (λ k s. h (suc k) (omega arith)) in
-    λ i. h 0 (omega arith) i ∷ t i
-
-upTo-same : {A : Type 0} (f g : ℕ → A) (n : ℕ) → ((k : ℕ) → k < n → f k ≡ g k) → upTo f n ≡ upTo g n
-unfolding upTo
-upTo-same f g zero h = refl
-upTo-same f g (suc n) h = let t = upTo-same f g n (λ k l. h k (omega arith)) in λ i. t i ++ (h n (omega arith) i ∷ [])
 
 joined-snoc : (ms : List rules.Marks) (m : rules.Marks) → joined (ms ++ (m ∷ [])) ≡ joined ms ++ m .ring .words
 unfolding joined
@@ -68,17 +54,17 @@ module _ (cap : ℕ) (x : Logged) (t : Twelve cap x) where
   unfolding marksAt
   rings-again =
       let f : rules.Marks → _ = λ (m : rules.Marks). bare (m .ring) in
-      same-lists freshRing (map f (ringsOf cap x)) (x .log .rings)
+      ext-getD freshRing (map f (ringsOf cap x)) (x .log .rings)
       (length-map f (ringsOf cap x) ∙ length-upTo (marksAt cap x) 12 ∙ sym (t .rings))
-      (λ k h. List·getD-map f (ringsOf cap x) k (noMarks cap) ∙ ap f (getD-upTo (noMarks cap) (marksAt cap x) 12 k (omega (arith, t .rings))))
+      (λ k h. List·getD-map f (ringsOf cap x) k (noMarks cap) ∙ ap f (getD-upTo (noMarks cap) (marksAt cap x) 12 k (omega (arith, length-map f (ringsOf cap x), length-upTo (marksAt cap x) 12))))
 
   counts-again : map (λ (m : rules.Marks). m .count) (ringsOf cap x) ≡ x .log .counts
   unfolding marksAt
   counts-again =
       let f : rules.Marks → ℕ = λ (m : rules.Marks). m .count in
-      same-lists 0 (map f (ringsOf cap x)) (x .log .counts)
+      ext-getD 0 (map f (ringsOf cap x)) (x .log .counts)
       (length-map f (ringsOf cap x) ∙ length-upTo (marksAt cap x) 12 ∙ sym (t .counts))
-      (λ k h. List·getD-map f (ringsOf cap x) k (noMarks cap) ∙ ap f (getD-upTo (noMarks cap) (marksAt cap x) 12 k (omega (arith, t .counts))))
+      (λ k h. List·getD-map f (ringsOf cap x) k (noMarks cap) ∙ ap f (getD-upTo (noMarks cap) (marksAt cap x) 12 k (omega (arith, length-map f (ringsOf cap x), length-upTo (marksAt cap x) 12))))
 
   spans-again : joined (ringsOf cap x) ≡ x .spans
   unfolding marksAt

@@ -12,6 +12,7 @@ pub mod Undo
 pub mod Refusals
 pub mod Chain
 -- laws
+pub mod TestLaws
 pub mod ListLaws
 pub mod SizeLaws
 pub mod SortLaws

@@ -10,6 +10,7 @@ use lib.Dec.{eqb}
 use lib.ListN.{length, getD, set, length-set}
 use lib.Seq.{getD-set-same, getD-set-other, set-set}
 use Rattle.rules.specs.Log.{Ring, write, roomed, nextPlace, append, Span, spanOf, Marks, noMarks, newestPlace, startAt, lenAt, joins, lengthened, mark, marked}
+use Rattle.rules.specs.TestLaws.{both}
 use Rattle.rules.specs.SortLaws.{All}
 use Rattle.rules.specs.RingLaws.{Sound, place-fits, roomed-sound, append-sound, append-drops, empty-sound}
 
@@ -20,10 +21,6 @@ spanned cap r s n = cond (joins cap r s) (lengthened cap r n) (append cap r (s �
 -- where the newest span ends
 abbrev pub newestEnd : ℕ → Ring → ℕ
 newestEnd cap r = startAt r (newestPlace cap r) + lenAt r (newestPlace cap r)
-
-both : (a b : Bool) → (a && b) ≡ true → (a ≡ true) × (b ≡ true)
-both true b e = (refl, e)
-both false b e = absurd (let z : _≡_ {A = ℕ} 0 1 = cc in omega arith)
 
 -- ---- the newest span
 

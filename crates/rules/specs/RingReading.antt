@@ -12,7 +12,7 @@ use lib.Dec.{ltb, eqb}
 use lib.ListN.{length, set, drop, length-append, length-map}
 use lib.Seq.{getD-set-same, getD-set-other, getD-take, getD-drop}
 use Rattle.rules.specs.Lists.{upTo, at}
-use Rattle.rules.specs.ListLaws.{length-upTo}
+use Rattle.rules.specs.ListLaws.{length-upTo, upTo-same}
 use Rattle.rules.specs.SortLaws.{All, all-drop}
 use Rattle.rules.specs.Log.{Ring, emptyRing, write, roomed, nextPlace, entered, append, Span, spanOf, spanWords, Marks, noMarks, joins, lengthened, mark, marked, repairWidth, repaired}
 use Rattle.rules.specs.Undo.{heldRecords}
@@ -20,11 +20,6 @@ use Rattle.rules.specs.RingLaws.{entryAt, entry-written, entry-kept, Sou
 use Rattle.rules.specs.MarkLaws.{spanned, mark-cases, mark-sound, newest-fits}
 
 -- ---- lists by an index
-
-pub upTo-same : {A : Type 0} (f g : ℕ → A) (n : ℕ) → ((i : ℕ) → i < n → f i ≡ g i) → upTo f n ≡ upTo g n
-unfolding upTo
-upTo-same f g zero h = refl
-upTo-same f g (suc n) h = λ k. upTo-same f g n (λ i l. h i (omega arith)) k ++ (h n (omega arith) k ∷ [])
 
 pub upTo-front : {A : Type 0} (f : ℕ → A) (n : ℕ) → upTo f (suc n) ≡ f 0 ∷ upTo (λ i. f (suc i)) n
 unfolding upTo

@@ -33,6 +33,10 @@ module _ {A : Type 0} (P : A → Type 0) where
   all-drop (suc n) [] g = tt
   all-drop (suc n) (x ∷ l) g = all-drop n l (g .1)
 
+  pub all-append : (l m : List A) → All P l → All P m → All P (l ++ m)
+  all-append [] m a b = b
+  all-append (x ∷ l) m a b = (a .0, all-append l m (a .1) b)
+
   pub all-getD : (l : List A) (k : ℕ) (d : A) → All P l → k < length l → P (getD l k d)
   all-getD [] k d g h = absurd (omega arith)
   all-getD (x ∷ l) zero d g h = g .0

@@ -6,6 +6,7 @@ use native.Mathlib.Omega.{arith}
 use lib.Dec.{ltb, eqb}
 use lib.ListN.{getD}
 use borrow.Author.Tests.{leb-true, eqb-true}
+use Rattle.rules.specs.TestLaws.{both}
 use Rattle.rules.specs.Constants.{zeroF}
 use Rattle.rules.specs.Refusals.{withinLimit}
 use Rattle.rules.specs.Chain.{blockLength}
@@ -25,10 +26,6 @@ use Rattle.state.specs.declared.Settings.{Settings}
 use Rattle.state.specs.declared.InputConditioner.{InputConditioner}
 use Rattle.state.specs.Fits.{counter, settingsFit, applies, heldBy, countsFit, runFits, leftFits, gateFits, powerFits, sortedFits, suppressorFits, blockerFits, coefficientFits, begunFits, monitorFits, logsFit, stagesFit, frontFits, impulseFits, stateFits}
 use Rattle.state.specs.Blocks.{block-some}
-
-pub both : (a b : Bool) → (a && b) ≡ true → (a ≡ true) × (b ≡ true)
-both true b e = (refl, e)
-both false b e = absurd (false≢true e)
 
 pub three : (a b c : Bool) → (a && b && c) ≡ true → (a ≡ true) × (b ≡ true) × (c ≡ true)
 three a b c e = let p = both (a && b) c e in let q = both a b (p .0) in (q .0, q .1, p .1)
