@@ -159,7 +159,7 @@ module _ (c : InputConditioner) (samples spans repairs : List ℕ) where
             ∙ ap (λ (n : ℕ). declined (machineOf c spans repairs) samples (7 ∷ n ∷ [])) (u .1))
 
         pub acceptable : Acceptable c samples spans repairs
-        acceptable = record { stored = t; held-in = long; few = ltb-false _ _ few }
+        acceptable = let m = ltb-false (2 ^ 48) (c .seen + (length samples - c .held)) few in record { stored = t; held-in = long; few = omega arith }
 
         pub accepted-call : anyUnusable (c .held) (newPart c samples) .holds ≡ false → called (machineOf c spans repairs) samples ≡ taken (machineOf c spans repairs) samples
         accepted-call u = taken-by c samples spans repairs (by-slice false false false (le-ltb _ _ long) few u)

@@ -214,12 +214,12 @@ fn accept(
     }
 }
 
-// Whether so many new samples take the total above 2^48.
+// Whether the total with so many new samples is above 2^48.
 fn too_many(seen: u64, new: usize) -> bool
     ensures { λ r. ⌜ r ≡ tooMany seen new .holds ⌝ }
 {
     if TOTAL_LIMIT < seen {
-        return 0 < new;
+        return true;
     }
     TOTAL_LIMIT - seen < new as u64
 }

@@ -369,7 +369,7 @@ module _ (g : ConditioningConfig) (f : Fit g) where
       call-number g f [] hs r xs
       ∙ (λ i. callNumber true true true true
       (le-ltb (length xs) (c .held) (omega (arith, h)) i)
-      (le-ltb (2 ^ 48 - c .seen) (length xs - c .held) (omega (arith, h, z, l)) i)
+      (le-ltb (2 ^ 48) (c .seen + (length xs - c .held)) (omega (arith, h, z, l)) i)
       (le-ltb (unusableAt (c .held) (newPart c xs)) (c .held + length (newPart c xs)) (omega (arith, scan)) i)) in
       (ap (λ (o : Outcome). isReady (o .said)) (taken-by c xs (chainAt g [] hs .machine .spans) (chainAt g [] hs .machine .repairs) none), own-call g some [] hs xs r none .0 ∙ ap (λ (ys : List ℕ). chainAt g ys hs) d)
 

@@ -255,7 +255,7 @@ module _ (g : ConditioningConfig) (some : 0 < g .spans) where
       let new = newPart c slice in
       let ys = handsOn c new in
       let p = passes c slice (m .spans) (m .repairs) e in
-      let few = ltb-false (2 ^ 48 - c .seen) (length slice - c .held) (p .few) in
+      let few = ltb-false (2 ^ 48) (c .seen + (length slice - c .held)) (p .few) in
       let at = chain-is xs hs in (
         ap (λ (o : Outcome). afterCall y c own own own slice o (o .said)) (taken-by c slice (m .spans) (m .repairs) e)
             ∙ (λ i.

@@ -60,7 +60,7 @@ anyBeyond ws = record { holds = ltb (firstBeyondFrom 0 ws) (length ws); number =
 
 -- 'total above 2^48'
 abbrev pub tooMany : ℕ → ℕ → Cause
-tooMany seen new = record { holds = ltb (2 ^ 48 - seen) new; number = 8 }
+tooMany seen new = record { holds = ltb (2 ^ 48) (seen + new); number = 8 }
 
 -- 'hop start above 2^48 or before the last hop's end'
 abbrev pub badStart : ℕ → ℕ → Cause

@@ -1,0 +1,67 @@
+-- `same_floats` reads within both. Assumes nothing.
+use Prim.Native.Nat.{_-_, _≤_}
+use borrow.Author.Needs.{needs}
+use lib.ListN.{length}
+use Rattle.state_same.proofs.same_floats.Statement.{statement}
+use Rattle.state_same.proofs.same_floats.Tie as tie
+
+abbrev Inv-loop : tie.InvT-loop
+Inv-loop a b k₀ k = k ≤ length a
+
+abbrev μ-loop : tie.MeasureT-loop
+μ-loop a b k₀ k = length a - k
+
+returns : tie.Need-returns Inv-loop μ-loop
+returns c = search needs
+
+loop-holds : tie.Need-loop-holds Inv-loop μ-loop
+loop-holds c = search needs
+
+mul-same-float : tie.Need-mul-same-float Inv-loop μ-loop
+mul-same-float c = search needs
+
+shared-slice-read-same-float : tie.Need-shared-slice-read-same-float Inv-loop μ-loop
+shared-slice-read-same-float c = search needs
+
+mul-same-float-2 : tie.Need-mul-same-float-2 Inv-loop μ-loop
+mul-same-float-2 c = search needs
+
+shared-slice-read-same-float-2 : tie.Need-shared-slice-read-same-float-2 Inv-loop μ-loop
+shared-slice-read-same-float-2 c = search needs
+
+same-float-requires : tie.Need-same-float-requires Inv-loop μ-loop
+same-float-requires c κs = search needs
+
+returns-2 : tie.Need-returns-2 Inv-loop μ-loop
+returns-2 c = search needs
+
+add-k : tie.Need-add-k Inv-loop μ-loop
+add-k c = search needs
+
+loop-less : tie.Need-loop-less Inv-loop μ-loop
+loop-less c = search needs
+
+loop-again : tie.Need-loop-again Inv-loop μ-loop
+loop-again c = search needs
+
+returns-3 : tie.Need-returns-3 Inv-loop μ-loop
+returns-3 c = search needs
+
+pub same-floats-spec : {M : Type 1} → statement M
+same-floats-spec =
+    tie.close
+    (tie.spec
+    Inv-loop
+    μ-loop
+    returns
+    loop-holds
+    mul-same-float
+    shared-slice-read-same-float
+    mul-same-float-2
+    shared-slice-read-same-float-2
+    same-float-requires
+    returns-2
+    add-k
+    loop-less
+    loop-again
+    returns-3)
