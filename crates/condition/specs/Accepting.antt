@@ -2,7 +2,7 @@
 use mathlib.Core.Path.{_≡_, refl, sym, ap, _∙_, subst}
 use mathlib.Core.Bool.{Bool, true, false, cond}
 use mathlib.Core.List.{List, _++_, map}
-use Prim.Native.Nat.{ℕ, _+_, _-_, _*_, _^_, _≤_, _<_}
+use Prim.Native.Nat.{ℕ, _+_, _-_, _^_, _≤_}
 use native.Mathlib.Omega.{arith}
 use lib.ListN.{length, take, drop, length-append, length-drop}
 use lib.Seq.{take-at, drop-at}
@@ -13,17 +13,15 @@ use Rattle.rules.specs.Log.{Span, spanOf}
 use Rattle.log.specs.declared.Log.{Log}
 use Rattle.log.specs.View.{Logged, bare}
 use Rattle.log.specs.CheckLaws.{Bounded}
-use Rattle.impulse.specs.declared.ImpulseSuppressor.{ImpulseSuppressor}
 use Rattle.impulse_run.specs.declared.Ran.{Ran}
-use Rattle.impulse_run.specs.Noted.{Noted, notedOf, noteAll, stateAfter, handed, told, over, Roomy}
+use Rattle.impulse_run.specs.Noted.{Noted, notedOf, noteAll, handed, over, Roomy}
 use Rattle.impulse_run.specs.NotesLaws.{note-none, bounded-up, roomy-up}
 use Rattle.impulse_run.specs.StageLaws.{handed-most, roomy-run}
 use Rattle.dc.specs.declared.DcBlocker.{DcBlocker}
 use Rattle.iq.specs.View.{modeOf, settledOf}
 use Rattle.state.specs.declared.InputConditioner.{InputConditioner}
-use Rattle.state.specs.FitsLaws.{state-fit}
-use Rattle.condition.specs.Calls.{settingIn, newPart, machineOf, notesIn, impulseAfter, impulseOut, impulseTold, blockerAfterBy, blockedBy, notedDc, notedIq, dcOut, handsOn, notesAfter, releasedSpan, loggedAfter, process, Acceptable}
-use Rattle.condition.specs.CallLaws.{call-roomy, call-room, new-length, new-few, off-out, off-told, on-told, blocked-by-length}
+use Rattle.condition.specs.Calls.{settingIn, newPart, machineOf, notesIn, impulseAfter, impulseOut, impulseTold, blockerAfterBy, blockedBy, notedDc, notedIq, dcOut, handsOn, notesAfter, loggedAfter, process, Acceptable}
+use Rattle.condition.specs.CallLaws.{call-roomy, call-room, new-length, new-few, off-told, on-told, blocked-by-length}
 
 -- ---- how many samples are handed on
 

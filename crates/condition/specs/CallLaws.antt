@@ -1,15 +1,14 @@
 -- What a call that is not refused leaves room for, and its impulse stage on and off. Assumes nothing.
-use mathlib.Core.Path.{_≡_, refl, sym, ap, _∙_, subst}
+use mathlib.Core.Path.{_≡_, refl, sym, ap, _∙_}
 use mathlib.Core.Bool.{Bool, true, false, cond, _&&_}
-use mathlib.Core.List.{List, [], _∷_, _++_, map, append-nil}
-use Prim.Native.Nat.{ℕ, _+_, _-_, _*_, _^_, _≤_, _<_}
+use mathlib.Core.List.{List, [], _++_, map, append-nil}
+use Prim.Native.Nat.{ℕ, _+_, _-_, _^_, _≤_, _<_}
 use native.Mathlib.Omega.{arith}
 use lib.ListN.{length, take, drop, length-drop, drop-of-length-le}
 use lib.Seq.{take-at, drop-at}
 use lib.Dec.{lit<}
 use Rattle.rules.specs.Iq.{Mode, off, observe, apply}
 use Rattle.rules.specs.Log.{Span}
-use Rattle.rules.specs.RingLaws.{Sound}
 use Rattle.log.specs.View.{Logged, marksAt, markedAt}
 use Rattle.log.specs.Check.{logFits}
 use Rattle.log.specs.LogLaws.{Twelve}
@@ -19,7 +18,7 @@ use Rattle.dc.specs.declared.DcBlocker.{DcBlocker}
 use Rattle.dc.specs.Blocker.{levelOf}
 use Rattle.dc.specs.Cutting.{blocked-length}
 use Rattle.impulse_run.specs.NotesLaws.{bounded-up}
-use Rattle.impulse_run.specs.Noted.{noteAll, stateAfter, handed, told, over, Roomy}
+use Rattle.impulse_run.specs.Noted.{stateAfter, handed, told, over, Roomy}
 use Rattle.state.specs.declared.InputConditioner.{InputConditioner}
 use Rattle.state.specs.Fits.{heldBy}
 use Rattle.state.specs.FitsLaws.{Fit, state-fit}

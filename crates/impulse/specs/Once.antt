@@ -1,7 +1,7 @@
 -- Each sample is marked at most once in a ring: the spans of a ring climb, and end before what is not judged. So a ring's count is at most the judged. Assumes nothing.
-use mathlib.Core.Path.{_≡_, refl, ap, sym, _∙_, subst}
+use mathlib.Core.Path.{_≡_, refl, sym, subst}
 use mathlib.Core.Bool.{Bool, true, false, cond, false≢true}
-use mathlib.Core.List.{List, [], _∷_, _++_, append-assoc}
+use mathlib.Core.List.{List, [], _∷_, _++_}
 use Prim.Native.Nat.{ℕ, zero, suc, _+_, _-_, _≤_}
 use native.Mathlib.Omega.{arith}
 use lib.Dec.{ltb}
@@ -9,7 +9,7 @@ use lib.ListN.{take, drop}
 use Rattle.rules.specs.Impulse.{Setting, before, start, closes, blockOf, paused, touches, mendable, Event, uncertain, kept, mended, eventsAt, events}
 use Rattle.rules.specs.Runs.{before-le, before-off, start-on}
 use Rattle.rules.specs.EventLaws.{marks-append}
-use Rattle.rules.specs.Log.{Span, Mark, isRepaired, isFlagged, isCorrected, isUncertain, marksOfEvent, marksOf}
+use Rattle.rules.specs.Log.{Span, Mark, isRepaired, isFlagged, isCorrected, isUncertain, marksOf}
 
 -- each span starts at the end of the one before or later
 abbrev pub Climbs : ℕ → List Span → Type 0

@@ -2,7 +2,7 @@
 use mathlib.Core.Path.{_≡_, refl, ap, sym, _∙_}
 use mathlib.Core.Logic.{_⊎_, inl, inr, ⊎-elim}
 use mathlib.Core.Bool.{Bool, true, false, cond, not, _&&_, false≢true}
-use mathlib.Core.List.{List, [], _∷_, _++_, append-assoc}
+use mathlib.Core.List.{List, [], _∷_, _++_}
 use Prim.Native.Nat.{ℕ, zero, suc, _+_, _-_, _≤_, _<_}
 use native.Mathlib.Decide.{ℕ-discrete}
 use native.Mathlib.Omega.{arith}
@@ -14,8 +14,8 @@ use Rattle.rules.specs.Lists.{at, upTo}
 use Rattle.rules.specs.ListLaws.{length-upTo, getD-upTo}
 use Rattle.rules.specs.EventLaws.{repairs-append}
 use Rattle.rules.specs.SortLaws.{All, all-append}
-use Rattle.rules.specs.Impulse.{Setting, lookahead, flagged, judged, before, start, closes, blockOf, paused, touches, mendable, mends, covers, value, Event, uncertain, kept, mended, eventsAt, events, handedOn, happened}
-use Rattle.rules.specs.Log.{repairWords, repairsOfEvent, repairsOf}
+use Rattle.rules.specs.Impulse.{Setting, lookahead, flagged, judged, before, start, closes, blockOf, paused, touches, mendable, mends, covers, value, uncertain, kept, mended, eventsAt, events, handedOn, happened}
+use Rattle.rules.specs.Log.{repairWords, repairsOf}
 use Rattle.rules.specs.Undo.{returned, undone, undoneAll}
 use Rattle.rules.specs.Runs.{before-le, hit-says, value-missed}
 

@@ -1,11 +1,11 @@
 -- What an accepted call and an accepted hop have, and that one that is not accepted leaves all. Assumes nothing.
 use mathlib.Core.Path.{_≡_, refl, ap, sym, _∙_, subst}
-use mathlib.Core.Bool.{Bool, true, false, cond, not, false≢true}
+use mathlib.Core.Bool.{Bool, true, false, cond, false≢true}
 use mathlib.Core.List.{List, [], _∷_, _++_}
-use Prim.Native.Nat.{ℕ, zero, suc, _+_, _-_, _*_, _≤_, _<_}
+use Prim.Native.Nat.{ℕ, zero, suc, _+_, _-_, _*_}
 use native.Mathlib.Omega.{arith}
 use lib.Dec.{T, eqb, ltb}
-use borrow.Author.Tests.{lt-ltb, eqb-true, ltb-false}
+use borrow.Author.Tests.{lt-ltb, eqb-true}
 use lib.ListN.{length}
 use lib.Ieee.{Float}
 use Rattle.rules.specs.Guard.{usable, firstUnusableFrom}
@@ -14,14 +14,13 @@ use Rattle.rules.specs.SortLaws.{all-append}
 use Rattle.part_limit.specs.Limit.{returned}
 use Rattle.log.specs.Check.{endsFit}
 use Rattle.impulse.specs.Stage.{Usable}
-use Rattle.image.specs.Observe as monitor
-use Rattle.image.specs.Observe.{Seen, leaving, isNone, observed, acceptedOf}
+use Rattle.image.specs.Observe.{Seen, leaving, isNone, acceptedOf}
 use Rattle.image.specs.ObserveLaws.{observed-by}
 use Rattle.iq.specs.View.{settledOf}
 use Rattle.image.specs.declared.HopAnswer.the-variants as answer
 use Rattle.state.specs.declared.InputConditioner.{InputConditioner}
 use Rattle.state.specs.Fits.{stateFits}
-use Rattle.condition.specs.Calls.{Machine, machineOf, newPart, callRefusal, Said, refused, ready, Outcome, taken, declined, called}
+use Rattle.condition.specs.Calls.{Machine, newPart, callRefusal, Said, Outcome, taken, declined, called}
 use Rattle.condition.specs.CallTests.{callNumber, refusal-by}
 use Rattle.condition.specs.Hops.{saidHop, answerOf, isOffIq, watched, hopRefusal, hopOf, byNumber, followed}
 use Rattle.condition.specs.Hops as hops

@@ -1,5 +1,5 @@
 -- A call with xs ++ ys is a call with xs and then one with ys: the chain after it, and what is released. Assumes nothing.
-use mathlib.Core.Path.{_≡_, refl, ap, sym, _∙_, subst}
+use mathlib.Core.Path.{_≡_, refl, ap, sym, _∙_}
 use mathlib.Core.Bool.{Bool, true, false, cond, false≢true}
 use mathlib.Core.List.{List, [], _∷_, _++_, map, foldl, foldl-append}
 use Prim.Native.Nat.{ℕ, _+_, _-_, _≤_, _<_}

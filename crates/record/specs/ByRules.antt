@@ -1,19 +1,18 @@
 -- The chain after samples and hops is what the rules give for the whole input. Assumes nothing.
-use mathlib.Core.Path.{_≡_, refl, ap, sym, _∙_, subst}
+use mathlib.Core.Path.{_≡_, refl, ap, sym, _∙_}
 use mathlib.Core.Bool.{Bool, true, false, cond}
-use mathlib.Core.List.{List, [], _∷_, _++_, map, foldl}
-use Prim.Native.Nat.{ℕ, _+_, _-_, _*_, _^_, _≤_, _<_, min}
+use mathlib.Core.List.{List, [], _∷_, map, foldl}
+use Prim.Native.Nat.{ℕ, _-_, _*_, _≤_, _<_}
 use native.Mathlib.Omega.{arith}
 use lib.Dec.{lit<, lit≤}
 use lib.ListN.{length, replicate}
-use lib.Ieee.{Float}
-use Rattle.rules.specs.Impulse.{Setting, standard, Offered, Event, uncertain, kept, mended, handedOn, happened, held, lookahead}
+use Rattle.rules.specs.Impulse.{Offered, Event, uncertain, kept, mended}
 use Rattle.rules.specs.Dc.{corner, firstLevel, levelAfter, blockedAll}
 use Rattle.rules.specs.Iq.{Mode, off, observe, apply, Settled, isOff, observing, withheld, correcting, correctedBy}
 use Rattle.rules.specs.Log as rules
-use Rattle.rules.specs.Log.{Stage, impulse, dc, iq, Mark, isRepaired, isFlagged, isCorrected, isUncertain, ringNumber, Span, spanOf, mark, noMarks, marked, marksOf, marksOfEvent, repaired, repairsOf, longRuns}
-use Rattle.rules.specs.Chain.{Config, isApply, runs, blockLength, settingOf, impulseEvents, afterImpulse, afterDc, settledBy, released, ringOf, repairRing, longRunsOf, evidence}
-use Rattle.log.specs.View.{Logged, freshLog, marksAt}
+use Rattle.rules.specs.Log.{Stage, impulse, dc, iq, Mark, isRepaired, isFlagged, isCorrected, isUncertain, ringNumber, Span, spanOf, mark, noMarks, marked, marksOf, repaired, repairsOf, longRuns}
+use Rattle.rules.specs.Chain.{isApply, runs, blockLength, settingOf, impulseEvents, afterImpulse, afterDc, settledBy, released, ringOf, repairRing, longRunsOf, evidence}
+use Rattle.log.specs.View.{freshLog, marksAt}
 use Rattle.log.specs.LogLaws.{fresh-marks}
 use Rattle.impulse.specs.declared.ImpulseSuppressor.{ImpulseSuppressor}
 use Rattle.impulse.specs.Machine.{fresh}

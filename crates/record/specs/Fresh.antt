@@ -2,7 +2,7 @@
 use mathlib.Core.Path.{_≡_, refl, ap, sym, _∙_}
 use mathlib.Core.Bool.{Bool, true, false, cond}
 use mathlib.Core.List.{List, [], map, foldl}
-use Prim.Native.Nat.{ℕ, _+_, _-_, _*_, _<_}
+use Prim.Native.Nat.{ℕ, _+_, _-_, _<_}
 use native.Mathlib.Omega.{arith}
 use lib.ListN.{length, replicate}
 use lib.Dec.{eqb}
@@ -11,11 +11,10 @@ use Rattle.rules.specs.Constants.{zeroF}
 use Rattle.rules.specs.Iq.{Mode, off, observe, apply, correctedBy}
 use Rattle.rules.specs.Dc.{levelAfter, blockedAll}
 use Rattle.rules.specs.Log as rules
-use Rattle.rules.specs.Log.{Span, mark, spanOf, marksOf, repairsOf, longRuns}
-use Rattle.rules.specs.Monitor.{Hop, windowLength, answers, openWindow, suspectedSpans}
+use Rattle.rules.specs.Log.{Span, mark, spanOf, marksOf}
+use Rattle.rules.specs.Monitor.{answers, openWindow, suspectedSpans}
 use Rattle.rules.specs.Chain.{evidence, settledBy}
-use Rattle.log.specs.View.{Logged, bare, marksAt}
-use Rattle.impulse.specs.declared.ImpulseSuppressor.{ImpulseSuppressor}
+use Rattle.log.specs.View.{bare, marksAt}
 use Rattle.impulse_run.specs.Noted.{noteAll, told, marksFor, Rings}
 use Rattle.impulse_run.specs.NotesLaws.{note-none}
 use Rattle.dc.specs.declared.DcBlocker.{DcBlocker}
@@ -25,7 +24,7 @@ use Rattle.iq.specs.View.{modeOf, settledOf}
 use Rattle.config.specs.declared.ConditioningConfig.{ConditioningConfig}
 use Rattle.config.specs.Config.{configOf}
 use Rattle.state.specs.declared.InputConditioner.{InputConditioner}
-use Rattle.condition.specs.Making.{freshState, freshSettings, Said, made, makingSaid, madeWords}
+use Rattle.condition.specs.Making.{freshState, Said, made, makingSaid, madeWords}
 use Rattle.condition.specs.Calls.{settingIn, Machine, machineOf, notesIn, impulseAfter, impulseOut, impulseTold, blockerAfterBy, blockedBy, handsOn, notesAfter, loggedAfter, process}
 use Rattle.condition.specs.Hops.{isObserving}
 use Rattle.record.specs.Rings.{dcMarks, iqMarks, markIf, ringAfter}
@@ -33,7 +32,7 @@ use Rattle.record.specs.RingLaws.{same-rings, call-rings, call-at}
 use Rattle.record.specs.Hopping.{withHops}
 use Rattle.record.specs.Lists.{madeChain}
 use Rattle.record.specs.Reaching.{freshMachine, freshChain, hopMarks, core, chainAt, fresh-rings}
-use Rattle.record.specs.Made.{Lent, made-fit}
+use Rattle.record.specs.Made.{made-fit}
 
 -- ---- a call that brings nothing
 

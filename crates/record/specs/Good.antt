@@ -1,13 +1,13 @@
 -- Number 5 is not met by the chain after any samples and hops. Assumes nothing.
-use mathlib.Core.Path.{_≡_, refl, ap, sym, _∙_, subst}
+use mathlib.Core.Path.{_≡_, refl, ap, _∙_}
 use mathlib.Core.Bool.{Bool, true, false, cond, _&&_}
 use mathlib.Core.List.{List, []}
-use Prim.Native.Nat.{ℕ, zero, suc, _+_, _-_, _*_, _^_, _≤_, _<_, min}
+use Prim.Native.Nat.{ℕ, zero, suc, _-_, _≤_, _<_, min}
 use native.Mathlib.Omega.{arith}
 use lib.ListN.{length}
 use Rattle.rules.specs.Impulse.{Setting, standard, handedOn, lookahead, value, flagged, judged}
 use Rattle.rules.specs.Dc.{corner, firstLevel, levelAfter}
-use Rattle.rules.specs.Iq.{Mode, off, observe, apply, Settled}
+use Rattle.rules.specs.Iq.{Mode, off, observe, apply}
 use Rattle.rules.specs.Log as rules
 use Rattle.rules.specs.Log.{Stage, impulse, dc, iq, Mark, isRepaired, isFlagged, isCorrected, isUncertain, ringNumber}
 use Rattle.rules.specs.Monitor.{Hop}
@@ -21,17 +21,15 @@ use Rattle.log.specs.CheckLaws.{all-of}
 use Rattle.impulse.specs.declared.ImpulseSuppressor.{ImpulseSuppressor}
 use Rattle.impulse.specs.Machine.{fresh}
 use Rattle.impulse.specs.Theorem.{stateOf}
-use Rattle.dc.specs.declared.DcBlocker.{DcBlocker}
 use Rattle.dc.specs.Blocker.{blockerOf}
 use Rattle.iq.specs.View.{modeOf, settledOf}
 use Rattle.image.specs.Words.{wordsFit}
 use Rattle.config.specs.declared.ConditioningConfig.{ConditioningConfig}
 use Rattle.config.specs.Config.{configOf}
-use Rattle.state.specs.declared.InputConditioner.{InputConditioner}
 use Rattle.state.specs.Fits.{heldBy, applies, settingsFit, countsFit, gateFits, suppressorFits, blockerFits, coefficientFits, monitorFits, frontFits, impulseFits, logsFit, stagesFit, stateFits}
 use Rattle.condition.specs.Making.{freshState, freshSettings}
 use Rattle.condition.specs.MakingLaws.{settled-again}
-use Rattle.condition.specs.Calls.{notesIn, impulseAfter, impulseOut, process, notesAfter}
+use Rattle.condition.specs.Calls.{impulseOut, process}
 use Rattle.record.specs.Append.{setting-same}
 use Rattle.record.specs.Hopping.{withHops, hopLogged}
 use Rattle.record.specs.Reaching.{freshMachine, hopMarks, core, chainAt, Reached}

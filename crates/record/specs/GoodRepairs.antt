@@ -1,6 +1,6 @@
 -- NUMBER 5'S TESTS ON RINGS find nothing in the repair ring and the long-run count that the rules give for at most 2 ^ 48 samples; each record that the ring holds is one of 1 to 4 samples. Assumes nothing.
 use mathlib.Core.Path.{_≡_, refl, sym, _∙_, subst}
-use mathlib.Core.Bool.{Bool, true, false, cond, not, _&&_, false≢true}
+use mathlib.Core.Bool.{Bool, true, false, cond, not, _&&_}
 use mathlib.Core.List.{List, [], _∷_, _++_}
 use Prim.Native.Nat.{ℕ, zero, suc, _+_, _*_, _^_, _≤_, _<_}
 use native.Mathlib.Omega.{arith}

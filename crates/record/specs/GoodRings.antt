@@ -2,11 +2,11 @@
 use mathlib.Core.Path.{_≡_, refl, ap}
 use mathlib.Core.Bool.{Bool, true, false, cond}
 use mathlib.Core.List.{List, [], _∷_, _++_}
-use Prim.Native.Nat.{ℕ, suc, _+_, _-_, _^_, _≤_, _<_}
+use Prim.Native.Nat.{ℕ, _+_, _-_, _^_, _≤_, _<_}
 use native.Mathlib.Omega.{arith}
 use lib.ListN.{length}
 use Rattle.rules.specs.ListLaws.{length-map}
-use Rattle.rules.specs.Impulse.{Setting, flagged, judged, start, events, happened, handedOn, value, lookahead}
+use Rattle.rules.specs.Impulse.{Setting, flagged, judged, start, events, happened}
 use Rattle.rules.specs.Dc.{corner, firstLevel, blockedAll}
 use Rattle.rules.specs.Iq.{Settled, isOff, observing, withheld, correcting, correctedBy}
 use Rattle.rules.specs.Monitor.{Hop, hopEnd, reported, Answer, noReport, report, windowLength, windowStart, due, reportOf, answerTo, nextWindow, answers, suspectedSpan, suspectedSpans}

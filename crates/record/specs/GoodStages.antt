@@ -16,8 +16,7 @@ use Rattle.rules.specs.Lists.{upTo, at}
 use Rattle.rules.specs.ListLaws.{length-upTo}
 use Rattle.rules.specs.Guard.{magnitude, usable}
 use Rattle.rules.specs.SortLaws.{all-getD}
-use Rattle.rules.specs.Impulse.{Setting, lookahead, flagged, judged, before, start, mends, leftPlace, leftOf, mendedAt, covers, value, handedOn}
-use Rattle.rules.specs.Runs.{hit-says}
+use Rattle.rules.specs.Impulse.{Setting, lookahead, flagged, judged, start, value, handedOn}
 use Rattle.rules.specs.Dc.{Level, firstLevel, corner, levelAfter}
 use Rattle.rules.specs.Iq.{Mode, off, observe, apply, Calibrated, none, with, correcting, withheld, ranged, coefficient, accepted, correctable, settled}
 use Rattle.rules.specs.Chain.{Config, runs, blockLength, settingOf, afterImpulse, settledBy}

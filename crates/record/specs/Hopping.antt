@@ -1,17 +1,15 @@
 -- What hops move beside what calls move: the monitor, and while observing the ring of uncertain IQ spans. A call leaves it alone. Assumes nothing.
 use mathlib.Core.Path.{_≡_, refl, ap, sym, _∙_, subst}
-use mathlib.Core.Bool.{Bool, true, false, cond, false≢true}
-use mathlib.Core.List.{List, [], _∷_, _++_, foldl, foldl-append}
-use Prim.Native.Nat.{ℕ, _≤_, _<_}
+use mathlib.Core.Bool.{Bool, true, false, false≢true}
+use mathlib.Core.List.{List, [], _∷_, foldl}
+use Prim.Native.Nat.{ℕ, _<_}
 use native.Mathlib.Decide.{ℕ-discrete}
-use native.Mathlib.Omega.{arith}
-use lib.Dec.{eqb, lit<, lit≤}
-use borrow.Author.Tests.{eq-eqb, ne-eqb}
-use lib.ListN.{length}
+use lib.Dec.{lit<}
+use borrow.Author.Tests.{ne-eqb}
 use Rattle.rules.specs.Iq.{Mode, off, observe, apply, Settled, isOff, observing, withheld, correcting}
 use Rattle.rules.specs.Log as rules
-use Rattle.rules.specs.Log.{Span, mark, append, repairsOf, longRuns}
-use Rattle.log.specs.View.{Logged, bare, marksAt, markedAt}
+use Rattle.rules.specs.Log.{Span, mark}
+use Rattle.log.specs.View.{Logged, bare, marksAt}
 use Rattle.log.specs.LogLaws.{Twelve}
 use Rattle.image.specs.declared.ImageMonitor.{ImageMonitor}
 use Rattle.impulse_run.specs.Noted.{marksFor, Rings}

@@ -1,9 +1,9 @@
 -- What an accepted configuration has: fit settings, and stores of the right lengths. Assumes nothing.
-use mathlib.Core.Path.{_≡_, refl, ap, sym, _∙_}
-use mathlib.Core.Bool.{Bool, true, false, cond, not, _||_, false≢true}
+use mathlib.Core.Path.{_≡_, refl, ap}
+use mathlib.Core.Bool.{Bool, true, false, cond, not, false≢true}
 use Prim.Native.Nat.{ℕ, zero, suc, _*_, _<_}
 use native.Mathlib.Omega.{arith}
-use lib.Dec.{eqb, ltb}
+use lib.Dec.{eqb}
 use borrow.Author.Tests.{eqb-true, eq-eqb}
 use Rattle.rules.specs.Constants.{one, rateLimit}
 use Rattle.rules.specs.Iq.{ranged}
@@ -13,7 +13,7 @@ use Rattle.config.specs.declared.ConditioningConfig.{ConditioningConfig}
 use Rattle.config.specs.Config.{configOf, allOff, settingRefusal, refusal}
 use Rattle.config.specs.ConfigLaws.{Limits, setting-limits}
 use Rattle.state.specs.Blocks.{block-some}
-use Rattle.condition.specs.Making.{Said, nothing, refused, made, isMade, numbered, makingSaid}
+use Rattle.condition.specs.Making.{nothing, made, isMade, numbered, makingSaid}
 
 pub record Fit (g : ConditioningConfig) : Type 0 where
   pub setting : settingRefusal (g .fs) (g .n) (g .spans) (g .repairs) ≡ 0

@@ -1,8 +1,8 @@
 -- DEMAND 3: one record, however a signal is cut into calls. The statement is the record `OneRecord` of Lists.antt. Assumes nothing.
 use mathlib.Core.Path.{_≡_, refl, ap, sym, _∙_, subst}
-use mathlib.Core.Bool.{Bool, true, false, cond, not, false≢true}
+use mathlib.Core.Bool.{Bool, true, false, cond, false≢true}
 use mathlib.Core.List.{List, [], _∷_, _++_, map, append-nil, append-assoc}
-use Prim.Native.Nat.{ℕ, zero, suc, _+_, _-_, _*_, _^_, _≤_, _<_, min}
+use Prim.Native.Nat.{ℕ, suc, _+_, _-_, _*_, _^_, _≤_, _<_}
 use native.Mathlib.Omega.{arith}
 use lib.Dec.{T, eqb, ltb}
 use borrow.Author.Tests.{eq-eqb, eqb-true, le-ltb}
@@ -14,9 +14,9 @@ use Rattle.rules.specs.Guard.{usable, firstUnusableFrom}
 use Rattle.rules.specs.Iq.{off, isOff, settled, correctedBy}
 use Rattle.rules.specs.Log.{repairsOf}
 use Rattle.rules.specs.Monitor.{Hop, hopEnd}
-use Rattle.rules.specs.Refusals.{badStart, tooMany, unusableAt, anyUnusable, firstBeyondFrom}
+use Rattle.rules.specs.Refusals.{badStart, tooMany, unusableAt, anyUnusable}
 use Rattle.rules.specs.Chain as rules
-use Rattle.rules.specs.Chain.{isApply, runs, afterImpulse, afterDc, impulseEvents, dcLevel, levelIs, noLevel, settledBy, evidence, lastWords}
+use Rattle.rules.specs.Chain.{isApply, runs, afterImpulse, afterDc, impulseEvents, dcLevel, levelIs, noLevel, settledBy, lastWords}
 use Rattle.part_limit.specs.Limit.{returned}
 use Rattle.impulse.specs.Stage.{Usable}
 use Rattle.dc.specs.declared.DcBlocker.{DcBlocker}
@@ -29,11 +29,10 @@ use Rattle.image.specs.WordsLaws.{length-words}
 use Rattle.config.specs.declared.ConditioningConfig.{ConditioningConfig}
 use Rattle.config.specs.Config.{configOf}
 use Rattle.state.specs.declared.InputConditioner.{InputConditioner}
-use Rattle.state.specs.declared.Settings.{Settings}
 use Rattle.state.specs.Fits.{heldBy}
 use Rattle.condition.specs.Making.{freshState, freshSettings, Said, made, makingSaid}
 use Rattle.condition.specs.Calls as call
-use Rattle.condition.specs.Calls.{Machine, newPart, callRefusal, refused, ready, Outcome, taken, declined, called, impulseOut, process, handsOn}
+use Rattle.condition.specs.Calls.{newPart, callRefusal, refused, ready, Outcome, taken, declined, called, process, handsOn}
 use Rattle.condition.specs.CallTests.{callNumber, refusal-by, taken-by}
 use Rattle.condition.specs.Accepting.{hands-length}
 use Rattle.condition.specs.Hops as hop
@@ -42,13 +41,12 @@ use Rattle.image.specs.declared.HopAnswer.the-variants as answer
 use Rattle.rules.specs.Undo.{undoneAll}
 use Rattle.condition.specs.Hops.{isOffIq, saidHop, Hopped, hopOf, hopRefusal}
 use Rattle.condition.specs.HopLaws as hopLaws
-use Rattle.condition.specs.HopKeeps.{isAnswered}
 use Rattle.undo.specs.Undoing as undo
 use Rattle.undo.specs.Undoing.{undoOf, undoRefusal}
 use Rattle.undo.specs.UndoLaws.{chain-made, made-length, chain-accepted, chain-returns}
 use Rattle.record.specs.Lists.{own, Operation, Chain, callOn, next, run, isReady, Proper, Found, ByRules, NoFive, ownHops, OneRecord, madeChain}
 use Rattle.record.specs.Lists as list
-use Rattle.record.specs.Hopping.{withHops, hopLogged, uncertain-rings}
+use Rattle.record.specs.Hopping.{withHops, uncertain-rings}
 use Rattle.record.specs.RingLaws.{call-rings}
 use Rattle.record.specs.Accepted.{Taken}
 use Rattle.record.specs.Reaching.{freshMachine, freshChain, hopMarks, core, chainAt, Reached, Leads, own-call, own-hop, ends, fresh-rings, end-next, monitor-end}

@@ -1,22 +1,19 @@
 -- The chain after samples and hops in closed form; each operation leads from one such chain to another, and so does a list. Assumes nothing.
 use mathlib.Core.Path.{_≡_, refl, ap, sym, _∙_, subst}
-use mathlib.Core.Bool.{Bool, true, false, cond, not, false≢true}
+use mathlib.Core.Bool.{Bool, true, false, cond, false≢true}
 use mathlib.Core.List.{List, [], _∷_, _++_, foldl, foldl-append, append-nil, append-assoc}
-use Prim.Native.Nat.{ℕ, zero, suc, _+_, _-_, _*_, _^_, _≤_, _<_}
+use Prim.Native.Nat.{ℕ, _+_, _-_, _*_, _^_, _≤_, _<_}
 use native.Mathlib.Omega.{arith}
-use lib.Dec.{T, eqb, ltb}
-use borrow.Author.Tests.{eqb-true, eq-eqb, ltb-false}
-use lib.ListN.{length, take, drop, replicate, length-append, length-drop}
+use borrow.Author.Tests.{ltb-false}
+use lib.ListN.{length, drop, replicate, length-append, length-drop}
 use lib.Seq.{take-at}
 use lib.Ieee.{Float}
 use Rattle.rules.specs.Constants.{zeroF}
-use Rattle.rules.specs.Iq.{Settled, isOff, observing, withheld, correcting}
-use Rattle.rules.specs.Guard.{usable, firstUnusableFrom}
-use Rattle.rules.specs.Log.{Span, noMarks}
+use Rattle.rules.specs.Guard.{usable}
+use Rattle.rules.specs.Log.{Span}
 use Rattle.rules.specs.Monitor.{Hop, Answer, noReport, report, windowLength, answers, openWindow, monitorWords, nextWindow, answerTo, hopEnd, suspectedSpan, suspectedSpans}
-use Rattle.rules.specs.Chain.{Config, settledBy, evidence}
-use Rattle.rules.specs.SortLaws.{All}
-use Rattle.log.specs.View.{Logged, freshLog}
+use Rattle.rules.specs.Chain.{settledBy, evidence}
+use Rattle.log.specs.View.{freshLog}
 use Rattle.log.specs.CheckLaws.{Bounded, fresh-bounded}
 use Rattle.impulse.specs.Stage.{Usable}
 use Rattle.impulse_run.specs.Noted.{Rings}
@@ -32,9 +29,9 @@ use Rattle.state.specs.declared.Settings.{Settings}
 use Rattle.state.specs.declared.InputConditioner.{InputConditioner}
 use Rattle.condition.specs.Making.{freshState, freshSettings}
 use Rattle.condition.specs.MakingLaws.{settled-again}
-use Rattle.condition.specs.Calls.{Machine, machineOf, notesIn, newPart, callRefusal, Said, refused, ready, Outcome, taken, declined, called, process, handsOn}
+use Rattle.condition.specs.Calls.{Machine, machineOf, notesIn, newPart, callRefusal, Said, refused, ready, Outcome, taken, called, process, handsOn}
 use Rattle.condition.specs.Hops as hops
-use Rattle.condition.specs.Hops.{isObserving, isOffIq, uncertain, saidHop, Hopped, hopOf}
+use Rattle.condition.specs.Hops.{isObserving, isOffIq, uncertain, saidHop, Hopped}
 use Rattle.record.specs.Lists.{Given, own, other, handed, kept, Operation, call, hop, Chain, afterCall, callOn, afterHop, hopOn, next, run, IsOwn, isReady, Found, Proper}
 use Rattle.record.specs.RingLaws.{call-rings}
 use Rattle.record.specs.Append.{process-append, hands-append}

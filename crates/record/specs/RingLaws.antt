@@ -1,14 +1,14 @@
 -- The view of the log as its rings can be undone; a call marks ring by ring. Assumes nothing.
-use mathlib.Core.Path.{_≡_, refl, ap, sym, _∙_, subst}
-use mathlib.Core.Bool.{Bool, true, false, cond}
-use mathlib.Core.List.{List, [], _∷_, _++_, map, foldl, append-nil, append-assoc}
-use Prim.Native.Nat.{ℕ, zero, suc, _+_, _*_, _≤_, _<_}
+use mathlib.Core.Path.{_≡_, refl, ap, sym, _∙_}
+use mathlib.Core.Bool.{Bool}
+use mathlib.Core.List.{List, [], _∷_, _++_, map, append-nil, append-assoc}
+use Prim.Native.Nat.{ℕ, zero, suc, _+_, _*_, _<_}
 use native.Mathlib.Nat.{zero-mul, suc-mul}
 use native.Mathlib.Decide.{ℕ-discrete}
 use native.Mathlib.Omega.{arith}
 use lib.Dec.{eqb, lit<}
 use borrow.Author.Tests.{eq-eqb, ne-eqb}
-use lib.ListN.{length, getD, take, drop, List·getD-map}
+use lib.ListN.{take, drop, List·getD-map}
 use lib.Seq.{take-all, ext-getD}
 use Rattle.rules.specs.Iq.{Mode, off, observe, apply, Settled, isOff, observing, withheld, correcting}
 use Rattle.rules.specs.Log as rules
@@ -17,7 +17,7 @@ use Rattle.rules.specs.Lists.{upTo}
 use Rattle.rules.specs.ListLaws.{length-upTo, getD-upTo, upTo-same, length-map}
 use Rattle.log.specs.View.{Logged, bare, freshRing, partOf, marksAt, markedAt, joined, logOf}
 use Rattle.log.specs.LogLaws.{Twelve, marked-same, marked-other}
-use Rattle.impulse_run.specs.Noted.{Noted, Rings, noteAll}
+use Rattle.impulse_run.specs.Noted.{Rings, noteAll}
 use Rattle.impulse_run.specs.NotedRings.{marked-rings, noted-rings, noted-at}
 use Rattle.iq.specs.View.{modeOf, settledOf}
 use Rattle.condition.specs.Calls.{Machine, notesIn, impulseTold, releasedSpan, notedDc, notedIq, notesAfter, loggedAfter}

@@ -1,5 +1,5 @@
 -- Document 01's bench marks that it marks P, as one theorem on the rules: `bench-marks`. Each part is computed. Assumes nothing.
-use mathlib.Core.Path.{_≡_, refl, ap, sym, _∙_}
+use mathlib.Core.Path.{_≡_, refl, ap, _∙_}
 use mathlib.Core.Bool.{Bool, true, false, _&&_, _||_}
 use mathlib.Core.List.{List, [], _∷_, _++_}
 use Prim.Native.Nat.{ℕ, _+_, _-_}
@@ -7,12 +7,11 @@ use native.Mathlib.Omega.{arith}
 use lib.Dec.{leb, ltb, eqb, lit≤}
 use lib.ListN.{length, replicate}
 use lib.Ieee.{Float, binary64, ofBits}
-use Rattle.complex.specs.Complex.{Complex}
 use Rattle.rules.specs.Lists.{upTo}
-use Rattle.rules.specs.Impulse.{Setting, standard, powerOf, window, reference, flagged, Event, kept, mended, uncertain, events, value, paused, happened, handedOn, judged}
+use Rattle.rules.specs.Impulse.{Setting, standard, window, reference, flagged, kept, mended, uncertain, events, value, happened, handedOn}
 use Rattle.rules.specs.Dc.{corner, firstLevel, levelAfter, blockedAll}
-use Rattle.rules.specs.Iq.{Calibration, apply, with, Settled, withheld, correcting, coefficient, settled}
-use Rattle.rules.specs.ByFlags.{from, flagsOf, look, quickFlags, quick-flags, happened-by, handed-by}
+use Rattle.rules.specs.Iq.{Calibration, apply, with, withheld, correcting, coefficient, settled}
+use Rattle.rules.specs.ByFlags.{from, flagsOf, quickFlags, quick-flags, happened-by, handed-by}
 use Rattle.rules.specs.Computing.{floats, impulseRules, dcRules, iqRules}
 
 -- ---- samples (n, 0), as words

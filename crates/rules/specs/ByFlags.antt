@@ -11,7 +11,7 @@ use lib.Ieee.Fits.{and-l, and-r}
 use lib.ListN.{length, getD, take, drop}
 use lib.Seq.{drop-drop, getD-drop}
 use Rattle.rules.specs.Lists.{at, upTo}
-use Rattle.rules.specs.Impulse.{Setting, lookahead, powerOf, reference, standsOut, flagged, judged, before, start, eventsAt, events, happened, value, handedOn}
+use Rattle.rules.specs.Impulse.{Setting, lookahead, powerOf, reference, standsOut, flagged, judged, before, eventsAt, events, happened, value, handedOn}
 use Rattle.rules.specs.Runs.{before-le}
 use Rattle.rules.specs.Prefix.{before-same, paused-same, touches-same, value-same}
 

@@ -1,6 +1,5 @@
 -- `condition::calls::filter` runs DC and then IQ over what is ready. Assumes nothing.
 use mathlib.Core.Path.{_∙_}
-use mathlib.Core.List.{_++_}
 use lib.ListN.{take, drop}
 use lib.Seq.{length-take-le}
 use Rattle.rules.specs.Iq.{correctedBy}

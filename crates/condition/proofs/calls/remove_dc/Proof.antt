@@ -1,13 +1,12 @@
 -- `condition::calls::remove_dc` runs the blocker over what is ready, as its mode has it. Assumes nothing.
-use mathlib.Core.Path.{_≡_, refl, sym, ap, _∙_}
+use mathlib.Core.Path.{_≡_, sym, ap, _∙_}
 use mathlib.Core.List.{List, _++_}
 use Prim.Native.Nat.{ℕ, _+_, _^_, _<_, _≤_}
 use native.Mathlib.Omega.{arith}
 use lib.ListN.{length, take, drop, take-append-drop}
 use lib.Seq.{length-take-le}
-use Rattle.rules.specs.Iq.{Mode, off, observe, apply}
+use Rattle.rules.specs.Iq.{Mode, observe}
 use Rattle.dc.specs.declared.DcBlocker.{DcBlocker}
-use Rattle.dc.specs.Blocker.{blockerAfter, processedAll}
 use Rattle.iq.specs.View.{modeOf}
 use Rattle.condition.specs.Calls.{blockerAfterBy, blockedBy}
 use borrow.Author.Needs.{needs}

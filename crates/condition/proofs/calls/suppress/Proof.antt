@@ -1,11 +1,10 @@
 -- `condition::calls::suppress` runs the impulse stage, if it runs. Assumes nothing.
-use mathlib.Core.Path.{_≡_, refl, sym, ap, _∙_}
-use mathlib.Core.List.{List, [], _++_}
+use mathlib.Core.Path.{_≡_, ap, _∙_}
+use mathlib.Core.List.{List}
 use Prim.Native.Nat.{ℕ}
-use lib.ListN.{length, drop}
+use lib.ListN.{length}
 use borrow.Author.Tests.{not-true, not-false}
 use denote.Ref.{now}
-use Rattle.rules.specs.Impulse.{Event}
 use Rattle.impulse_run.specs.Noted.{noteAll, over}
 use Rattle.condition.specs.Calls.{machineOf, notesIn}
 use Rattle.condition.specs.CallLaws.{call-roomy, call-room, off-after, off-told, off-out, off-written, on-after, on-told, on-out}

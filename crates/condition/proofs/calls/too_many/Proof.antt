@@ -1,11 +1,10 @@
 -- `condition::calls::too_many` tests the total against 2^48. Assumes nothing.
 use mathlib.Core.Path.{_≡_, refl, sym}
 use mathlib.Core.Bool.{Bool, true, false}
-use Prim.Native.Nat.{ℕ, _+_, _-_, _^_, _≤_, _<_}
+use Prim.Native.Nat.{ℕ, _+_, _-_, _^_, _≤_}
 use native.Mathlib.Omega.{arith}
 use lib.Dec.{ltb}
 use borrow.Author.Tests.{lt-ltb, le-ltb, ltb-true, ltb-false}
-use borrow.Author.Needs.{needs}
 use Rattle.condition.proofs.calls.too_many.Statement.{statement}
 use Rattle.condition.proofs.calls.too_many.Tie as tie
 

@@ -3,7 +3,7 @@ use mathlib.Core.Path.{sym, ap, _∙_}
 use mathlib.Core.Bool.{true, false}
 use borrow.Author.Needs.{needs}
 use Rattle.config.specs.Config.{configOf}
-use Rattle.condition.specs.Making.{nothing, numbered}
+use Rattle.condition.specs.Making.{numbered}
 use Rattle.condition.specs.MakingLaws.{said-by}
 use Rattle.condition.proofs.making.answer_to.Statement.{statement}
 use Rattle.condition.proofs.making.answer_to.Tie as tie
