@@ -21,16 +21,16 @@ enum-known-answer-2 : tie.Need-enum-known-answer-2
 enum-known-answer-2 c = search needs
 
 returns : tie.Need-returns
-returns c = search needs
+returns c = sym (ap answerOf (c .enum-told .given .1))
 
 returns-2 : tie.Need-returns-2
-returns-2 c = search needs
+returns-2 c = sym (ap answerOf (c .enum-told2 .given .1))
 
 returns-3 : tie.Need-returns-3
 returns-3 c = sym (ap answerOf (c .before .answer .given .1))
 
 returns-4 : tie.Need-returns-4
-returns-4 c = search needs
+returns-4 c = sym (ap answerOf (c .enum-told3 .given .1))
 
 returns-5 : tie.Need-returns-5
 returns-5 c = sym (ap answerOf (c .before .answer2 .given .1))
