@@ -3,7 +3,7 @@ use mathlib.Core.Path.{refl, sym, _∙_}
 use mathlib.Core.Bool.{true, false}
 use borrow.Author.Tests.{le-leb, lt-leb, not-true, not-false}
 use Rattle.state.specs.Fits.{blockerFits}
-use Rattle.state.proofs.Answers.{three}
+use Rattle.config.proofs.Answers.{three}
 use borrow.Author.Needs.{needs}
 use Rattle.state.proofs.blocker_fits.Statement.{statement}
 use Rattle.state.proofs.blocker_fits.Tie as tie

@@ -2,7 +2,7 @@
 use mathlib.Core.Path.{refl}
 use mathlib.Core.Bool.{true, false}
 use borrow.Author.Tests.{le-leb, lt-leb}
-use Rattle.state.proofs.Answers.{three}
+use Rattle.config.proofs.Answers.{three}
 use Rattle.state.proofs.counters_fit.Statement.{statement}
 use Rattle.state.proofs.counters_fit.Tie as tie
 

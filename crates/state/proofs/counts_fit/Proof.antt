@@ -5,7 +5,7 @@ use Prim.Native.Nat.{ℕ, _≤_}
 use native.Mathlib.Omega.{arith}
 use borrow.Author.Tests.{le-leb, lt-leb, eq-eqb, ne-eqb}
 use Rattle.state.specs.Fits.{heldBy, countsFit}
-use Rattle.state.proofs.Answers.{four}
+use Rattle.config.proofs.Answers.{four}
 use borrow.Author.Needs.{needs}
 use Rattle.state.proofs.counts_fit.Statement.{statement}
 use Rattle.state.proofs.counts_fit.Tie as tie

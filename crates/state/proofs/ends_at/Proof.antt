@@ -5,7 +5,7 @@ use Prim.Native.Nat.{ℕ, _+_, _-_, _≤_, _<_}
 use native.Mathlib.Omega.{arith}
 use lib.Dec.{eqb}
 use borrow.Author.Tests.{lt-ltb, le-ltb, eq-eqb, ne-eqb, eqb-true, eqb-false}
-use Rattle.state.proofs.Answers.{two}
+use Rattle.config.proofs.Answers.{two}
 use Rattle.state.proofs.ends_at.Statement.{statement}
 use Rattle.state.proofs.ends_at.Tie as tie
 

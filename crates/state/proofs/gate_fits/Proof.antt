@@ -4,7 +4,7 @@ use mathlib.Core.Bool.{Bool, true, false, _&&_}
 use Prim.Native.Nat.{ℕ, _-_}
 use borrow.Author.Tests.{not-true, not-false}
 use Rattle.state.specs.Fits.{counter, runFits, gateFits}
-use Rattle.state.proofs.Answers.{three}
+use Rattle.config.proofs.Answers.{three}
 use borrow.Author.Needs.{needs}
 use Rattle.state.proofs.gate_fits.Statement.{statement}
 use Rattle.state.proofs.gate_fits.Tie as tie

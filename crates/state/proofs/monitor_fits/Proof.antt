@@ -3,7 +3,7 @@ use mathlib.Core.Path.{refl, sym}
 use mathlib.Core.Bool.{true, false}
 use borrow.Author.Tests.{le-leb, lt-leb}
 use Rattle.state.specs.Fits.{monitorFits}
-use Rattle.state.proofs.Answers.{two}
+use Rattle.config.proofs.Answers.{two}
 use borrow.Author.Needs.{needs}
 use Rattle.state.proofs.monitor_fits.Statement.{statement}
 use Rattle.state.proofs.monitor_fits.Tie as tie

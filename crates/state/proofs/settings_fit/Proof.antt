@@ -7,7 +7,7 @@ use borrow.Author.Tests.{not-true, not-false}
 use Rattle.rules.specs.Chain.{blockLength}
 use Rattle.config.specs.Config.{settingRefusal}
 use Rattle.state.specs.Fits.{settingsFit}
-use Rattle.state.proofs.Answers.{two}
+use Rattle.config.proofs.Answers.{two}
 use borrow.Author.Needs.{needs}
 use Rattle.state.proofs.settings_fit.Statement.{statement}
 use Rattle.state.proofs.settings_fit.Tie as tie

@@ -4,7 +4,7 @@ use mathlib.Core.Bool.{Bool, true, false}
 use Prim.Native.Nat.{ℕ, min}
 use borrow.Author.Tests.{eq-eqb, ne-eqb, not-true, not-false}
 use Rattle.state.specs.Fits.{sortedFits, suppressorFits}
-use Rattle.state.proofs.Answers.{four}
+use Rattle.config.proofs.Answers.{four}
 use borrow.Author.Needs.{needs}
 use Rattle.state.proofs.suppressor_fits.Statement.{statement}
 use Rattle.state.proofs.suppressor_fits.Tie as tie

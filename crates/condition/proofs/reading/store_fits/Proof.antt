@@ -1,15 +1,13 @@
 -- `condition::reading::store_fits`: each test in its order. Assumes nothing.
-use mathlib.Core.Path.{_≡_}
-use mathlib.Core.Bool.{Bool, true, _&&_}
+use mathlib.Core.Path.{refl}
+use mathlib.Core.Bool.{true}
 use Prim.Native.Nat.{_≤_, _<_}
 use native.Mathlib.Omega.{arith}
 use borrow.Author.Tests.{lt-ltb, le-ltb, le-leb, lt-leb}
 use borrow.Author.Needs.{needs}
+use Rattle.config.proofs.Answers.{three}
 use Rattle.condition.proofs.reading.store_fits.Statement.{statement}
 use Rattle.condition.proofs.reading.store_fits.Tie as tie
-
-passed : (a b x : Bool) → a ≡ true → b ≡ true → x ≡ (a && b && x)
-passed a b x p q = rw (p, q)
 
 returns : tie.Need-returns
 returns c = let h : c .before .args .capacity ≤ 0 = omega (arith, c .if1 .taken) in simp (le-ltb 0 _ h)
@@ -21,7 +19,7 @@ mul-result : tie.Need-mul-result
 mul-result c = search needs
 
 returns-3 : tie.Need-returns-3
-returns-3 c = let h : 0 < c .before .before .args .capacity = omega (arith, c .before .if1 .left) in passed _ _ _ (lt-ltb 0 _ h) (le-leb _ _ (c .if2 .left))
+returns-3 c = let h : 0 < c .before .before .args .capacity = omega (arith, c .before .if1 .left) in three _ _ _ true true _ (lt-ltb 0 _ h) (le-leb _ _ (c .if2 .left)) refl
 
 pub store-fits-spec : {M : Type 1} → statement M
 store-fits-spec = tie.close (tie.spec returns returns-2 mul-result returns-3)

@@ -1,34 +1,31 @@
 -- `config::ConditioningConfig::is_off` is `allOff`. Assumes nothing.
-use mathlib.Core.Path.{_≡_, refl, sym, ap, _∙_}
-use mathlib.Core.Bool.{Bool, true, false, _&&_}
+use mathlib.Core.Path.{refl, sym, _∙_}
+use mathlib.Core.Bool.{true, false}
 use borrow.Author.Tests.{not-true, not-false}
+use Rattle.config.proofs.Answers.{three}
 use borrow.Author.Needs.{needs}
 use Rattle.config.proofs.ConditioningConfig.is_off.Statement.{statement}
 use Rattle.config.proofs.ConditioningConfig.is_off.Tie as tie
-
--- three tests by their answers
-and-by : (x y z s t u : Bool) → x ≡ s → y ≡ t → z ≡ u → (s && t && u) ≡ (x && y && z)
-and-by x y z s t u f g h = sym (ap (λ (b : Bool). b && y && z) f ∙ ap (λ (b : Bool). s && b && z) g ∙ ap (λ (b : Bool). s && t && b) h)
 
 is-mode-off-requires : tie.Need-is-mode-off-requires
 is-mode-off-requires c κs = search needs
 
 returns : tie.Need-returns
-returns c = and-by _ _ _ false _ _ (sym (c .before .is-mode-off .ensures) ∙ not-true _ (c .if1 .taken)) refl refl
+returns c = three _ _ _ false _ _ (sym (c .before .is-mode-off .ensures) ∙ not-true _ (c .if1 .taken)) refl refl
 
 is-mode-off-requires-2 : tie.Need-is-mode-off-requires-2
 is-mode-off-requires-2 c κs = search needs
 
 returns-2 : tie.Need-returns-2
 returns-2 c =
-    and-by _ _ _ true false _ (sym (c .before .before .before .is-mode-off .ensures) ∙ not-false _ (c .before .before .if1 .left)) (sym (c .before .is-mode-off2 .ensures) ∙ not-true _ (c .if2 .taken)) refl
+    three _ _ _ true false _ (sym (c .before .before .before .is-mode-off .ensures) ∙ not-false _ (c .before .before .if1 .left)) (sym (c .before .is-mode-off2 .ensures) ∙ not-true _ (c .if2 .taken)) refl
 
 is-mode-off-requires-3 : tie.Need-is-mode-off-requires-3
 is-mode-off-requires-3 c κs = search needs
 
 returns-3 : tie.Need-returns-3
 returns-3 c =
-    and-by _ _ _ true true _ (sym (c .before .before .before .before .is-mode-off .ensures) ∙ not-false _ (c .before .before .before .if1 .left)) (sym (c .before .before .is-mode-off2 .ensures) ∙ not-false _ (c .before .if2 .left)) (sym (c .is-mode-off3 .ensures))
+    three _ _ _ true true _ (sym (c .before .before .before .before .is-mode-off .ensures) ∙ not-false _ (c .before .before .before .if1 .left)) (sym (c .before .before .is-mode-off2 .ensures) ∙ not-false _ (c .before .if2 .left)) (sym (c .is-mode-off3 .ensures))
 
 pub is-off-spec : {M : Type 1} → statement M
 is-off-spec =

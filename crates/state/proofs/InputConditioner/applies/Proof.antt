@@ -2,7 +2,7 @@
 use mathlib.Core.Path.{refl}
 use mathlib.Core.Bool.{true, false}
 use borrow.Author.Tests.{not-true, not-false}
-use Rattle.state.proofs.Answers.{two}
+use Rattle.config.proofs.Answers.{two}
 use Rattle.state.proofs.InputConditioner.applies.Statement.{statement}
 use Rattle.state.proofs.InputConditioner.applies.Tie as tie
 

@@ -3,7 +3,7 @@ use mathlib.Core.Path.{refl, sym, _∙_}
 use mathlib.Core.Bool.{true, false}
 use borrow.Author.Tests.{not-true, not-false}
 use Rattle.state.specs.Fits.{stateFits}
-use Rattle.state.proofs.Answers.{four}
+use Rattle.config.proofs.Answers.{four}
 use borrow.Author.Needs.{needs}
 use Rattle.state.proofs.InputConditioner.fits.Statement.{statement}
 use Rattle.state.proofs.InputConditioner.fits.Tie as tie

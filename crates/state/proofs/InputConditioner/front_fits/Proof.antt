@@ -3,7 +3,7 @@ use mathlib.Core.Path.{_≡_, refl, sym, ap, _∙_}
 use mathlib.Core.Bool.{Bool, true, false}
 use borrow.Author.Tests.{not-true, not-false}
 use Rattle.state.specs.Fits.{applies, countsFit, frontFits}
-use Rattle.state.proofs.Answers.{three}
+use Rattle.config.proofs.Answers.{three}
 use borrow.Author.Needs.{needs}
 use Rattle.state.proofs.InputConditioner.front_fits.Statement.{statement}
 use Rattle.state.proofs.InputConditioner.front_fits.Tie as tie

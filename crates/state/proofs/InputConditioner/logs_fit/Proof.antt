@@ -3,7 +3,7 @@ use mathlib.Core.Path.{refl, sym, _∙_}
 use mathlib.Core.Bool.{true, false}
 use borrow.Author.Tests.{not-true, not-false}
 use Rattle.state.specs.Fits.{logsFit}
-use Rattle.state.proofs.Answers.{two}
+use Rattle.config.proofs.Answers.{two}
 use borrow.Author.Needs.{needs}
 use Rattle.state.proofs.InputConditioner.logs_fit.Statement.{statement}
 use Rattle.state.proofs.InputConditioner.logs_fit.Tie as tie
