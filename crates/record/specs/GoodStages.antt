@@ -29,7 +29,6 @@ use Rattle.impulse.specs.Stage.{Usable}
 use Rattle.dc.specs.Blocker.{blockerOf}
 use Rattle.dc.specs.LevelBounds as level
 use Rattle.dc.specs.LevelBounds.{Given, level-bounded}
-use Rattle.image.specs.Observe.{fresh}
 use Rattle.image.specs.Words.{wordsFit}
 use Rattle.image.specs.Hops.{InOrder, lastEnd, windowState, byRules}
 use Rattle.image.specs.WordBounds.{no-five}
@@ -153,10 +152,6 @@ module _ (fs : Float) (n : ℕ) (hs : List Hop) (few : n ≤ 2048) (o : InOrder 
 
   pub words-good : wordsFit n (byRules fs n [] 0 hs .words) ≡ true
   words-good = no-five fs n hs few o .words
-
-pub fresh-monitor-good : monitorFits fresh ≡ true
-unfolding monitorFits
-fresh-monitor-good = and-so (counter 0) true (le-leb 0 (2 ^ 52) (lit≤ tt)) refl
 
 -- ---- the counts and the settings
 

@@ -13,7 +13,6 @@ pub mod GoodImpulse
 pub mod GoodStages
 pub mod GoodRings
 pub mod GoodRepairs
-pub mod NewRings
 pub mod Good
 pub mod Fresh
 pub mod OneRecord

@@ -118,9 +118,6 @@ module _ (cap : ℕ) (x : Logged) (m : Span) (r : Rings cap x) where
 -- ---- a call, ring by ring
 
 module _ (m : Machine) (new : List ℕ) (r : Rings (m .state .settings .spans) (notesIn m .logged)) where
-  cap : ℕ
-  cap = m .state .settings .spans
-
   noted : Rings (m .state .settings .spans) (notesAfter m new .logged)
   unfolding notesAfter
   noted = noted-rings (m .state .settings .spans) (m .state .settings .repairs) (notesIn m) (impulseTold (m .state) new) r
