@@ -1,0 +1,3 @@
+-- What the contracts of `recording` cite.
+pub mod Format
+pub mod Report

@@ -1,0 +1,3 @@
+// A recording.
+
+fn nothing() {}

@@ -1,0 +1,38 @@
+-- Text as the codes of its letters, numbers as text, and text put into a lent store. Definitions only.
+use mathlib.Core.Bool.{cond}
+use mathlib.Core.List.{List, [], _∷_, _++_}
+use Prim.Native.Nat.{ℕ, zero, suc, _/_, _%_}
+use Prim.Native.Char.{code}
+use Prim.Native.String.{String, [] as end, _∷_ as _then_}
+use lib.Dec.{ltb}
+use lib.ListN.{set}
+use Rattle.io.specs.Digits.{glyph, digits}
+
+-- the codes of a text's letters
+unfoldable pub letters : String → List ℕ
+letters end = []
+letters (c then s) = code c ∷ letters s
+
+-- a number in decimal, by at most so many steps: the digits of its tenth, and the last one
+unfoldable pub decimalBy : ℕ → ℕ → List ℕ
+decimalBy zero n = []
+decimalBy (suc k) n = cond (ltb n 10) (glyph n ∷ []) (decimalBy k (n / 10) ++ (glyph (n % 10) ∷ []))
+
+-- a word has at most 20 digits
+abbrev pub decimal : ℕ → List ℕ
+decimal n = decimalBy 20 n
+
+-- 'as 16-digit lower-case hexadecimal'
+abbrev pub hexadecimal : ℕ → List ℕ
+hexadecimal n = digits 16 16 n
+
+-- words with a space between them, and a line end
+unfoldable pub line : List (List ℕ) → List ℕ
+line [] = letters "\n"
+line (w ∷ []) = w ++ letters "\n"
+line (w ∷ v ∷ ws) = w ++ (letters " " ++ line (v ∷ ws))
+
+-- bytes put into a store from a place on; what lies behind its end is left out
+unfoldable pub put : List ℕ → ℕ → List ℕ → List ℕ
+put text place [] = text
+put text place (b ∷ bs) = put (set text place b) (suc place) bs

@@ -1,0 +1,3 @@
+// Text put into a lent store of bytes.
+
+fn nothing() {}
