@@ -5,8 +5,8 @@ use mathlib.Core.List.{List, [], _∷_, _++_, map, append-nil, append-assoc}
 use Prim.Native.Nat.{ℕ, suc, _+_, _-_, _*_, _^_, _≤_, _<_}
 use native.Mathlib.Omega.{arith}
 use lib.Dec.{T, eqb, ltb}
-use borrow.Author.Tests.{eq-eqb, eqb-true, le-ltb}
-use lib.ListN.{length, take, drop}
+use borrow.Author.Tests.{eq-eqb, eqb-true, lt-ltb, le-ltb}
+use lib.ListN.{length, length-drop, take, drop}
 use lib.Ieee.{Float}
 use Rattle.complex.specs.View.{view64}
 use Rattle.rules.specs.Dc.{corner, firstLevel, levelAfter, blockedAll}
@@ -354,21 +354,44 @@ module _ (g : ConditioningConfig) (f : Fit g) where
       let a : (hs ++ (h ∷ [])) ++ es ≡ hs ++ (h ∷ es) = append-assoc hs (h ∷ []) es in
       (ap (λ (y : Chain). run y (ownHops es)) (n .0) ∙ m .0 ∙ ap (chainAt g xs) a, subst (Reached g xs) a (m .1))
 
+  -- ---- a call of usable samples, behind as many places as are held
+
+  module _ (xs : List ℕ) (hs : List Hop) (r : Reached g xs hs) (slice : List ℕ) where
+    abbrev state : InputConditioner
+    state = chainAt g xs hs .machine .state
+
+    -- its number is that of the total
+    call-total : chainAt g xs hs .machine .state .held ≤ length slice → Usable (newPart (chainAt g xs hs .machine .state) slice) → (b : Bool)
+        → ltb (2 ^ 48) (chainAt g xs hs .machine .state .seen + (length slice - chainAt g xs hs .machine .state .held)) ≡ b
+        → callRefusal (chainAt g xs hs .machine .state) slice (chainAt g xs hs .machine .spans) (chainAt g xs hs .machine .repairs) ≡ callNumber true true true true false b false
+    call-total l u b e =
+        let scan = scan-all (state .held) (newPart state slice) u in
+        call-number g f xs hs r slice
+        ∙ (λ i. callNumber true true true true
+        (le-ltb (length slice) (state .held) l i)
+        (e i)
+        (le-ltb (unusableAt (state .held) (newPart state slice)) (state .held + length (newPart state slice)) (omega (arith, scan)) i))
+
+    -- up to 2^48 in all it is accepted
+    pub call-accepted : chainAt g xs hs .machine .state .held ≤ length slice → Usable (newPart (chainAt g xs hs .machine .state) slice)
+        → length xs + length (newPart (chainAt g xs hs .machine .state) slice) ≤ 2 ^ 48
+        → callRefusal (chainAt g xs hs .machine .state) slice (chainAt g xs hs .machine .spans) (chainAt g xs hs .machine .repairs) ≡ 0
+    call-accepted l u m = call-total l u false (le-ltb (2 ^ 48) (state .seen + (length slice - state .held)) (omega (arith, seen-is g f xs hs r, length-drop (state .held) slice, m)))
+
+    -- and above that it meets number 8
+    pub call-beyond : chainAt g xs hs .machine .state .held ≤ length slice → Usable (newPart (chainAt g xs hs .machine .state) slice)
+        → 2 ^ 48 < length xs + length (newPart (chainAt g xs hs .machine .state) slice)
+        → callRefusal (chainAt g xs hs .machine .state) slice (chainAt g xs hs .machine .spans) (chainAt g xs hs .machine .repairs) ≡ 8
+    call-beyond l u m = call-total l u true (lt-ltb (2 ^ 48) (state .seen + (length slice - state .held)) (omega (arith, seen-is g f xs hs r, length-drop (state .held) slice, m)))
+
   -- all the samples in one call
   call-all : (xs : List ℕ) (hs : List Hop) → Reached g [] hs → Usable xs → length xs ≤ 2 ^ 48
       → (isReady (callOn (chainAt g [] hs) own own own xs .said) ≡ true) × (next (chainAt g [] hs) (list.call own own own xs) ≡ chainAt g xs hs)
   call-all xs hs r u l =
       let c = chainAt g [] hs .machine .state in
       let h = held-is g f [] hs r ∙ none-held (isApply (modeOf (g .impulse))) in
-      let z = seen-is g f [] hs r in
       let d : newPart c xs ≡ xs = ap (λ (n : ℕ). drop n xs) h in
-      let scan = scan-all (c .held) (newPart c xs) (subst Usable (sym d) u) in
-      let none : callRefusal c xs (chainAt g [] hs .machine .spans) (chainAt g [] hs .machine .repairs) ≡ 0 =
-      call-number g f [] hs r xs
-      ∙ (λ i. callNumber true true true true
-      (le-ltb (length xs) (c .held) (omega (arith, h)) i)
-      (le-ltb (2 ^ 48) (c .seen + (length xs - c .held)) (omega (arith, h, z, l)) i)
-      (le-ltb (unusableAt (c .held) (newPart c xs)) (c .held + length (newPart c xs)) (omega (arith, scan)) i)) in
+      let none = call-accepted [] hs r xs (omega (arith, h)) (subst Usable (sym d) u) (omega (arith, ap length d, l)) in
       (ap (λ (o : Outcome). isReady (o .said)) (taken-by c xs (chainAt g [] hs .machine .spans) (chainAt g [] hs .machine .repairs) none), own-call g some [] hs xs r none .0 ∙ ap (λ (ys : List ℕ). chainAt g ys hs) d)
 
   once-run : (xs : List ℕ) (before behind : List Hop) → Reached g xs (before ++ behind)
