@@ -97,7 +97,7 @@ module _ (g : ConditioningConfig) (f : Fit g) (xs : List ℕ) (hs : List Hop) (r
 
   -- ---- the lengths of its stores
 
-  spans-long : length (chainAt g xs hs .machine .spans) ≡ 24 * chainAt g xs hs .machine .state .settings .spans
+  pub spans-long : length (chainAt g xs hs .machine .spans) ≡ 24 * chainAt g xs hs .machine .state .settings .spans
   unfolding chainAt withHops core process freshState freshSettings
   spans-long =
       let t = uncertain-rings (g .spans) (call.loggedAfter (freshMachine g) xs) (hopMarks g hs) (call-rings (freshMachine g) xs (fresh-rings g (f .limits .some-spans))) .twelve .store in
@@ -266,7 +266,7 @@ module _ (g : ConditioningConfig) (f : Fit g) (xs : List ℕ) (hs : List Hop) (r
       let m = held-most (isApply (modeOf (g .impulse))) (length xs) in
       omega (arith, a, b, d, m)
 
-  at-few : chainAt g xs hs .machine .state .held ≤ 21
+  pub at-few : chainAt g xs hs .machine .state .held ≤ 21
   at-few = subst (λ (n : ℕ). n ≤ 21) (sym (held-is g f xs hs r)) (go (isApply (modeOf (g .impulse))))
     where
       go : (b : Bool) → heldBy b (length xs) ≤ 21
