@@ -1,0 +1,100 @@
+// A worked example: sixty samples with one click, mended in two calls, and the repair undone.
+
+use complex::Complex32;
+use condition::Conditioned;
+use condition::SpanRead;
+use config::ConditioningConfig;
+use iq::Calibration;
+use iq::StageMode;
+use libc::STDOUT_FILENO;
+use log::Mark;
+use log::Stage;
+use state::InputConditioner;
+
+// The sample (re, 0), as a word.
+fn real(re: f32) -> u64 {
+    Complex32 { re, im: 0.0 }.pack()
+}
+
+// At 48 kHz, with room for 4 spans in each ring and for 4 repairs. The impulse stage mends.
+fn configuration() -> ConditioningConfig {
+    ConditioningConfig {
+        impulse: StageMode::Apply,
+        dc: StageMode::Off,
+        iq: StageMode::Off,
+        fs: 48000.0,
+        centre: 7.1e6,
+        n: 8,
+        calibration: Calibration::Absent,
+        spans: 4,
+        repairs: 4,
+    }
+}
+
+fn print_line(words: &[u8], n: u64) {
+    io::write_all(STDOUT_FILENO, words);
+    io::print_decimal(STDOUT_FILENO, n);
+    io::write_all(STDOUT_FILENO, b"\n");
+}
+
+fn print_sample(words: &[u8], x: u64) {
+    io::write_all(STDOUT_FILENO, words);
+    io::print_hex(STDOUT_FILENO, x, 16);
+    io::write_all(STDOUT_FILENO, b"\n");
+}
+
+// How many samples a call released; a refused one releases none.
+fn released(answer: Conditioned) -> u64 {
+    match answer {
+        Conditioned::Ready(k) => k as u64,
+        _ => 0,
+    }
+}
+
+// What the log says: the samples seen, released and held, and where the click was.
+fn print_log(state: InputConditioner, spans: &[u64]) {
+    let log = condition::reading::log(state);
+    print_line(b"seen ", log.seen);
+    print_line(b"released ", log.released);
+    print_line(b"held ", log.held as u64);
+    let read = condition::reading::span(state, spans, Stage::Impulse, Mark::Repaired, 0);
+    let SpanRead::Held(span) = read else {
+        return;
+    };
+    print_line(b"mended at ", span.start);
+}
+
+fn main() {
+    // the stores, which the caller owns and lends
+    let mut spans = [0u64; 96];
+    let mut repairs = [0u64; 24];
+    let mut words = [0.0f64; 32];
+    let made = condition::making::with_geometry(
+        configuration(),
+        &mut spans,
+        &mut repairs,
+        &mut words,
+    );
+    let fresh = made.state;
+
+    // thirty samples, a click at 20: nine are released and 21 held
+    let mut first = [real(1.0); 30];
+    first[20] = real(100.0);
+    let called = condition::calls::condition(fresh, &mut first, &mut spans, &mut repairs);
+    let answer = called.answer;
+    let state = called.state;
+    print_line(b"ready ", released(answer));
+
+    // thirty more, behind the places of the held ones: samples 9 to 38 are released
+    let mut second = [real(1.0); 51];
+    let called = condition::calls::condition(state, &mut second, &mut spans, &mut repairs);
+    let answer = called.answer;
+    let state = called.state;
+    print_line(b"ready ", released(answer));
+    print_sample(b"sample 20 is ", second[11]);
+    print_log(state, &spans);
+
+    // the repair lifted out again
+    undo::revert_repairs(state, &repairs, &mut second, 9);
+    print_sample(b"sample 20 was ", second[11]);
+}
