@@ -64,6 +64,19 @@ fn print_log(state: InputConditioner, spans: &[u64]) {
     print_line(b"mended at ", span.start);
 }
 
+// A call, which says how many samples are ready.
+fn call(
+    state: InputConditioner,
+    samples: &mut [u64],
+    spans: &mut [u64],
+    repairs: &mut [u64],
+) -> InputConditioner {
+    let called = condition::calls::condition(state, samples, spans, repairs);
+    let answer = called.answer;
+    print_line(b"ready ", released(answer));
+    called.state
+}
+
 fn main() {
     // the stores, which the caller owns and lends
     let mut spans = [0u64; 96];
@@ -80,21 +93,15 @@ fn main() {
     // thirty samples, a click at 20: nine are released and 21 held
     let mut first = [real(1.0); 30];
     first[20] = real(100.0);
-    let called = condition::calls::condition(fresh, &mut first, &mut spans, &mut repairs);
-    let answer = called.answer;
-    let state = called.state;
-    print_line(b"ready ", released(answer));
+    let state = call(fresh, &mut first, &mut spans, &mut repairs);
 
     // thirty more, behind the places of the held ones: samples 9 to 38 are released
     let mut second = [real(1.0); 51];
-    let called = condition::calls::condition(state, &mut second, &mut spans, &mut repairs);
-    let answer = called.answer;
-    let state = called.state;
-    print_line(b"ready ", released(answer));
+    let last = call(state, &mut second, &mut spans, &mut repairs);
     print_sample(b"sample 20 is ", second[11]);
-    print_log(state, &spans);
+    print_log(last, &spans);
 
     // the repair lifted out again
-    undo::revert_repairs(state, &repairs, &mut second, 9);
+    undo::revert_repairs(last, &repairs, &mut second, 9);
     print_sample(b"sample 20 was ", second[11]);
 }
