@@ -25,19 +25,17 @@ headerSize = 49
 
 -- ---- the header: 'mark CND, u16 version 1, mode bytes impulse, DC, IQ (0 off, 1 observe, 2 apply), calibration present (0 or 1), then f64 fs, centre, gain, phase, calibrated centre'
 
--- 'replay header under 49 bytes, or mark, version, mode or present byte not as above'
+-- 'mark CND, u16 version 1'
+abbrev pub markFits : List ℕ → Bool
+markFits input = eqb (at input 0) 67 && eqb (at input 1) 78 && eqb (at input 2) 68 && eqb (at input 3) 1 && eqb (at input 4) 0
+
+-- 'mode bytes impulse, DC, IQ (0 off, 1 observe, 2 apply), calibration present (0 or 1)'
+abbrev pub modesFit : List ℕ → Bool
+modesFit input = leb (at input 5) 2 && leb (at input 6) 2 && leb (at input 7) 2 && leb (at input 8) 1
+
+-- not: 'replay header under 49 bytes, or mark, version, mode or present byte not as above'
 abbrev pub headerFits : List ℕ → Bool
-headerFits input =
-    leb headerSize (length input)
-    && eqb (at input 0) 67
-    && eqb (at input 1) 78
-    && eqb (at input 2) 68
-    && eqb (at input 3) 1
-    && eqb (at input 4) 0
-    && leb (at input 5) 2
-    && leb (at input 6) 2
-    && leb (at input 7) 2
-    && leb (at input 8) 1
+headerFits input = leb headerSize (length input) && markFits input && modesFit input
 
 abbrev pub badHeader : List ℕ → Cause
 badHeader input = record { holds = not (headerFits input); number = 14 }
@@ -55,6 +53,9 @@ abbrev pub calibrationBy : ℕ → Calibration → Calibrated
 calibrationBy zero c = none
 calibrationBy (suc k) c = with c
 
+abbrev pub calibrationIn : List ℕ → Calibrated
+calibrationIn input = calibrationBy (at input 8) (record { gain = realAt input 2; phase = realAt input 3; centre = realAt input 4 })
+
 -- 'uses n = 8, 1,024 repairs, 256 spans'
 unfoldable pub configIn : List ℕ → Config
 configIn input =
@@ -65,7 +66,7 @@ configIn input =
       fs = realAt input 0;
       centre = realAt input 1;
       n = 8;
-      calibration = calibrationBy (at input 8) (record { gain = realAt input 2; phase = realAt input 3; centre = realAt input 4 });
+      calibration = calibrationIn input;
       spans = 256;
       repairs = 1024;
     }
@@ -78,10 +79,18 @@ wordsIn bytes = upTo (λ k. wordAt bytes (8 * k)) (length bytes / 8)
 abbrev pub samplesIn : List ℕ → List ℕ
 samplesIn input = wordsIn (drop headerSize input)
 
--- 'no whole sample'
+-- 'no whole sample', of the bytes behind the header
 abbrev pub noSample : List ℕ → Cause
-noSample input = record { holds = eqb (length (samplesIn input)) 0; number = 15 }
+noSample bytes = record { holds = eqb (length (wordsIn bytes)) 0; number = 15 }
 
--- 'Replay: 14, 15, then making.'
-unfoldable pub inputRefusal : List ℕ → ℕ
-inputRefusal input = firstOf (badHeader input ∷ noSample input ∷ [])
+-- 'Replay: 14, 15, then making', by the header and the bytes behind it
+unfoldable pub startRefusal : List ℕ → List ℕ → ℕ
+startRefusal head bytes = firstOf (badHeader head ∷ noSample bytes ∷ [])
+
+abbrev pub inputRefusal : List ℕ → ℕ
+inputRefusal input = startRefusal input (drop headerSize input)
+
+-- what is refused by a number, and what is not
+abbrev pub unlessRefused : {A : Type 0} → ℕ → A → (ℕ → A) → A
+unlessRefused zero a f = a
+unlessRefused (suc k) a f = f (suc k)

@@ -1,0 +1,2 @@
+-- What several proofs of `recording` cite.
+pub mod Parts

@@ -1,0 +1,207 @@
+// The replay program: a recording on standard input, its report on standard output.
+
+ghost use mathlib.Core.Path.{_≡_};
+ghost use Prim.Native.Nat.{_≤_};
+ghost use lib.ListN.{length};
+ghost use Rattle.io.specs.Counts.{Counts};
+use libc::STDIN_FILENO;
+use libc::STDOUT_FILENO;
+use recording::StartAnswer;
+use recording::Started;
+use recording::feeding;
+use recording::report;
+use state::InputConditioner;
+
+// Blocks to feed at most. Each full one has 2^13 samples, and the chain refuses what comes after 2^48.
+const BLOCKS: u64 = 0x10_0000_0000;
+
+// What the blocks so far have left: the state, the samples replaced, the number of the last block's
+// refusal or 0, and the size of the block that was read and waits, or 0.
+struct Played {
+    state: InputConditioner,
+    replaced: u64,
+    number: u64,
+    size: usize,
+}
+
+// ---- stores
+
+// The samples of a block, behind as many as are held.
+fn sample_store() -> [u64; 8213]
+    ensures { λ r. ⌜ 8213 ≡ length r ⌝ }
+{
+    [0u64; 8213]
+}
+
+// 24 words for each of 256 spans, and 6 for each of 1,024 repairs.
+fn log_store() -> [u64; 6144]
+    ensures { λ r. ⌜ 6144 ≡ length r ⌝ }
+{
+    [0u64; 6144]
+}
+
+// 4 words for each of 8 channels.
+fn monitor_store() -> [f64; 32]
+    ensures { λ r. ⌜ 32 ≡ length r ⌝ }
+{
+    [0.0f64; 32]
+}
+
+fn text_store() -> [u8; 262144]
+    ensures { λ r. ⌜ 262144 ≡ length r ⌝ }
+{
+    [0u8; 262144]
+}
+
+// ---- playing
+
+// A block of bytes, fed. None waits then.
+fn feed(
+    played: Played,
+    bytes: &[u8],
+    samples: &mut [u64],
+    spans: &mut [u64],
+    repairs: &mut [u64],
+) -> Played
+    ensures { λ r. ⌜ r .size ≡ 0 ⌝ }
+{
+    let before = played.state;
+    let fed = feeding::feed(before, bytes, samples, spans, repairs);
+    let state = fed.state;
+    let answer = fed.answer;
+    Played {
+        state,
+        replaced: std::num::wrapping_add_u64(played.replaced, fed.replaced),
+        number: feeding::call_number(answer),
+        size: 0,
+    }
+}
+
+// Reads another block.
+fn read(played: Played, bytes: &mut [u8]) -> Played
+    ensures { λ r. ⌜ Counts (r .size) (now (bytes .exit)) ⌝ }
+{
+    let mut out = played;
+    out.size = io::read_full(STDIN_FILENO, bytes);
+    out
+}
+
+// Feeds the block that waits, and reads another, unless this one was refused or not full.
+fn turn(
+    played: Played,
+    bytes: &mut [u8],
+    samples: &mut [u64],
+    spans: &mut [u64],
+    repairs: &mut [u64],
+) -> Played
+    requires { ⌜ Counts (played .size) (now bytes) ⌝ }
+    ensures { λ r. ⌜ Counts (r .size) (now (bytes .exit)) ⌝ }
+{
+    let size = played.size;
+    let fed = feed(played, &bytes[..size], samples, spans, repairs);
+    if fed.number != 0 {
+        return fed;
+    }
+    if size < bytes.len() {
+        return fed;
+    }
+    read(fed, bytes)
+}
+
+// Every block, from the one that waits on.
+fn play(
+    first: Played,
+    bytes: &mut [u8],
+    samples: &mut [u64],
+    spans: &mut [u64],
+    repairs: &mut [u64],
+) -> Played
+    requires { ⌜ Counts (first .size) (now bytes) ⌝ }
+{
+    let mut played = first;
+    let mut left = BLOCKS;
+    while 0 < left && 0 < played.size {
+        played = turn(played, bytes, samples, spans, repairs);
+        left -= 1;
+    }
+    played
+}
+
+// ---- the answer
+
+fn report(played: Played, spans: &[u64], text: &mut [u8]) -> usize
+    ensures { λ r. ⌜ r ≤ length (now (text .entry)) ⌝ }
+{
+    if played.number != 0 {
+        return report::write_refusal(played.number, text);
+    }
+    let state = played.state;
+    report::write_report(state, spans, played.replaced, text)
+}
+
+// Puts what is to be printed into the text, and answers how long it is.
+fn answer(
+    started: Started,
+    size: usize,
+    bytes: &mut [u8],
+    samples: &mut [u64],
+    spans: &mut [u64],
+    repairs: &mut [u64],
+    text: &mut [u8],
+) -> usize
+    requires { ⌜ Counts size (now bytes) ⌝ }
+    ensures { λ r. ⌜ r ≤ length (now (text .entry)) ⌝ }
+{
+    let state = started.state;
+    let said = started.answer;
+    let number = feeding::start_number(said);
+    if number != 0 {
+        return report::write_refusal(number, text);
+    }
+    if let StartAnswer::Off = said {
+        return report::write_off(text);
+    }
+    let first = Played {
+        state,
+        replaced: 0,
+        number: 0,
+        size,
+    };
+    let played = play(first, bytes, samples, spans, repairs);
+    report(played, spans, text)
+}
+
+fn print(text: &[u8], size: usize)
+    requires { ⌜ size ≤ length (now text) ⌝ }
+{
+    io::write_all(STDOUT_FILENO, &text[..size]);
+}
+
+fn main() {
+    let mut head = [0u8; 49];
+    let mut bytes = io::large_buffer();
+    let mut spans = log_store();
+    let mut repairs = log_store();
+    let mut words = monitor_store();
+    let known = io::read_full(STDIN_FILENO, &mut head);
+    let size = io::read_full(STDIN_FILENO, &mut bytes);
+    let started = feeding::start(
+        &head[..known],
+        &bytes[..size],
+        &mut spans,
+        &mut repairs,
+        &mut words,
+    );
+    let mut samples = sample_store();
+    let mut text = text_store();
+    let long = answer(
+        started,
+        size,
+        &mut bytes,
+        &mut samples,
+        &mut spans,
+        &mut repairs,
+        &mut text,
+    );
+    print(&text, long);
+}

@@ -1,0 +1,5 @@
+-- definitions
+pub mod Replay
+-- laws
+pub mod BlockLaws
+pub mod Replayed

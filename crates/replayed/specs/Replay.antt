@@ -1,0 +1,62 @@
+-- A replay as the program runs it: the start, the blocks one after another up to one that is refused, and the report. Definitions only.
+use mathlib.Core.Path.{_≡_}
+use mathlib.Core.List.{List, [], _∷_, _++_}
+use Prim.Native.Nat.{ℕ, _+_, _≤_, _<_}
+use lib.ListN.{length}
+use lib.Ieee.{Float}
+use Rattle.rules.specs.Guard.{unusable}
+use Rattle.condition.specs.Making as making
+use Rattle.condition.specs.Making.{nothing, made, madeWords}
+use Rattle.condition.specs.Calls.{Machine, machineOf, Said, refused, ready, Outcome}
+use Rattle.recording.specs.Format.{headerSize, wordsIn}
+use Rattle.recording.specs.Feeding.{startSaid, startState, newWords, fed, callNumber}
+use Rattle.recording.specs.Report.{reportText, refusedText, offText}
+use Rattle.recording.specs.Shown.{reportIn}
+
+-- a block of bytes, and the store of samples that it is read into, whatever stands there
+pub record Block : Type 0 where
+  pub bytes : List ℕ
+  pub store : List ℕ
+
+abbrev pub joined : List Block → List ℕ
+joined [] = []
+joined (b ∷ bs) = b .bytes ++ joined bs
+
+abbrev pub firstBytes : List Block → List ℕ
+firstBytes [] = []
+firstBytes (b ∷ bs) = b .bytes
+
+-- ---- what is printed
+
+-- the text, unless the call was refused
+abbrev pub afterCall : Said → List ℕ → List ℕ
+afterCall (ready k) text = text
+afterCall (refused r) text = refusedText (callNumber (refused r))
+
+-- from a chain, with so many samples replaced so far
+unfoldable pub played : Machine → ℕ → List Block → List ℕ
+played m replaced [] = reportText (reportIn (m .state) (m .spans) replaced)
+played m replaced (b ∷ bs) = let o = fed m (b .bytes) (b .store) in afterCall (o .said) (played (o .machine) (replaced + unusable (newWords (m .state) (b .bytes) (b .store))) bs)
+
+abbrev pub answeredBy : making.Said → List ℕ → List ℕ
+answeredBy nothing text = offText
+answeredBy (making.refused k) text = refusedText k
+answeredBy made text = text
+
+-- with a span store, a repair store and monitor words, whatever stands there
+unfoldable pub replayed : List ℕ → List Block → List ℕ → List ℕ → List Float → List ℕ
+replayed head blocks spans repairs words =
+    let said = startSaid head (firstBytes blocks) (length spans) (length repairs) (length words) in
+    answeredBy said (played (machineOf (startState head (firstBytes blocks)) (madeWords 0 said spans) (madeWords 0 said repairs)) 0 blocks)
+
+-- ---- how a recording is read
+
+-- 65,536 bytes a block but for the last, and a store of 8,192 samples behind the 21 that may be held
+pub record Fits (b : Block) : Type 0 where
+  pub most : length (b .bytes) ≤ 65536
+  pub room : length (b .store) ≡ 8213
+
+abbrev pub Read : List Block → Type 0
+Read [] = Unit {0}
+Read (b ∷ []) = Fits b
+Read (b ∷ c ∷ bs) = Fits b × ((length (b .bytes) ≡ 65536) × Read (c ∷ bs))
