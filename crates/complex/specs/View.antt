@@ -1,7 +1,8 @@
--- The two structs as complex numbers, and back. Definitions only.
+-- The structs as complex numbers, and back. Definitions only.
 use Rattle.complex.specs.declared.Complex32.{Complex32}
 use Rattle.complex.specs.declared.Complex64.{Complex64}
-use Rattle.complex.specs.Complex.{Complex}
+use Rattle.complex.specs.declared.Single.{Single}
+use Rattle.complex.specs.Complex.{Complex, narrowedParts, wordOf}
 
 abbrev pub view32 : Complex32 → Complex
 view32 z = record { re = z .re; im = z .im }
@@ -14,3 +15,7 @@ view64 z = record { re = z .re; im = z .im }
 
 abbrev pub make64 : Complex → Complex64
 make64 z = record { re = z .re; im = z .im }
+
+-- what `rounded` gives
+abbrev pub singleOf : Complex → Single
+singleOf z = record { value = make64 (narrowedParts z); word = wordOf (narrowedParts z) }

@@ -4,7 +4,7 @@
 ghost use mathlib.Core.Path.{_≡_};
 ghost use lib.Ieee.{binary32, binary64};
 ghost use Rattle.complex.specs.Complex.{sum, difference, product, power, quotient, oneMinus, onePlus, conjugate, scaled, unscaled, norm, narrowedParts, wordOf, sampleOf};
-ghost use Rattle.complex.specs.View.{view32, make32, view64, make64};
+ghost use Rattle.complex.specs.View.{view32, make32, view64, make64, singleOf};
 
 pub struct Complex32 {
     pub re: f32,
@@ -14,6 +14,12 @@ pub struct Complex32 {
 pub struct Complex64 {
     pub re: f64,
     pub im: f64,
+}
+
+// A complex number with each part rounded to f32: its value, still in f64, and its word.
+pub struct Single {
+    pub value: Complex64,
+    pub word: u64,
 }
 
 impl Complex32 {
@@ -82,6 +88,16 @@ impl Complex32 {
 }
 
 impl Complex64 {
+    // The sample of a word, at the wider format.
+    pub fn unpack(w: u64) -> Complex64
+        ensures { λ r. ⌜ r ≡ make64 (sampleOf w) ⌝ }
+    {
+        Complex64 {
+            re: ieee::widen_bits((w % 0x1_0000_0000) as u32),
+            im: ieee::widen_bits((w / 0x1_0000_0000) as u32),
+        }
+    }
+
     pub fn add(self, b: Complex64) -> Complex64
         ensures { λ r. ⌜ r ≡ make64 (sum binary64 (view64 self) (view64 b)) ⌝ }
     {
@@ -188,6 +204,22 @@ impl Complex64 {
         Complex32 {
             re: ieee::narrow(self.re),
             im: ieee::narrow(self.im),
+        }
+    }
+
+    // Each part rounded to f32, and the word of that.
+    pub fn rounded(self) -> Single
+        ensures { λ r. ⌜ r ≡ singleOf (view64 self) ⌝ }
+    {
+        let parts = ieee::rounded_both(self.re, self.im);
+        let re = parts.first;
+        let im = parts.second;
+        Single {
+            value: Complex64 {
+                re: re.value,
+                im: im.value,
+            },
+            word: re.bits as u64 + im.bits as u64 * 0x1_0000_0000,
         }
     }
 }

@@ -1,11 +1,11 @@
 -- The struct `DcBlocker` as the rules' level, and back, and what the blocker does with a sample, a slice, and calls after calls. Definitions only.
 use mathlib.Core.List.{List, [], _∷_, _++_}
-use Prim.Native.Nat.{ℕ}
-use lib.Ieee.{Float}
-use Rattle.complex.specs.Complex.{wordOf, sampleOf}
+use Prim.Native.Nat.{ℕ, suc}
+use lib.Ieee.{Float, binary64}
+use Rattle.complex.specs.Complex.{Complex, sum, scaled, wordOf, sampleOf}
 use Rattle.complex.specs.View.{view64, make64}
 use Rattle.rules.specs.Dc as rules
-use Rattle.rules.specs.Dc.{Level, stepped, blocked, advanced, levelAfter, blockedAll, restoredAll}
+use Rattle.rules.specs.Dc.{Level, weight, stepped, blocked, advanced, levelAfter, blockedAll, restoredAll}
 use Rattle.dc.specs.declared.DcBlocker.{DcBlocker}
 use Rattle.dc.specs.declared.Taken.{Taken}
 
@@ -14,6 +14,10 @@ levelOf b = record { updates = b .n; level = view64 (b .dc) }
 
 abbrev pub blockerOf : Float → Level → DcBlocker
 blockerOf a l = record { a = a; n = l .updates; dc = make64 (l .level) }
+
+-- a level moved by y as it is
+abbrev pub pushed : Float → Level → Complex → Level
+pushed a l y = record { updates = suc (l .updates); level = sum binary64 (l .level) (scaled binary64 y (weight a (l .updates))) }
 
 -- a sample x comes in, and x less the level goes out
 unfoldable pub processed : DcBlocker → ℕ → Taken

@@ -2,17 +2,18 @@
 // operation is the paper's, in its order; the root alone is left out where it decides nothing.
 
 ghost use mathlib.Core.Path.{_≡_};
-ghost use mathlib.Core.Bool.{_&&_};
+ghost use mathlib.Core.Bool.{not, _&&_};
 ghost use Prim.Native.Nat.{_+_, _<_, _^_};
 ghost use lib.Dec.{eqb};
+ghost use lib.Ieee.{binary64, le};
 ghost use lib.ListN.{length};
-ghost use Rattle.complex.specs.View.{view32, view64, make64};
+ghost use Rattle.complex.specs.Complex.{power};
+ghost use Rattle.complex.specs.View.{view64, make64};
 ghost use Rattle.rules.specs.Constants.{one, rateLimit};
 ghost use Rattle.rules.specs.Dc.{corner, weight, clamped, isZero, firstLevel, advanced, restoredAll};
 ghost use Rattle.rules.specs.Iq.{ranged};
-ghost use Rattle.dc.specs.Blocker.{levelOf, blockerOf, processed, restored, blockerAfter, processedAll};
+ghost use Rattle.dc.specs.Blocker.{levelOf, blockerOf, pushed, processed, restored, blockerAfter, processedAll};
 ghost use Rattle.dc.specs.Undo.{said, undoReturned, undoWords};
-use complex::Complex32;
 use complex::Complex64;
 
 const TAU: f64 = 6.283185307179586;
@@ -73,8 +74,8 @@ impl DcBlocker {
     }
 
     // Whether y moves nothing: no update has happened, and both its parts are zero.
-    fn rests(self, y: Complex32) -> bool
-        ensures { λ r. ⌜ r ≡ (eqb (self .n) 0 && isZero (view32 y)) ⌝ }
+    fn rests(self, y: Complex64) -> bool
+        ensures { λ r. ⌜ r ≡ (eqb (self .n) 0 && isZero (view64 y)) ⌝ }
     {
         if self.n == 0 {
             if y.re == 0.0 {
@@ -84,22 +85,40 @@ impl DcBlocker {
         false
     }
 
-    // The level moved by y, which is a sample less the level.
-    fn advance(self, y: Complex32) -> DcBlocker
+    // The level moved by y as it is.
+    fn moved(self, y: Complex64) -> DcBlocker
         requires { ⌜ self .n + 1 < 2 ^ 64 ⌝ }
-        ensures { λ r. ⌜ r ≡ blockerOf (self .a) (advanced (self .a) (levelOf self) (view32 y)) ⌝ }
+        ensures { λ r. ⌜ r ≡ blockerOf (self .a) (pushed (self .a) (levelOf self) (view64 y)) ⌝ }
     {
-        if self.rests(y) {
-            return self;
-        }
         let level = self.dc;
-        let moved = clamped(y.widen()).scale(self.weight());
+        let step = y.scale(self.weight());
         let n = self.n + 1;
         DcBlocker {
             a: self.a,
             n,
-            dc: level.add(moved),
+            dc: level.add(step),
         }
+    }
+
+    // The level moved by y, which is a sample less the level.
+    fn advance(self, y: Complex64) -> DcBlocker
+        requires { ⌜ self .n + 1 < 2 ^ 64 ⌝ }
+        ensures { λ r. ⌜ r ≡ blockerOf (self .a) (advanced (self .a) (levelOf self) (view64 y)) ⌝ }
+    {
+        if self.rests(y) {
+            return self;
+        }
+        self.moved(clamped(y))
+    }
+
+    // Whether y moves the level as it is: then `moved` is the short way to `advance`.
+    fn is_plain(self, y: Complex64) -> bool
+        ensures { λ r. ⌜ r ≡ (not (eqb (self .n) 0) && le (power binary64 (view64 y)) one) ⌝ }
+    {
+        if 0 < self.n {
+            return y.norm_sqr() <= 1.0;
+        }
+        false
     }
 
     // The sample of the word x less the level.
@@ -108,11 +127,33 @@ impl DcBlocker {
         ensures { λ r. ⌜ r ≡ processed self x ⌝ }
     {
         let level = self.dc;
-        let y = Complex32::unpack(x).widen().sub(level).narrow();
-        Taken {
-            blocker: self.advance(y),
-            word: y.pack(),
+        let y = Complex64::unpack(x).sub(level).rounded();
+        let moving = y.value;
+        if self.is_plain(moving) {
+            return Taken {
+                blocker: self.moved(moving),
+                word: y.word,
+            };
         }
+        Taken {
+            blocker: self.advance(moving),
+            word: y.word,
+        }
+    }
+
+    // The same, of which nothing is written.
+    fn observe_sample(self, x: u64) -> DcBlocker
+        requires { ⌜ self .n + 1 < 2 ^ 64 ⌝ }
+        ensures { λ r. ⌜ r ≡ processed self x .blocker ⌝ }
+    {
+        let level = self.dc;
+        let y = Complex64::unpack(x).sub(level).rounded();
+        let moving = y.value;
+        if self.is_plain(moving) {
+            return self.moved(moving);
+        }
+        let next = self.advance(moving);
+        next
     }
 
     // Undo of one sample: y and the level.
@@ -121,11 +162,17 @@ impl DcBlocker {
         ensures { λ r. ⌜ r ≡ restored self y ⌝ }
     {
         let level = self.dc;
-        let z = Complex32::unpack(y);
-        let x = z.widen().add(level).narrow();
+        let z = Complex64::unpack(y);
+        let x = z.add(level).rounded();
+        if self.is_plain(z) {
+            return Taken {
+                blocker: self.moved(z),
+                word: x.word,
+            };
+        }
         Taken {
             blocker: self.advance(z),
-            word: x.pack(),
+            word: x.word,
         }
     }
 
@@ -154,8 +201,7 @@ impl DcBlocker {
         let mut b = self;
         let mut k: usize = 0;
         while k < samples.len() {
-            let t = b.process_sample(samples[k]);
-            b = t.blocker;
+            b = b.observe_sample(samples[k]);
             k += 1;
         }
         b

@@ -1,3 +1,4 @@
 pub mod Narrowing
 pub mod Rooting
+pub mod HalfRoots
 pub mod Wholes

@@ -7,17 +7,16 @@ use native.Mathlib.Omega.{arith}
 use mathlib.Core.Bool.{Bool, not, cond}
 use lib.Dec.{T, leb}
 use lib.Pow.{pow-add, pow-pos, pow-mono}
-use lib.Ieee.{Float, inf, binary32, binary64, round, ofBits, toBits, isNan, fits}
+use lib.Ieee.{Float, inf, binary32, binary64, round, toBits, isNan, fits}
 use lib.Ieee.Nearest.{closest}
 use lib.Ieee.Scale.{round-same}
-use lib.Ieee.Bits.{ofBits-toBits}
-use Rattle.ieee.specs.Narrow.{narrowed, patternOf, magnitudeOf}
+use Rattle.ieee.specs.Narrow.{narrowed, patternOf, patternIn}
 use Rattle.ieee.specs.Normal.{exponentIn, significandOf, shiftOf}
 use Rattle.ieee.specs.Numbers.{le-or-lt}
 use Rattle.ieee.specs.RoundedBits.{closest-small, round-bits}
 use Rattle.ieee.specs.Fields.{Meaning, meaning}
 use Rattle.ieee.specs.NormalLaws.{placed}
-use Rattle.ieee.specs.NarrowLaws.{narrowed-value, narrowed-fits}
+use Rattle.ieee.specs.NarrowLaws.{narrowed-value}
 
 infinite : (s : Bool) → toBits binary32 (narrowed (inf s)) ≡ cond s (2 ^ 31) 0 + 255 * 2 ^ 23
 unfolding narrowed toBits
@@ -54,12 +53,8 @@ bits s m y hi lo =
     lead : (y c : ℕ) → 0 < y - (887 + c) → 61 ≡ 23 + (38 + (887 + c - y))
     lead y c g = omega arith
 
-pub narrow-is : (x : Float) → T (fits binary64 x) → T (not (isNan x)) → let b = toBits binary64 x in
-    ofBits binary32 (cond (leb (2 ^ 63) b) (2 ^ 31) 0 + magnitudeOf b) ≡ narrowed x
-narrow-is x F N =
-    let b = toBits binary64 x in
-    ap (ofBits binary32) (sym (go (leb (2 ^ 63) b) (exponentIn b) (b % 2 ^ 52) (mod-lt b (pow-pos 52)) (meaning x F N)))
-    ∙ ofBits-toBits binary32 (narrowed x) (narrowed-fits x)
+pub narrow-bits-is : (x : Float) → T (fits binary64 x) → T (not (isNan x)) → patternIn (toBits binary64 x) ≡ toBits binary32 (narrowed x)
+narrow-bits-is x F N = let b = toBits binary64 x in sym (go (leb (2 ^ 63) b) (exponentIn b) (b % 2 ^ 52) (mod-lt b (pow-pos 52)) (meaning x F N))
   where
     go : (s : Bool) (e t : ℕ) → t < 2 ^ 52 → Meaning x s e t → toBits binary32 (narrowed x) ≡ cond s (2 ^ 31) 0 + patternOf (significandOf e t) (e - 1) (shiftOf (significandOf e t))
     go s e t h (inl v) =

@@ -12,6 +12,7 @@ pub mod RoundedBits
 pub mod Fields
 pub mod NormalLaws
 pub mod NarrowLaws
+pub mod SingleLaws
 pub mod Bounds
 pub mod RoundingError
 pub mod RootValue

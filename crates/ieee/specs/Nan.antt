@@ -1,10 +1,11 @@
 -- A NaN is what differs from itself. Assumes nothing.
 use mathlib.Core.Path.{_≡_, refl, sym, ap, _∙_, subst}
-use mathlib.Core.Bool.{Bool, true, false, not}
+use mathlib.Core.Bool.{Bool, true, false, not, _&&_}
 use Prim.Native.Nat.{ℕ, _+_, _*_, _/_, _%_, _≤_}
 use lib.Dec.{T, ltb}
 use lib.Ieee.{Float, nan, inf, fin, Format, binary32, binary64, ones, hid, top, ne, isNan, nanBits, toBits, ofBits, div, fits}
 use lib.Ieee.Bits.{is-false, nanBits-is, nanBits-above, ofBits-toBits}
+use lib.Ieee.Fits.{and-i}
 use lib.Ieee.Compare.{differs-from-itself}
 use borrow.Author.Tests.{ltb-false}
 
@@ -45,3 +46,7 @@ no-nan-bits f n e = subst (λ (b : Bool). T (not b)) (sym (nanBits-above f n ∙
 -- and what is no NaN has a pattern up to the infinity's
 pub number-below : (f : Format) (x : Float) → T (fits f x) → T (not (isNan x)) → toBits f x % top f ≤ ones f * hid f
 number-below f x F N = ltb-false (ones f * hid f) (toBits f x % top f) (sym (nanBits-above f (toBits f x)) ∙ nanBits-is f (toBits f x) ∙ ap isNan (ofBits-toBits f x F) ∙ is-false (isNan x) N)
+
+-- what a cast between the formats asks
+pub castable : (f : Format) (x : Float) → T (fits f x) → T (not (isNan x)) → T (fits f x && not (isNan x))
+castable f x = and-i (fits f x) (not (isNan x))

@@ -1,5 +1,6 @@
 -- What `root` gives. Definitions only.
-use Prim.Native.Nat.{ℕ, zero, suc, _+_, _*_, _/_, _^_}
+use mathlib.Core.Path.{_≡_}
+use Prim.Native.Nat.{ℕ, zero, suc, _+_, _*_, _/_, _^_, _≤_, _<_}
 use mathlib.Core.Bool.{true, false, cond}
 use lib.Dec.{leb}
 use lib.Ieee.{Float, nan, inf, fin, binary64, up, down, size, round}
@@ -12,6 +13,13 @@ isqrtIn (suc d) n = let r = isqrtIn d (n / 4) * 2 in cond (leb ((r + 1) * (r + 1
 unfoldable pub isqrt : ℕ → ℕ
 unfolding isqrtIn
 isqrt n = isqrtIn (size n) n
+
+-- g is half of the digits R of the root of w * 2 ^ 44, rounded up.
+pub record HalfRoot (w g : ℕ) : Type 0 where
+  pub R : ℕ
+  pub low : R * R ≤ w * 2 ^ 44
+  pub high : w * 2 ^ 44 < (R + 1) * (R + 1)
+  pub half : g ≡ (R + 1) / 2
 
 -- IEEE 754's squareRoot at binary64, rounding to nearest, ties to even. `rooted-nearest` says that it is the nearest.
 -- Of a number above zero, n is how many of the format's smallest values, 2 ^ -1074, it is. So its root is √n * 2 ^ -537, and isqrt (n * 4 ^ 64) of 2 ^ -601 are the root cut down.

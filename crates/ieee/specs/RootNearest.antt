@@ -85,7 +85,7 @@ value-unique nan s t a b c C h k = absurd h
 value-unique (inf u) s t a b c C h k = absurd h
 value-unique (fin u m e) s t a b c C h k = eq-of-mul-eq-mul-right (down e) (down-pos e) a b (sym (h .1) ∙ k .1)
 
-no-nan-value : (x : Float) (s : Bool) (a c : ℕ) → HasValue x s a c → T (not (isNan x))
+pub no-nan-value : (x : Float) (s : Bool) (a c : ℕ) → HasValue x s a c → T (not (isNan x))
 unfolding isNan
 no-nan-value nan s a c h = absurd h
 no-nan-value (inf t) s a c h = absurd h

@@ -128,6 +128,11 @@ min-l a b h = omega arith
 min-r : (a b : ℕ) → b ≤ a → b ≡ min a b
 min-r a b h = omega arith
 
+-- a value of q * 2 ^ k units, of which the format keeps q
+pub value-bits : (f : Format) (s : Bool) (x : Float) (q k : ℕ) → q ≤ 2 ^ prec f → (0 < k → hid f ≤ q) → HasValue x s (q * 2 ^ k) (2 ^ low f)
+    → toBits f x ≡ cond s (top f) 0 + (k * hid f + q)
+value-bits f s x q k small full v = toBits-val f s x (q * 2 ^ k) v ∙ add-assoc (cond s (top f) 0) _ _ ∙ ap (λ (n : ℕ). cond s (top f) 0 + n) (word (prec f) q k (two f) small full)
+
 pub units-bits : (f : Format) (s : Bool) (q k : ℕ) → q ≤ 2 ^ prec f → (0 < k → hid f ≤ q)
     → toBits f (units f s q k) ≡ cond s (top f) 0 + min (k * hid f + q) (ones f * hid f)
 unfolding units
@@ -136,9 +141,8 @@ units-bits f s q k small full = go (ltb (q * 2 ^ k) (2 ^ (low f + suc (emax f)))
     go : (b : Bool) → (T b → q * 2 ^ k < 2 ^ (low f + suc (emax f))) → (T (not b) → 2 ^ (low f + suc (emax f)) ≤ q * 2 ^ k)
         → toBits f (cond b (odd (suc (prec f)) s q k (low f)) (inf s)) ≡ cond s (top f) 0 + min (k * hid f + q) (ones f * hid f)
     go true l g =
-        toBits-val f s (odd (suc (prec f)) s q k (low f)) (q * 2 ^ k) (odd-sign (suc (prec f)) s q k (low f))
-        ∙ add-assoc (cond s (top f) 0) _ _
-        ∙ ap (λ (x : ℕ). cond s (top f) 0 + x) (word (prec f) q k (two f) small full ∙ min-l _ _ (under-top (prec f) (emax f) q k (two f) (emax-pos f) small full (l tt)))
+        value-bits f s (odd (suc (prec f)) s q k (low f)) q k small full (odd-sign (suc (prec f)) s q k (low f))
+        ∙ ap (λ (x : ℕ). cond s (top f) 0 + x) (min-l _ _ (under-top (prec f) (emax f) q k (two f) (emax-pos f) small full (l tt)))
     go false l g =
         toBits-inf f s
         ∙ ap (λ (x : ℕ). cond s (top f) 0 + x) (min-r _ _ (over-top (prec f) (emax f) q k (two f) (emax-pos f) small full (g tt)))

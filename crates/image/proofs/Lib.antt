@@ -1,2 +1,5 @@
 pub mod Lists
+pub mod Selecting
 pub mod Signs
+pub mod Limit
+pub mod Strength

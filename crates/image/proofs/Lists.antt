@@ -1,5 +1,5 @@
 -- One turn of each loop over the monitor's words, on plain lists. Assumes nothing.
-use mathlib.Core.Path.{_≡_, refl, sym, ap, _∙_}
+use mathlib.Core.Path.{_≡_, refl, sym, ap, _∙_, subst}
 use mathlib.Core.Bool.{Bool, true, false, cond, _&&_}
 use mathlib.Core.List.{List, [], _∷_, _++_, append-assoc, append-nil}
 use Prim.Native.Nat.{ℕ, zero, suc, _+_, _-_, _*_, _/_, _%_, _≤_, _<_}
@@ -13,6 +13,7 @@ use borrow.Rule.Slice.PartMut.{midOf, postOf, putMid}
 use Rattle.rules.specs.Constants.{zeroF, half}
 use Rattle.rules.specs.Monitor.{mirrorOf, floorOf}
 use Rattle.rules.specs.Sort.{insert, sort}
+use Rattle.rules.specs.SortLaws.{All, all-append}
 use Rattle.image.specs.Words.{allOf}
 
 -- a read within the list does not turn on what stands for a place past its end
@@ -189,23 +190,34 @@ sorting-next l₀ l l' k K e s =
 pub sorting-all : (l₀ l : List Float) (k : ℕ) → k ≤ 0 → Sorting l₀ l k → l ≡ sort lt l₀
 sorting-all l₀ l k h s = let z : k ≡ 0 = omega arith in s .1 ∙ ap (λ (i : ℕ). take i l₀ ++ sort lt (drop i l₀)) z
 
--- ---- `floor_power`: the copied powers, sorted where they stand
+-- ---- the copied powers, lent: they are the powers, and what they become stands behind the rest
+module _ (n : ℕ) (ws copied : List Float) (len : length ws ≡ 4 * n) (e : copied ≡ take (3 * n) ws ++ take n ws) where
+  others-length : length (take (3 * n) ws) ≡ 3 * n
+  others-length = length-take-le (3 * n) ws (omega arith)
+
+  powers-length : length (take n ws) ≡ n
+  powers-length = length-take-le n ws (omega arith)
+
+  lent : length copied - 3 * n ≡ n
+  lent = let c = ap length e ∙ length-append (take (3 * n) ws) (take n ws) in let a = others-length in let b = powers-length in omega arith
+
+  back : drop (3 * n) copied ≡ take n ws
+  back = ap (drop (3 * n)) e ∙ drop-at (take (3 * n) ws) (take n ws) (3 * n) others-length
+
+  pub lent-powers : midOf (3 * n) (length copied - 3 * n) copied ≡ take n ws
+  lent-powers = ap (λ (i : ℕ). take i (drop (3 * n) copied)) lent ∙ ap (take n) back ∙ take-all n (take n ws) (let b = powers-length in omega arith)
+
+  pub put-back : (part : List Float) → putMid (3 * n) (length copied - 3 * n) copied part ≡ take (3 * n) ws ++ part
+  put-back part =
+      let rest : postOf (3 * n) (length copied - 3 * n) copied ≡ [] = ap (λ (i : ℕ). drop i (drop (3 * n) copied)) lent ∙ ap (drop n) back ∙ drop-of-length-le (take n ws) {i = n} (let b = powers-length in omega arith) in
+      ap (λ (l : List Float). l ++ (part ++ postOf (3 * n) (length copied - 3 * n) copied)) (ap (take (3 * n)) e ∙ take-at (take (3 * n) ws) (take n ws) (3 * n) others-length)
+      ∙ ap (λ (l : List Float). take (3 * n) ws ++ (part ++ l)) rest
+      ∙ ap (λ (l : List Float). take (3 * n) ws ++ l) (append-nil part)
+
+-- ---- `sorted_floor`
 pub sorted-in-place : (n : ℕ) (ws copied sorted : List Float) → length ws ≡ 4 * n → copied ≡ take (3 * n) ws ++ take n ws → sorted ≡ sort lt (midOf (3 * n) (length copied - 3 * n) copied)
     → putMid (3 * n) (length copied - 3 * n) copied sorted ≡ take (3 * n) ws ++ sort lt (take n ws)
-sorted-in-place n ws copied sorted len e s =
-    let a = take (3 * n) ws in
-    let b = take n ws in
-    let la : length a ≡ 3 * n = length-take-le (3 * n) ws (omega arith) in
-    let lb : length b ≡ n = length-take-le n ws (omega arith) in
-    let lc : length copied ≡ 4 * n = ap length e ∙ (let l = length-append a b in omega arith) in
-    let k : length copied - 3 * n ≡ n = omega arith in
-    let back : drop (3 * n) copied ≡ b = ap (drop (3 * n)) e ∙ drop-at a b (3 * n) la in
-    let middle : midOf (3 * n) (length copied - 3 * n) copied ≡ b = ap (λ (i : ℕ). take i (drop (3 * n) copied)) k ∙ ap (take n) back ∙ take-all n b (omega arith) in
-    let front : take (3 * n) copied ≡ a = ap (take (3 * n)) e ∙ take-at a b (3 * n) la in
-    let rest : postOf (3 * n) (length copied - 3 * n) copied ≡ [] = ap (λ (i : ℕ). drop i (drop (3 * n) copied)) k ∙ ap (drop n) back ∙ drop-of-length-le b {i = n} (omega arith) in
-    ap (λ (l : List Float). l ++ (sorted ++ postOf (3 * n) (length copied - 3 * n) copied)) front
-    ∙ ap (λ (l : List Float). a ++ (sorted ++ l)) rest
-    ∙ ap (λ (l : List Float). a ++ l) (append-nil sorted ∙ s ∙ ap (sort lt) middle)
+sorted-in-place n ws copied sorted len e s = put-back n ws copied len e sorted ∙ ap (λ (l : List Float). take (3 * n) ws ++ l) (s ∙ ap (sort lt) (lent-powers n ws copied len e))
 
 pub floor-read : (n : ℕ) (ws final : List Float) → 0 < n → length ws ≡ 4 * n → final ≡ take (3 * n) ws ++ sort lt (take n ws)
     → mul binary64 (add binary64 (getD final (3 * n + (n - 1) / 2) nan) (getD final (3 * n + n / 2) nan)) half ≡ floorOf (take n ws)
@@ -240,6 +252,32 @@ unfolding allOf
 all-fails p l k h t =
     sym (ap (allOf p) (drop-cons l k nan h) ∙ ap (λ (b : Bool). b && allOf p (drop (suc k) l)) t)
 
-pub all-done : (p : Float → Bool) (l : List Float) (k : ℕ) → length l ≤ k → true ≡ allOf p (drop k l)
+pub all-done : {A : Type 0} (p : A → Bool) (l : List A) (k : ℕ) → length l ≤ k → true ≡ allOf p (drop k l)
 unfolding allOf
 all-done p l k h = sym (ap (allOf p) (drop-of-length-le l {i = k} h))
+
+-- ---- a test of every word that goes on: good tells of those before k
+pub good-next : {A : Type 0} (p : A → Bool) (d : A) (l : List A) (k : ℕ) (good here : Bool) → k < length l → here ≡ p (getD l k d) → (good && allOf p (drop k l)) ≡ allOf p l → ((here && good) && allOf p (drop (k + 1) l)) ≡ allOf p l
+unfolding allOf
+good-next {A = A} p d l k good here h e i =
+    ap (λ (b : Bool). (b && good) && allOf p (drop (k + 1) l)) e
+    ∙ swap (p (getD l k d)) good (allOf p (drop (k + 1) l))
+    ∙ ap (λ (m : List A). good && allOf p m) (sym (drop-cons l k d h ∙ ap (λ (j : ℕ). getD l k d ∷ drop j l) (sym (add-one k))))
+    ∙ i
+  where
+    swap : (a b c : Bool) → ((a && b) && c) ≡ (b && (a && c))
+    swap true b c = refl
+    swap false true c = refl
+    swap false false c = refl
+
+pub good-done : {A : Type 0} (p : A → Bool) (l : List A) (k : ℕ) (good : Bool) → length l ≤ k → (good && allOf p (drop k l)) ≡ allOf p l → good ≡ allOf p l
+unfolding allOf
+good-done p l k good h i = sym (unit good) ∙ ap (λ (b : Bool). good && b) (all-done p l k h) ∙ i
+  where
+    unit : (b : Bool) → (b && true) ≡ b
+    unit true = refl
+    unit false = refl
+
+-- a fact of every word, one word on
+pub all-at : (P : Float → Type 0) (l : List Float) (k : ℕ) → k < length l → P (getD l k nan) → All P (take k l) → All P (take (k + 1) l)
+all-at P l k h x g = subst (All P) (sym (ap (λ (i : ℕ). take i l) (add-one k) ∙ take-suc l k nan h)) (all-append P (take k l) (getD l k nan ∷ []) g (x, tt))

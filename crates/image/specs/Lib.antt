@@ -1,5 +1,6 @@
 -- definitions
 pub mod Words
+pub mod Select
 pub mod Observe
 pub mod Hops
 -- laws

@@ -1,7 +1,8 @@
 -- What the monitor makes of a hop, over its structs: the machine that the code is. Definitions only.
-use mathlib.Core.Bool.{Bool, not, _||_, cond}
+use mathlib.Core.Path.{_≡_}
+use mathlib.Core.Bool.{Bool, true, not, _||_, cond}
 use mathlib.Core.List.{List, [], _∷_}
-use Prim.Native.Nat.{ℕ, _+_, _-_, _*_, _/_, _<_}
+use Prim.Native.Nat.{ℕ, _+_, _-_, _*_, _/_, _≤_, _<_}
 use lib.Dec.{ltb, leb, eqb}
 use lib.ListN.{length, getD, take, replicate}
 use lib.Ieee.{Float, nan}
@@ -62,8 +63,9 @@ powerAt ps i = getD ps i zeroF
 abbrev pub strongerOf : List Float → Choice → ℕ → Choice
 strongerOf ps best k = stronger (powerAt ps) best k
 
-abbrev pub betterOf : List Float → Choice → ℕ → Choice
-betterOf ps best k = cond (eligible (length ps) k) (strongerOf ps best k) best
+-- each channel from a on, before b, is eligible
+abbrev pub EligibleFrom : ℕ → ℕ → ℕ → Type 0
+EligibleFrom n a b = (i : ℕ) → a ≤ i → i < b → eligible n i ≡ true
 
 -- the product sum of channel k
 abbrev pub crossIn : ℕ → List Float → ℕ → Complex

@@ -1,7 +1,8 @@
 -- The monitor's lent words: n powers, n real and n imaginary product sums, n for sorting. A hop added to them, and number 5's tests. Definitions only.
 use mathlib.Core.Bool.{Bool, true, _&&_}
 use mathlib.Core.List.{List, [], _∷_}
-use Prim.Native.Nat.{ℕ, zero, suc, _+_, _*_}
+use Prim.Native.Nat.{ℕ, zero, suc, _+_, _*_, _/_, _%_, _^_}
+use lib.Dec.{leb}
 use lib.ListN.{length, getD, set, take, drop}
 use lib.Ieee.{Float, nan, binary64, add, le, ofBits}
 use Rattle.ieee.specs.Plain.{signClear}
@@ -34,6 +35,12 @@ unfoldable pub addedHop : List ℕ → List Float → ℕ → List Float
 addedHop xs ws zero = ws
 addedHop xs ws (suc k) = addedChannel xs (addedHop xs ws k) k
 
+-- ---- number 7, by bits
+
+-- both parts of a sample are at most the greatest f32 within 1e18, their signs aside
+unfoldable pub small : ℕ → Bool
+small w = leb (w % 2 ^ 31) 0x5d5e_0b6b && leb (w / 2 ^ 32 % 2 ^ 31) 0x5d5e_0b6b
+
 -- ---- number 5: 'a monitor word not within 1e60', 'a window or channel power with its sign bit set'
 
 -- 1e60
@@ -46,7 +53,7 @@ sumFits x = le (magnitude x) wordLimit
 unfoldable pub powerFits : Float → Bool
 powerFits x = signClear x && le (magnitude x) wordLimit
 
-unfoldable pub allOf : (Float → Bool) → List Float → Bool
+unfoldable pub allOf : {A : Type 0} → (A → Bool) → List A → Bool
 allOf p [] = true
 allOf p (x ∷ xs) = p x && allOf p xs
 

@@ -2,17 +2,24 @@
 // are n powers, n real and n imaginary sums of products, and n for sorting.
 
 ghost use mathlib.Core.Path.{_≡_};
-ghost use Prim.Native.Nat.{_+_, _*_, _≤_, _<_, _^_};
+ghost use Prim.Native.Nat.{_+_, _-_, _*_, _/_, _≤_, _<_, _^_};
+ghost use mathlib.Core.Bool.{_&&_};
+ghost use lib.Dec.{T};
 ghost use lib.ListN.{length, getD, take, drop, replicate};
 ghost use mathlib.Core.List.{_++_};
-ghost use lib.Ieee.{nan, lt};
+ghost use lib.Ieee.{nan, lt, binary64, fits};
+ghost use Rattle.ieee.specs.Plain.{signClear, Plain};
 ghost use Rattle.rules.specs.Constants.{zeroF};
 ghost use Rattle.rules.specs.Sort.{insert, sort};
-ghost use Rattle.rules.specs.Monitor.{channelAt, mirrorOf, eligible, strongest, floorOf, coherenceOf, suspicious, windowLength};
+ghost use Rattle.rules.specs.SortLaws.{All};
+ghost use Rattle.rules.specs.Monitor.{channelAt, mirrorOf, strongest, floorOf, coherenceOf, suspicious, windowLength};
+ghost use Rattle.complex.specs.Complex.{sampleOf};
 ghost use Rattle.complex.specs.View.{view64};
-ghost use Rattle.image.specs.Words.{powerIn, productIn, addedTerms, addedChannel, addedHop, powerFits, sumFits, allOf, wordsFit};
-ghost use Rattle.image.specs.Observe.{Among, choice, powerAt, strongerOf, betterOf, pairIn, reportIn, evidence, firstOr, full, fresh, acceptedOf, observed, said, hopSaid};
-use complex::Complex32;
+ghost use Rattle.complex.specs.Words.{NoNan};
+ghost use Rattle.rules.specs.Refusals.{firstBeyondFrom};
+ghost use Rattle.image.specs.Words.{powerIn, productIn, addedTerms, addedChannel, addedHop, small, powerFits, sumFits, allOf, wordsFit};
+ghost use Rattle.image.specs.Select.{belowOf, aboveOf, Window, Turning, Narrowed, Selected, leastAbove};
+ghost use Rattle.image.specs.Observe.{Among, choice, powerAt, EligibleFrom, strongerOf, pairIn, reportIn, evidence, firstOr, full, fresh, acceptedOf, observed, said, hopSaid};
 use complex::Complex64;
 
 // Evidence from one window. Powers are sums of channel powers, not dB.
@@ -67,6 +74,22 @@ struct Pair {
     coherence: f64,
 }
 
+// How many words are below one, and how many above.
+struct Sides {
+    below: usize,
+    above: usize,
+}
+
+// A sorted place is looked for: it is this place of the first count words, sorted. Their bits are
+// from low to high, and so many turns are left.
+struct Search {
+    count: usize,
+    place: usize,
+    low: u64,
+    high: u64,
+    left: u64,
+}
+
 // The channel that mirrors k, of n.
 fn mirror(n: usize, k: usize) -> usize
     requires { ⌜ k < n ⌝ }
@@ -78,19 +101,74 @@ fn mirror(n: usize, k: usize) -> usize
     n - k
 }
 
+fn both(a: bool, b: bool) -> bool
+    ensures { λ r. ⌜ r ≡ (a && b) ⌝ }
+{
+    if a {
+        return b;
+    }
+    false
+}
+
+// Whether both parts of a sample are at most the greatest f32 within 1e18, by their bits.
+fn is_small(w: u64) -> bool
+    ensures { λ r. ⌜ r ≡ small w ⌝ }
+{
+    let re = w % 0x8000_0000;
+    let im = w / 0x1_0000_0000 % 0x8000_0000;
+    both(re <= 0x5d5e_0b6b, im <= 0x5d5e_0b6b)
+}
+
+// Whether all samples are.
+fn all_small(x: &[u64]) -> bool
+    ensures { λ r. ⌜ r ≡ allOf small (now (x .entry)) ⌝ }
+{
+    let mut good = true;
+    let mut k: usize = 0;
+    while k < x.len() {
+        good = both(is_small(x[k]), good);
+        k += 1;
+    }
+    good
+}
+
+// The first place of a sample with a part that is not within 1e18, and the number of samples if
+// there is none, which is nearly always so.
+fn first_beyond(x: &[u64]) -> usize
+    ensures { λ r. ⌜ r ≡ firstBeyondFrom 0 (now (x .entry)) ⌝ }
+{
+    if all_small(x) {
+        return x.len();
+    }
+    part_limit::first_beyond(x)
+}
+
 // Channel k's power, and its product with its mirror.
 struct Terms {
     power: f64,
     product: Complex64,
 }
 
+// The sample of a word, neither of whose parts is a NaN, widened.
+fn wide(w: u64) -> Complex64
+    requires { ⌜ NoNan (sampleOf w) ⌝ }
+    ensures { λ r. ⌜ view64 r ≡ sampleOf w ⌝ }
+{
+    let re = (w % 0x1_0000_0000) as u32;
+    let im = (w / 0x1_0000_0000) as u32;
+    Complex64 {
+        re: f32::from_bits(re) as f64,
+        im: f32::from_bits(im) as f64,
+    }
+}
+
 fn terms_of(x: &[u64], k: usize) -> Terms
-    requires { ⌜ k < length (now x) ⌝ }
+    requires { ⌜ k < length (now x) ⌝ ∗ ⌜ firstBeyondFrom 0 (now x) ≡ length (now x) ⌝ }
     ensures { λ r. ⌜ (r .power ≡ powerIn (now (x .entry)) k) × (view64 (r .product) ≡ productIn (now (x .entry)) k) ⌝ }
 {
     let m = mirror(x.len(), k);
-    let v = Complex32::unpack(x[k]).widen();
-    let w = Complex32::unpack(x[m]).widen();
+    let v = wide(x[k]);
+    let w = wide(x[m]);
     Terms {
         power: v.norm_sqr(),
         product: v.mul(w),
@@ -113,7 +191,7 @@ fn add_terms(words: &mut [f64], n: usize, k: usize, t: Terms)
 }
 
 fn add_channel(words: &mut [f64], x: &[u64], k: usize)
-    requires { ⌜ k < length (now x) ⌝ ∗ ⌜ length (now words) ≡ 4 * length (now x) ⌝ ∗ ⌜ length (now x) ≤ 2048 ⌝ }
+    requires { ⌜ k < length (now x) ⌝ ∗ ⌜ length (now words) ≡ 4 * length (now x) ⌝ ∗ ⌜ length (now x) ≤ 2048 ⌝ ∗ ⌜ firstBeyondFrom 0 (now x) ≡ length (now x) ⌝ }
     ensures { λ _. ⌜ now (words .exit) ≡ addedChannel (now (x .entry)) (now (words .entry)) k ⌝ }
 {
     let t = terms_of(x, k);
@@ -122,7 +200,7 @@ fn add_channel(words: &mut [f64], x: &[u64], k: usize)
 
 // Adds a hop's channels.
 fn add_hop(words: &mut [f64], x: &[u64])
-    requires { ⌜ length (now words) ≡ 4 * length (now x) ⌝ ∗ ⌜ length (now x) ≤ 2048 ⌝ }
+    requires { ⌜ length (now words) ≡ 4 * length (now x) ⌝ ∗ ⌜ length (now x) ≤ 2048 ⌝ ∗ ⌜ firstBeyondFrom 0 (now x) ≡ length (now x) ⌝ }
     ensures { λ _. ⌜ now (words .exit) ≡ addedHop (now (x .entry)) (now (words .entry)) (length (now (x .entry))) ⌝ }
 {
     let mut k: usize = 0;
@@ -170,10 +248,10 @@ fn copy_powers(words: &mut [f64], n: usize)
     }
 }
 
-// Half the sum of the two powers in the middle.
-fn floor_power(words: &mut [f64], n: usize) -> f64
+// Half the sum of the two powers in the middle, from all of them sorted.
+fn sorted_floor(words: &mut [f64], n: usize) -> f64
     requires { ⌜ length (now words) ≡ 4 * n ⌝ ∗ ⌜ n ≤ 2048 ⌝ ∗ ⌜ 0 < n ⌝ }
-    ensures { λ r. ⌜ (r ≡ floorOf (take n (now (words .entry)))) × (now (words .exit) ≡ take (3 * n) (now (words .entry)) ++ sort lt (take n (now (words .entry)))) ⌝ }
+    ensures { λ r. ⌜ r ≡ floorOf (take n (now (words .entry))) ⌝ }
 {
     copy_powers(words, n);
     let from = 3 * n;
@@ -183,59 +261,327 @@ fn floor_power(words: &mut [f64], n: usize) -> f64
     (words[low] + words[high]) * 0.5
 }
 
-fn is_eligible(n: usize, k: usize) -> bool
-    requires { ⌜ k < n ⌝ ∗ ⌜ n ≤ 2048 ⌝ }
-    ensures { λ r. ⌜ r ≡ eligible n k ⌝ }
+// Whether x is no NaN and its sign bit is clear.
+fn is_plain(x: f64) -> bool
+    ensures { λ r. ⌜ (r ≡ signClear x) × T (fits binary64 x) ⌝ }
 {
-    let middle = n / 2;
-    if k <= 2 {
+    if x != x {
         return false;
     }
-    if n <= k + 2 {
-        return false;
-    }
-    if k < middle {
-        return 2 < middle - k;
-    }
-    2 < k - middle
+    f64::to_bits(x) < 0x8000_0000_0000_0000
 }
 
-// The stronger of the best so far and channel k, and k if they are equal.
-fn stronger(powers: &[f64], best: Strongest, k: usize) -> Strongest
-    requires { ⌜ k < length (now powers) ⌝ ∗ ⌜ Among (length (now powers)) best ⌝ }
-    ensures { λ r. ⌜ (choice r ≡ strongerOf (now (powers .entry)) (choice best) k) × Among (length (now (powers .entry))) r ⌝ }
+// Whether all are: then their order is total.
+fn all_plain(part: &[f64]) -> bool
+    ensures { λ r. ⌜ (r ≡ allOf signClear (now (part .entry))) × All (λ x. T (fits binary64 x)) (now (part .entry)) ⌝ }
 {
-    let Strongest::Channel(j) = best else {
-        return Strongest::Channel(k);
+    let mut good = true;
+    let mut k: usize = 0;
+    while k < part.len() {
+        good = both(is_plain(part[k]), good);
+        k += 1;
+    }
+    good
+}
+
+// How many words are below p, and how many above.
+fn count_sides(part: &[f64], p: f64) -> Sides
+    ensures { λ r. ⌜ (r .below ≡ length (belowOf p (now (part .entry)))) × (r .above ≡ length (aboveOf p (now (part .entry)))) ⌝ }
+{
+    let mut below: usize = 0;
+    let mut above: usize = 0;
+    let mut k: usize = 0;
+    while k < part.len() {
+        below += (part[k] < p) as usize;
+        above += (p < part[k]) as usize;
+        k += 1;
+    }
+    Sides { below, above }
+}
+
+// Moves the words below p to the front, in order, and counts them.
+fn keep_below(part: &mut [f64], p: f64) -> usize
+    ensures { λ r. ⌜ (r ≤ length (now (part .entry))) × (take r (now (part .exit)) ≡ belowOf p (now (part .entry))) ⌝ }
+{
+    let mut kept: usize = 0;
+    let mut k: usize = 0;
+    while k < part.len() {
+        let x = part[k];
+        part[kept] = x;
+        kept += (x < p) as usize;
+        k += 1;
+    }
+    kept
+}
+
+// Moves the words above p to the front.
+fn keep_above(part: &mut [f64], p: f64) -> usize
+    ensures { λ r. ⌜ (r ≤ length (now (part .entry))) × (take r (now (part .exit)) ≡ aboveOf p (now (part .entry))) ⌝ }
+{
+    let mut kept: usize = 0;
+    let mut k: usize = 0;
+    while k < part.len() {
+        let x = part[k];
+        part[kept] = x;
+        kept += (p < x) as usize;
+        k += 1;
+    }
+    kept
+}
+
+// The one in the middle.
+fn median(a: f64, b: f64, c: f64) -> f64
+    requires { ⌜ Plain binary64 a ⌝ ∗ ⌜ Plain binary64 b ⌝ ∗ ⌜ Plain binary64 c ⌝ }
+    ensures { λ r. ⌜ Plain binary64 r ⌝ }
+{
+    if a < b {
+        if b < c {
+            return b;
+        }
+        if a < c {
+            return c;
+        }
+        return a;
+    }
+    if a < c {
+        return a;
+    }
+    if b < c {
+        return c;
+    }
+    b
+}
+
+// A power to compare the words of a window with: any is right, and one in their middle is fast.
+// When this took too many turns, the bits that it can have are halved.
+fn pivot(part: &[f64], low: u64, high: u64, left: u64) -> f64
+    requires { ⌜ 0 < length (now part) ⌝ ∗ ⌜ All (Plain binary64) (now part) ⌝ }
+    ensures { λ r. ⌜ Plain binary64 r ⌝ }
+{
+    let middle = part.len() / 2;
+    if left <= 64 {
+        let p = ieee::from_bits64(low / 2 + high / 2);
+        if is_plain(p) {
+            return p;
+        }
+        return part[middle];
+    }
+    let first = part.len() / 4;
+    let last = middle + first;
+    median(part[first], part[middle], part[last])
+}
+
+// The place is among the words below p.
+fn search_below(part: &mut [f64], s: Search, p: f64) -> Search
+    requires { ⌜ Turning (now part) s p ⌝ ∗ ⌜ s .place < length (belowOf p (take (s .count) (now part))) ⌝ }
+    ensures { λ r. ⌜ Narrowed (now (part .entry)) s (now (part .exit)) r ⌝ }
+{
+    let m = s.count;
+    let count = keep_below(&mut part[..m], p);
+    Search {
+        count,
+        place: s.place,
+        low: s.low,
+        high: ieee::to_bits64(p),
+        left: s.left - 1,
+    }
+}
+
+// It is among those above p: so many are not.
+fn search_above(part: &mut [f64], s: Search, p: f64, passed: usize) -> Search
+    requires { ⌜ Turning (now part) s p ⌝ ∗ ⌜ passed + length (aboveOf p (take (s .count) (now part))) ≡ s .count ⌝ ∗ ⌜ passed ≤ s .place ⌝ }
+    ensures { λ r. ⌜ Narrowed (now (part .entry)) s (now (part .exit)) r ⌝ }
+{
+    let m = s.count;
+    let count = keep_above(&mut part[..m], p);
+    Search {
+        count,
+        place: s.place - passed,
+        low: ieee::to_bits64(p),
+        high: s.high,
+        left: s.left - 1,
+    }
+}
+
+// It is among those equal to p, and so is the next place if that is before passed.
+fn search_equal(part: &mut [f64], s: Search, p: f64, passed: usize) -> Search
+    requires { ⌜ Turning (now part) s p ⌝ ∗ ⌜ passed + length (aboveOf p (take (s .count) (now part))) ≡ s .count ⌝ ∗ ⌜ s .place < passed ⌝ ∗ ⌜ length (belowOf p (take (s .count) (now part))) ≤ s .place ⌝ }
+    ensures { λ r. ⌜ Narrowed (now (part .entry)) s (now (part .exit)) r ⌝ }
+{
+    part[0] = p;
+    part[1] = p;
+    if s.place + 1 < passed {
+        return Search {
+            count: 2,
+            place: 0,
+            low: s.low,
+            high: s.high,
+            left: s.left - 1,
+        };
+    }
+    Search {
+        count: 1,
+        place: 0,
+        low: s.low,
+        high: s.high,
+        left: s.left - 1,
+    }
+}
+
+fn turn(part: &mut [f64], s: Search) -> Search
+    requires { ⌜ Window (now part) s ⌝ ∗ ⌜ 1 < s .count ⌝ ∗ ⌜ 0 < s .left ⌝ }
+    ensures { λ r. ⌜ Narrowed (now (part .entry)) s (now (part .exit)) r ⌝ }
+{
+    let m = s.count;
+    let p = pivot(&part[..m], s.low, s.high, s.left);
+    let r = count_sides(&part[..m], p);
+    if s.place < r.below {
+        return search_below(part, s, p);
+    }
+    let passed = m - r.above;
+    if passed <= s.place {
+        return search_above(part, s, p, passed);
+    }
+    search_equal(part, s, p, passed)
+}
+
+// Sorts a part of the words, in front, that has the one at this place of all of them sorted. What
+// is left when the turns are used up are equals, which are sorted in one pass.
+fn select(part: &mut [f64], place: usize) -> Search
+    requires { ⌜ place < length (now part) ⌝ ∗ ⌜ All (Plain binary64) (now part) ⌝ }
+    ensures { λ r. ⌜ Selected (now (part .entry)) place (now (part .exit)) r ⌝ }
+{
+    let mut s = Search {
+        count: part.len(),
+        place,
+        low: 0,
+        high: 0x7ff0_0000_0000_0000,
+        left: 80,
     };
-    if powers[k] < powers[j] {
-        return Strongest::Channel(j);
+    while 16 < s.count && 0 < s.left {
+        s = turn(part, s);
     }
-    Strongest::Channel(k)
+    let m = s.count;
+    sort_words(&mut part[..m]);
+    s
 }
 
-// The better of the best so far and channel k, which may not be eligible.
-fn better(powers: &[f64], best: Strongest, k: usize) -> Strongest
-    requires { ⌜ k < length (now powers) ⌝ ∗ ⌜ Among (length (now powers)) best ⌝ ∗ ⌜ length (now powers) ≤ 2048 ⌝ }
-    ensures { λ r. ⌜ (choice r ≡ betterOf (now (powers .entry)) (choice best) k) × Among (length (now (powers .entry))) r ⌝ }
+// The least word above p.
+fn least_above(part: &[f64], p: f64) -> f64
+    ensures { λ r. ⌜ r ≡ leastAbove p (now (part .entry)) ⌝ }
 {
-    if is_eligible(powers.len(), k) {
-        return stronger(powers, best, k);
+    let mut least: f64 = 0.0 / 0.0;
+    let mut k = part.len();
+    while 0 < k {
+        k -= 1;
+        let x = part[k];
+        if !(p < x) {
+            continue;
+        }
+        if least < x {
+            continue;
+        }
+        least = x;
+    }
+    least
+}
+
+// The power after the sorted place k, whose power is p.
+fn next_power(powers: &[f64], k: usize, p: f64) -> f64
+    requires { ⌜ k + 1 < length (now powers) ⌝ ∗ ⌜ All (Plain binary64) (now powers) ⌝ ∗ ⌜ p ≡ getD (sort lt (now powers)) k nan ⌝ }
+    ensures { λ r. ⌜ r ≡ getD (sort lt (now (powers .entry))) (k + 1) nan ⌝ }
+{
+    let r = count_sides(powers, p);
+    if k + 1 < powers.len() - r.above {
+        return p;
+    }
+    least_above(powers, p)
+}
+
+// The power at the upper of the two places in the middle, where p is that at the lower.
+fn upper_power(words: &[f64], n: usize, s: Search, p: f64) -> f64
+    requires { ⌜ (length (now words) ≡ 4 * n) × (n ≤ 2048) × (0 < n) ⌝ ∗ ⌜ All (Plain binary64) (take n (now words)) ⌝ ∗ ⌜ Selected (take n (now words)) ((n - 1) / 2) (drop (3 * n) (now words)) s ⌝ ∗ ⌜ p ≡ getD (sort lt (take n (now words))) ((n - 1) / 2) nan ⌝ }
+    ensures { λ r. ⌜ r ≡ getD (sort lt (take n (now (words .entry)))) (n / 2) nan ⌝ }
+{
+    let low = (n - 1) / 2;
+    if low == n / 2 {
+        return p;
+    }
+    let next = s.place + 1;
+    if next < s.count {
+        let at = 3 * n + next;
+        return words[at];
+    }
+    next_power(&words[..n], low, p)
+}
+
+// Half the sum of the two powers in the middle, from a selection.
+fn selected_floor(words: &mut [f64], n: usize) -> f64
+    requires { ⌜ length (now words) ≡ 4 * n ⌝ ∗ ⌜ n ≤ 2048 ⌝ ∗ ⌜ 0 < n ⌝ ∗ ⌜ All (Plain binary64) (take n (now words)) ⌝ }
+    ensures { λ r. ⌜ r ≡ floorOf (take n (now (words .entry))) ⌝ }
+{
+    copy_powers(words, n);
+    let from = 3 * n;
+    let s = select(&mut words[from..], (n - 1) / 2);
+    let at = from + s.place;
+    let p = words[at];
+    let q = upper_power(words, n, s, p);
+    (p + q) * 0.5
+}
+
+// The order of powers is total unless there is a NaN or a set sign bit.
+fn floor_power(words: &mut [f64], n: usize) -> f64
+    requires { ⌜ length (now words) ≡ 4 * n ⌝ ∗ ⌜ n ≤ 2048 ⌝ ∗ ⌜ 0 < n ⌝ }
+    ensures { λ r. ⌜ r ≡ floorOf (take n (now (words .entry))) ⌝ }
+{
+    if all_plain(&words[..n]) {
+        return selected_floor(words, n);
+    }
+    sorted_floor(words, n)
+}
+
+// The stronger of channels j and k, and k if they are equal.
+fn stronger(powers: &[f64], j: usize, k: usize) -> usize
+    requires { ⌜ j < length (now powers) ⌝ ∗ ⌜ k < length (now powers) ⌝ }
+    ensures { λ r. ⌜ (channelAt r ≡ strongerOf (now (powers .entry)) (channelAt j) k) × (r < length (now (powers .entry))) ⌝ }
+{
+    if powers[k] < powers[j] {
+        return j;
+    }
+    k
+}
+
+// The strongest of a channel and those from k on, before the end, all of them eligible.
+fn strongest_among(powers: &[f64], first: usize, from: usize, end: usize) -> usize
+    requires { ⌜ first < length (now powers) ⌝ ∗ ⌜ from ≤ end ⌝ ∗ ⌜ end ≤ length (now powers) ⌝ ∗ ⌜ EligibleFrom (length (now powers)) from end ⌝ ∗ ⌜ channelAt first ≡ strongest (length (now powers)) (powerAt (now powers)) from ⌝ }
+    ensures { λ r. ⌜ (channelAt r ≡ strongest (length (now (powers .entry))) (powerAt (now (powers .entry))) end) × (r < length (now (powers .entry))) ⌝ }
+{
+    let mut best = first;
+    let mut k = from;
+    while k < end {
+        best = stronger(powers, best, k);
+        k += 1;
     }
     best
 }
 
+// The channels that are eligible are those from 3 on and those from 3 past the middle on; of 11
+// channels it is one, and of fewer none.
 fn strongest_channel(powers: &[f64]) -> Strongest
     requires { ⌜ length (now powers) ≤ 2048 ⌝ }
     ensures { λ r. ⌜ (choice r ≡ strongest (length (now (powers .entry))) (powerAt (now (powers .entry))) (length (now (powers .entry)))) × Among (length (now (powers .entry))) r ⌝ }
 {
-    let mut best = Strongest::Nobody;
-    let mut k: usize = 0;
-    while k < powers.len() {
-        best = better(powers, best, k);
-        k += 1;
+    let n = powers.len();
+    if n < 11 {
+        return Strongest::Nobody;
     }
-    best
+    if n == 11 {
+        return Strongest::Channel(8);
+    }
+    let middle = n / 2;
+    let below = strongest_among(powers, 3, 4, middle - 2);
+    let best = strongest_among(powers, below, middle + 3, n - 2);
+    Strongest::Channel(best)
 }
 
 // How much of two powers their product sum explains, from 0 to 1.
@@ -448,7 +794,7 @@ impl ImageMonitor {
 
     // A hop that is not refused.
     fn accept(self, fs: f64, x: &[u64], start: u64, words: &mut [f64]) -> Observed
-        requires { ⌜ length (now words) ≡ 4 * length (now x) ⌝ ∗ ⌜ length (now x) ≤ 2048 ⌝ ∗ ⌜ 0 < length (now x) ⌝ ∗ ⌜ start ≤ 2 ^ 48 ⌝ }
+        requires { ⌜ length (now words) ≡ 4 * length (now x) ⌝ ∗ ⌜ length (now x) ≤ 2048 ⌝ ∗ ⌜ 0 < length (now x) ⌝ ∗ ⌜ start ≤ 2 ^ 48 ⌝ ∗ ⌜ firstBeyondFrom 0 (now x) ≡ length (now x) ⌝ }
         ensures { λ r. ⌜ (r ≡ acceptedOf self fs (now (x .entry)) start (now (words .entry)) .seen) × (now (words .exit) ≡ acceptedOf self fs (now (x .entry)) start (now (words .entry)) .words) ⌝ }
     {
         add_hop(words, x);
@@ -505,7 +851,7 @@ impl ImageMonitor {
                 answer: HopAnswer::Early,
             };
         }
-        let place = part_limit::first_beyond(x);
+        let place = first_beyond(x);
         if place < x.len() {
             return Observed {
                 monitor: self,

@@ -1,1 +1,4 @@
 pub mod Places
+pub mod Sizes
+pub mod Blends
+pub mod Quiet

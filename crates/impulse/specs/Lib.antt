@@ -4,6 +4,7 @@ pub mod View
 pub mod Running
 pub mod Room
 pub mod Ordering
+pub mod Rising
 pub mod Circle
 pub mod State
 pub mod Sound

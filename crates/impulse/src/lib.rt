@@ -4,12 +4,14 @@
 // and what happened beside it; it knows no store.
 
 ghost use mathlib.Core.Path.{_≡_};
+ghost use mathlib.Core.Bool.{true};
 ghost use Prim.Native.Nat.{_+_, _^_, _≤_, _<_};
 ghost use lib.ListN.{length};
 ghost use Rattle.rules.specs.Impulse.{standard, pauses};
 ghost use Rattle.impulse.specs.Machine.{settingOf, fresh, grown, arrived, entered, withRun, withNeighbour, closing, closingPending, ending, endingPending, judge, verdict, released, push};
 ghost use Rattle.impulse.specs.View.{suppressorOf, endedOf, judgedOf, pushedOf};
 ghost use Rattle.impulse.specs.Room.{runEnd, Room};
+ghost use Rattle.impulse.specs.Rising.{Rising};
 
 mod mending;
 mod ordered;
@@ -277,15 +279,17 @@ impl Gate {
         p: f32,
         sorted: &[f32; ImpulseSuppressor::WINDOW],
         pending: &mut [u64; ImpulseSuppressor::LOOKAHEAD],
+        rising: bool,
     ) -> Judged
         requires { ⌜ (0 < self .blocklen) × (8 ≤ self .received) × (self .flagged ≤ 2 ^ 53) × (runEnd (self .run) ≤ 2 ^ 52) × (length (now sorted) ≡ 33) ⌝ }
+        requires { ⌜ (rising ≡ true → Rising 0 (now sorted)) ⌝ }
         ensures result { λ r. ⌜ r ≡ judgedOf (judge (settingOf self) self j p (now (sorted .entry)) (now (pending .entry))) ⌝ }
         ensures words { λ r. ⌜ now (pending .exit) ≡ judge (settingOf self) self j p (now (sorted .entry)) (now (pending .entry)) .pending ⌝ }
     {
         let g = self.entered(j);
         let run = g.run;
         let uncertain = g.paused;
-        if ordered::is_flagged(sorted, g.received, p) {
+        if ordered::is_flagged(sorted, g.received, p, rising) {
             let r = grown(run, j, uncertain);
             return Judged {
                 gate: g.with_run(r),
@@ -310,8 +314,10 @@ impl Gate {
         window: &[f32; ImpulseSuppressor::WINDOW],
         sorted: &[f32; ImpulseSuppressor::WINDOW],
         pending: &mut [u64; ImpulseSuppressor::LOOKAHEAD],
+        rising: bool,
     ) -> Judged
         requires { ⌜ (0 < self .blocklen) × (i ≤ self .received) × (self .flagged ≤ 2 ^ 53) × (runEnd (self .run) ≤ 2 ^ 52) × (length (now sorted) ≡ 33) ⌝ }
+        requires { ⌜ (rising ≡ true → Rising 0 (now sorted)) ⌝ }
         ensures result { λ r. ⌜ r ≡ judgedOf (verdict (settingOf self) self i (now (window .entry)) (now (sorted .entry)) (now (pending .entry))) ⌝ }
         ensures words { λ r. ⌜ now (pending .exit) ≡ verdict (settingOf self) self i (now (window .entry)) (now (sorted .entry)) (now (pending .entry)) .pending ⌝ }
     {
@@ -324,7 +330,7 @@ impl Gate {
         }
         let j = i - ImpulseSuppressor::HALF_WINDOW as u64;
         let at = (j % ImpulseSuppressor::WINDOW as u64) as usize;
-        self.judge(j, window[at], sorted, pending)
+        self.judge(j, window[at], sorted, pending, rising)
     }
 
     // Takes the next raw sample. The answer is the sample that is released: of an applying suppressor
@@ -344,10 +350,10 @@ impl Gate {
         ensures words { λ r. ⌜ now (pending .exit) ≡ push (settingOf self) (suppressorOf self (now (window .entry)) (now (sorted .entry)) (now (pending .entry))) x .state .pending ⌝ }
     {
         let i = self.received;
-        ordered::take_in(window, sorted, i, x);
+        let rising = ordered::take_in(window, sorted, i, x);
         let out = mending::hold(pending, i, x);
         let answer = released(self.apply, i, out, x);
-        let d = self.arrived().verdict(i, window, sorted, pending);
+        let d = self.arrived().verdict(i, window, sorted, pending, rising);
         let gate = d.gate;
         let ended = d.ended;
         Pushed {

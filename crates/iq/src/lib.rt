@@ -10,7 +10,6 @@ ghost use Rattle.rules.specs.Iq.{sine, cosine, ranged, finitePositive, gainFits
 ghost use Rattle.rules.specs.Refusals.{validation};
 ghost use Rattle.iq.specs.View.{calibrationOf, modeOf, calibratedOf, settledOf, refusalOf};
 ghost use Rattle.iq.specs.Undo.{said, undoReturned, undoWords};
-use complex::Complex32;
 use complex::Complex64;
 
 const RADIANS_PER_DEGREE: f64 = 0.017453292519943295;
@@ -228,17 +227,19 @@ pub fn settle(mode: StageMode, calibration: Calibration, receiver: f64) -> Iq
 pub fn correct(rho: Complex64, w: u64) -> u64
     ensures { λ r. ⌜ r ≡ corrected (view64 rho) w ⌝ }
 {
-    let m = Complex32::unpack(w).widen();
-    m.sub(rho.mul(m.conj())).narrow().pack()
+    let m = Complex64::unpack(w);
+    let y = m.sub(rho.mul(m.conj())).rounded();
+    y.word
 }
 
 // The sample y of a word, as (y + rho·conj(y))/(1 − power of rho).
 fn uncorrect(rho: Complex64, w: u64) -> u64
     ensures { λ r. ⌜ r ≡ uncorrected (view64 rho) w ⌝ }
 {
-    let y = Complex32::unpack(w).widen();
+    let y = Complex64::unpack(w);
     let scale = 1.0 - rho.norm_sqr();
-    y.add(rho.mul(y.conj())).unscale(scale).narrow().pack()
+    let m = y.add(rho.mul(y.conj())).unscale(scale).rounded();
+    m.word
 }
 
 // Each sample corrected, in place.

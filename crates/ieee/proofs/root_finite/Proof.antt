@@ -11,12 +11,12 @@ use lib.Ieee.{binary64, ofBits, isNan}
 use lib.Ieee.Bits.{ofBits-fits}
 use lib.Ieee.Exact.{HasValue}
 use borrow.Author.Tests.{lt-leb}
-use borrow.Author.Needs.{needs}
 use Rattle.ieee.specs.declared.Normal.{Normal}
 use Rattle.ieee.specs.Normal.{exponentIn, significandIn, shiftOf, Normalised}
 use Rattle.ieee.specs.Fields.{Meaning, meaning-bits, number-bits}
 use Rattle.ieee.specs.NormalLaws.{placed, evenOf, evened}
 use Rattle.ieee.proofs.Rooting.{root-small, root-is}
+use borrow.Author.Needs.{needs}
 use Rattle.ieee.proofs.root_finite.Statement.{statement}
 use Rattle.ieee.proofs.root_finite.Tie as tie
 
@@ -64,64 +64,65 @@ field y c h l = omega arith
 at : (c : tie.After-normalise) → Ground (c .before .args .b) (c .normalise .result)
 at c = ground _ _ (c .before .pre .0) (c .before .pre .1) (c .normalise .ensures)
 
+g-small : (c : tie.After-half-root) → c .half-root .result < 2 ^ 54
+g-small c = let h = c .half-root .ensures in let r = root-small _ (h .R) (mod-lt _ (pow-pos 64)) (h .low) in omega arith
+
 normalise-requires : tie.Need-normalise-requires
 normalise-requires c κs = search needs
 
 add-odd : tie.Need-add-odd
 add-odd c = let g = at (c .before) in omega arith
 
-sub-root-digits : tie.Need-sub-root-digits
-sub-root-digits c = search needs
+sub-half-root : tie.Need-sub-half-root
+sub-half-root c = search needs
 
-shl-root-digits : tie.Need-shl-root-digits
-shl-root-digits c = search needs
-
-root-digits-requires : tie.Need-root-digits-requires
-root-digits-requires c κs = search needs
-
-add-from-bits64 : tie.Need-add-from-bits64
-add-from-bits64 c = let g = at (c .before .before .before .before) in omega arith
-
-add-from-bits64-2 : tie.Need-add-from-bits64-2
-add-from-bits64-2 c = let g = at (c .before .before .before .before) in omega arith
-
-sub-from-bits64 : tie.Need-sub-from-bits64
-sub-from-bits64 c = let g = at (c .before .before .before .before .before) in omega arith
-
-mul-from-bits64 : tie.Need-mul-from-bits64
-mul-from-bits64 c = let g = at (c .before .before .before .before .before) in omega arith
-
-R-small : (c : tie.After-root-digits) → c .root-digits .result < 2 ^ 54
-R-small c = root-small _ (c .root-digits .result) (mod-lt _ (pow-pos 64)) (c .root-digits .ensures .0)
-
-add-from-bits64-3 : tie.Need-add-from-bits64-3
-add-from-bits64-3 c = let r = R-small (c .before .before) in omega arith
-
-add-from-bits64-4 : tie.Need-add-from-bits64-4
-add-from-bits64-4 c = let r = R-small (c .before .before) in let g = at (c .before .before .before .before .before) in omega arith
+shl-half-root : tie.Need-shl-half-root
+shl-half-root c = search needs
 
 from-bits64-requires : tie.Need-from-bits64-requires
 from-bits64-requires c κs = search needs
 
+half-root-requires : tie.Need-half-root-requires
+half-root-requires c κs = search needs
+
+add-from-bits64 : tie.Need-add-from-bits64
+add-from-bits64 c = search needs
+
+add-from-bits64-2 : tie.Need-add-from-bits64-2
+add-from-bits64-2 c = search needs
+
+sub-from-bits64 : tie.Need-sub-from-bits64
+sub-from-bits64 c = let g = at (c .before .before .before .before .before .before) in omega arith
+
+mul-from-bits64 : tie.Need-mul-from-bits64
+mul-from-bits64 c = search needs
+
+add-from-bits64-3 : tie.Need-add-from-bits64-3
+add-from-bits64-3 c = let r = g-small (c .before .before) in let g = at (c .before .before .before .before .before .before) in omega arith
+
+from-bits64-requires-2 : tie.Need-from-bits64-requires-2
+from-bits64-requires-2 c κs = search needs
+
 returns : tie.Need-returns
 returns c =
-    let s = c .before .before .before .before .before .before in
+    let s = c .before .before .before .before .before .before .before in
     let b = s .before .args .b in
     let n = s .normalise .result in
     let u = s .normalise .ensures in
     let g = at s in
-    let r = c .before .before .before .root-digits .result in
+    let h = c .before .before .before .half-root .ensures in
     let w = word b n u g in
     let L = s .before .pre .1 in
     let N = number-bits b (omega arith) in
-    c .from-bits64 .ensures
+    c .from-bits642 .ensures
     ∙ ap (ofBits binary64)
-    (ap (λ (k : ℕ). k * 2 ^ 52 + (r + 1) / 2) (field (n .place) (n .shift) (g .near) (g .far)
+    (ap (λ (k : ℕ). k * 2 ^ 52 + c .before .before .before .half-root .result) (field (n .place) (n .shift) (g .near) (g .far)
     ∙ ap (λ (y : ℕ). (1032 + y - (n .shift + (2 - (y + n .shift) % 2))) / 2) (u .place)
-    ∙ ap (λ (c : ℕ). (1032 + (exponentIn b - 1) - (c + (2 - (exponentIn b - 1 + c) % 2))) / 2) (u .shift)))
-    ∙ root-is (ofBits binary64 b) (significandIn b) (exponentIn b - 1) r (ofBits-fits binary64 b) (g .some) (g .few) (let h = g .below in omega arith) (finite b L N (g .below))
-    (subst (λ (a : ℕ). r * r ≤ a * 2 ^ 44) w (c .before .before .before .root-digits .ensures .0))
-    (subst (λ (a : ℕ). a * 2 ^ 44 < (r + 1) * (r + 1)) w (c .before .before .before .root-digits .ensures .1))
+    ∙ ap (λ (c : ℕ). (1032 + (exponentIn b - 1) - (c + (2 - (exponentIn b - 1 + c) % 2))) / 2) (u .shift))
+    ∙ ap (λ (g : ℕ). (1032 + (exponentIn b - 1) - evenOf (significandIn b) (exponentIn b - 1)) / 2 * 2 ^ 52 + g) (h .half))
+    ∙ root-is (ofBits binary64 b) (significandIn b) (exponentIn b - 1) (h .R) (ofBits-fits binary64 b) (g .some) (g .few) (let h = g .below in omega arith) (finite b L N (g .below))
+    (subst (λ (a : ℕ). h .R * h .R ≤ a * 2 ^ 44) w (h .low))
+    (subst (λ (a : ℕ). a * 2 ^ 44 < (h .R + 1) * (h .R + 1)) w (h .high))
 
 pub root-finite-spec : {M : Type 1} → statement M
 root-finite-spec =
@@ -129,14 +130,14 @@ root-finite-spec =
     (tie.spec
     normalise-requires
     add-odd
-    sub-root-digits
-    shl-root-digits
-    root-digits-requires
+    sub-half-root
+    shl-half-root
+    from-bits64-requires
+    half-root-requires
     add-from-bits64
     add-from-bits64-2
     sub-from-bits64
     mul-from-bits64
     add-from-bits64-3
-    add-from-bits64-4
-    from-bits64-requires
+    from-bits64-requires-2
     returns)

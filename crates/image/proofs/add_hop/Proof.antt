@@ -26,7 +26,7 @@ unfolding addedHop
 loop-holds c = (omega arith, refl)
 
 add-channel-requires : tie.Need-add-channel-requires Inv-loop μ-loop
-add-channel-requires c κs = let s = c .before .before .before .before .before in let l = c .before .before .loop in (c .before .loop-test .taken, (ap length (l .inv .1) ∙ length-added (s .args .x .now) (s .args .words .now) (l .k) ∙ s .pre .0, s .pre .1))
+add-channel-requires c κs = let s = c .before .before .before .before .before in let l = c .before .before .loop in (c .before .loop-test .taken, (ap length (l .inv .1) ∙ length-added (s .args .x .now) (s .args .words .now) (l .k) ∙ s .pre .0, (s .pre .1 .0, s .pre .1 .1)))
 
 add-k : tie.Need-add-k Inv-loop μ-loop
 add-k c = omega arith

@@ -1,80 +1,53 @@
--- `image::floor_power` sorts the powers that it copied. Assumes nothing.
-use Prim.Native.Nat.{_-_}
-use Rattle.image.proofs.Lists.{sorted-in-place, floor-read}
+-- `image::floor_power` selects where the order of the powers is total, and sorts where it is not. Assumes nothing.
+use mathlib.Core.Path.{sym, _∙_}
+use native.Mathlib.Omega.{arith}
+use lib.ListN.{take}
+use lib.Seq.{length-take-le}
+use Rattle.image.proofs.Selecting.{all-are-plain}
 use borrow.Author.Needs.{needs}
 use Rattle.image.proofs.floor_power.Statement.{statement}
 use Rattle.image.proofs.floor_power.Tie as tie
 
-copy-powers-requires : tie.Need-copy-powers-requires
-copy-powers-requires c κs = search needs
+slice-reshare-prefix-all-plain : tie.Need-slice-reshare-prefix-all-plain
+slice-reshare-prefix-all-plain c = search needs
 
-mul-from : tie.Need-mul-from
-mul-from c = search needs
+slice-aggregate-all-plain : tie.Need-slice-aggregate-all-plain
+slice-aggregate-all-plain c = let s = c .before .before in sym (length-take-le (s .args .n) (s .args .words .now) (omega (arith, s .pre .0)))
 
-mul-sort-words : tie.Need-mul-sort-words
-mul-sort-words c = search needs
+all-plain-requires : tie.Need-all-plain-requires
+all-plain-requires c κs = search needs
 
-sub-sort-words : tie.Need-sub-sort-words
-sub-sort-words c = search needs
-
-part-sort-words-start : tie.Need-part-sort-words-start
-part-sort-words-start c = search needs
-
-part-sort-words-end : tie.Need-part-sort-words-end
-part-sort-words-end c = search needs
-
-sort-words-requires : tie.Need-sort-words-requires
-sort-words-requires c κs = search needs
-
-sub-low : tie.Need-sub-low
-sub-low c = search needs
-
-add-low : tie.Need-add-low
-add-low c = search needs
-
-add-high : tie.Need-add-high
-add-high c = search needs
-
-mul-result : tie.Need-mul-result
-mul-result c = search needs
-
-slice-read-result : tie.Need-slice-read-result
-slice-read-result c = search needs
-
-mul-result-2 : tie.Need-mul-result-2
-mul-result-2 c = search needs
-
-slice-read-result-2 : tie.Need-slice-read-result-2
-slice-read-result-2 c = search needs
+selected-floor-requires : tie.Need-selected-floor-requires
+selected-floor-requires c κs =
+    let s = c .before .before .before .before .before in
+    let t = c .before .before .all-plain .ensures in
+    (s .pre .0, (s .pre .1 .0, (s .pre .1 .1, all-are-plain (take (s .args .n) (s .args .words .now)) (sym (t .0) ∙ c .before .if1 .taken) (t .1))))
 
 same-length : tie.Need-same-length
 same-length c = search needs
 
 returns : tie.Need-returns
-returns c =
-    let s = c .before .before .before .before .before .before .before .before .before .before .before in
-    let ws = s .args .words .now in
-    let n = s .args .n in
-    let e = sorted-in-place n ws _ _ (s .pre .0) (c .before .before .before .before .before .before .before .before .copy-powers .ensures) (c .before .before .before .before .sort-words .ensures) in
-    (floor-read n ws _ (s .pre .1 .1) (s .pre .0) e, e)
+returns c = search needs
+
+sorted-floor-requires : tie.Need-sorted-floor-requires
+sorted-floor-requires c κs = search needs
+
+same-length-2 : tie.Need-same-length-2
+same-length-2 c = search needs
+
+returns-2 : tie.Need-returns-2
+returns-2 c = search needs
 
 pub floor-power-spec : {M : Type 1} → statement M
 floor-power-spec =
     tie.close
     (tie.spec
-    copy-powers-requires
-    mul-from
-    mul-sort-words
-    sub-sort-words
-    part-sort-words-start
-    part-sort-words-end
-    sort-words-requires
-    sub-low
-    add-low
-    add-high
-    mul-result
-    slice-read-result
-    mul-result-2
-    slice-read-result-2
+    slice-reshare-prefix-all-plain
+    slice-aggregate-all-plain
+    all-plain-requires
+    selected-floor-requires
     same-length
-    returns)
+    returns
+    sorted-floor-requires
+    same-length-2
+    returns-2)

@@ -52,7 +52,7 @@ returns c =
     let ws = s .args .words .now in
     let n = s .args .n in
     let best = c .before .before .before .before .before .before .before .strongest-channel .ensures .0 ∙ ap (λ (m : ℕ). strongest m (powerAt (take n ws)) m) (powers-count s) in
-    made n ws _ _ _ _ _ (c .before .before .before .before .before .pair-of .ensures ∙ ap (pairIn n ws) best) (c .before .before .before .floor-power .ensures .0) (c .is-suspicious .ensures)
+    made n ws _ _ _ _ _ (c .before .before .before .before .before .pair-of .ensures ∙ ap (pairIn n ws) best) (c .before .before .before .floor-power .ensures) (c .is-suspicious .ensures)
 
 pub report-spec : {M : Type 1} → statement M
 report-spec =

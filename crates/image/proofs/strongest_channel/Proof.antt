@@ -1,46 +1,61 @@
--- `image::strongest_channel` is `strongest`, a channel a turn. Assumes nothing.
-use mathlib.Core.Path.{_≡_, refl, sym, ap, _∙_}
+-- `image::strongest_channel` is `strongest`: what lies between and around the two halves is not eligible. Assumes nothing.
+use mathlib.Core.Path.{_≡_, _∙_}
+use Prim.Native.Nat.{ℕ, _≤_}
 use native.Mathlib.Omega.{arith}
-use Prim.Native.Nat.{ℕ, _+_, _-_, _≤_}
-use mathlib.Core.List.{List}
 use lib.ListN.{length}
 use lib.Ieee.{Float}
-use Rattle.image.specs.Observe.{Among, choice, powerAt, betterOf}
-use Rattle.rules.specs.Monitor.{Choice, strongest}
-use native.Mathlib.Numerals.{add-one}
+use Rattle.image.specs.Observe.{powerAt}
+use Rattle.image.proofs.Strength.{few, only-one, lower-start, lower-half, past-middle, upper-half, past-end}
 use Rattle.image.proofs.strongest_channel.Statement.{statement}
 use Rattle.image.proofs.strongest_channel.Tie as tie
 
-next : (ps : List Float) (best : Choice) (k : ℕ) → best ≡ strongest (length ps) (powerAt ps) k → betterOf ps best k ≡ strongest (length ps) (powerAt ps) (k + 1)
-unfolding strongest
-next ps best k e = ap (λ (b : Choice). betterOf ps b k) e ∙ ap (strongest (length ps) (powerAt ps)) (sym (add-one k))
+enough : (n : ℕ) → 11 ≤ n → (n ≡ 11 → ⊥) → 12 ≤ n
+enough n h k = omega arith
 
-abbrev Inv-loop : tie.InvT-loop
-Inv-loop powers best₀ k₀ best k = (k ≤ length powers) × (choice best ≡ strongest (length powers) (powerAt powers) k) × Among (length powers) best
+returns : tie.Need-returns
+returns c = let l = c .before .before .args .powers .now in (few (length l) (powerAt l) (c .if1 .taken), tt)
 
-abbrev μ-loop : tie.MeasureT-loop
-μ-loop powers best₀ k₀ best k = length powers - k
+returns-2 : tie.Need-returns-2
+returns-2 c = let l = c .before .before .before .args .powers .now in (only-one (length l) (powerAt l) (c .if2 .taken), omega arith)
 
-loop-holds : tie.Need-loop-holds Inv-loop μ-loop
-unfolding strongest
-loop-holds c = (omega arith, refl, tt)
+sub-strongest-among : tie.Need-sub-strongest-among
+sub-strongest-among c = omega arith
 
-better-requires : tie.Need-better-requires Inv-loop μ-loop
-better-requires c κs = (c .loop-test .taken, (c .before .loop .inv .2, c .before .before .before .pre))
+strongest-among-requires : tie.Need-strongest-among-requires
+strongest-among-requires c κs =
+    let l = c .before .before .before .args .powers .now in
+    let h = enough (length l) (c .before .if1 .left) (c .if2 .left) in
+    (omega arith, (omega arith, (omega arith, (lower-half (length l) (powerAt l) h, lower-start (length l) (powerAt l) h))))
 
-add-k : tie.Need-add-k Inv-loop μ-loop
-add-k c = omega arith
+add-strongest-among : tie.Need-add-strongest-among
+add-strongest-among c = omega arith
 
-loop-less : tie.Need-loop-less Inv-loop μ-loop
-loop-less c = omega arith
+sub-strongest-among-2 : tie.Need-sub-strongest-among-2
+sub-strongest-among-2 c = omega arith
 
-loop-again : tie.Need-loop-again Inv-loop μ-loop
-loop-again c = let ps = c .before .before .before .before .args .powers .now in let l = c .before .before .loop in (omega arith, c .better .ensures .0 ∙ next ps (choice (l .best)) (l .k) (l .inv .1), c .better .ensures .1)
+strongest-among-requires-2 : tie.Need-strongest-among-requires-2
+strongest-among-requires-2 c κs =
+    let l = c .before .before .before .before .args .powers .now in
+    let h = enough (length l) (c .before .before .if1 .left) (c .before .if2 .left) in
+    let r = c .strongest-among .ensures in
+    (r .1, (omega arith, (omega arith, (upper-half (length l) (powerAt l) h, r .0 ∙ past-middle (length l) (powerAt l) h))))
 
-returns : tie.Need-returns Inv-loop μ-loop
-returns c = let ps = c .before .before .before .args .powers .now in let l = c .before .loop in let e : l .k ≡ length ps = omega arith in (l .inv .1 ∙ ap (strongest (length ps) (powerAt ps)) e, l .inv .2)
+returns-3 : tie.Need-returns-3
+returns-3 c =
+    let l = c .before .before .before .before .before .args .powers .now in
+    let h = enough (length l) (c .before .before .before .if1 .left) (c .before .before .if2 .left) in
+    let r = c .strongest-among2 .ensures in
+    (r .0 ∙ past-end (length l) (powerAt l) h, r .1)
 
 pub strongest-channel-spec : {M : Type 1} → statement M
 strongest-channel-spec =
     tie.close
-    (tie.spec Inv-loop μ-loop loop-holds better-requires add-k loop-less loop-again returns)
+    (tie.spec
+    returns
+    returns-2
+    sub-strongest-among
+    strongest-among-requires
+    add-strongest-among
+    sub-strongest-among-2
+    strongest-among-requires-2
+    returns-3)

@@ -4,45 +4,34 @@ use native.Mathlib.Omega.{arith}
 use Prim.Native.Nat.{ℕ, _-_}
 use lib.Ieee.{binary64}
 use Rattle.complex.specs.Complex.{Complex, power, product, sampleOf}
-use Rattle.complex.specs.declared.Complex32.{Complex32}
-use Rattle.complex.specs.declared.Complex64.{Complex64}
-use Rattle.complex.specs.View.{view32, make32, view64, make64}
+use Rattle.complex.specs.View.{view64}
 use Rattle.rules.specs.Lists.{at}
+use Rattle.image.proofs.Limit.{within-number}
 use Rattle.image.proofs.Lists.{mirror-lt}
 use borrow.Author.Needs.{needs}
 use Rattle.image.proofs.terms_of.Statement.{statement}
 use Rattle.image.proofs.terms_of.Tie as tie
 
--- a word's sample, widened
-wide : {u : Complex32} {v : Complex64} (w : ℕ) → u ≡ make32 (sampleOf w) → v ≡ make64 (view32 u) → view64 v ≡ sampleOf w
-wide w e f = ap view64 f ∙ ap view32 e
-
 mirror-requires : tie.Need-mirror-requires
 mirror-requires c κs = search needs
 
-mul-unpack : tie.Need-mul-unpack
-mul-unpack c = search needs
+mul-wide : tie.Need-mul-wide
+mul-wide c = search needs
 
-shared-slice-read-unpack : tie.Need-shared-slice-read-unpack
-shared-slice-read-unpack c = search needs
+shared-slice-read-wide : tie.Need-shared-slice-read-wide
+shared-slice-read-wide c = search needs
 
-unpack-requires : tie.Need-unpack-requires
-unpack-requires c κs = search needs
+wide-requires : tie.Need-wide-requires
+wide-requires c κs = let s = c .before .before .before in within-number (s .args .x .now) (s .args .k) (s .pre .1) (s .pre .0)
 
-widen-requires : tie.Need-widen-requires
-widen-requires c κs = search needs
+mul-wide-2 : tie.Need-mul-wide-2
+mul-wide-2 c = let s = c .before .before .before .before in let h = mirror-lt _ _ _ (c .before .before .mirror .ensures) (s .pre .0) in omega arith
 
-mul-unpack-2 : tie.Need-mul-unpack-2
-mul-unpack-2 c = let h = mirror-lt _ _ _ (c .before .before .before .mirror .ensures) (c .before .before .before .before .before .pre) in omega arith
+shared-slice-read-wide-2 : tie.Need-shared-slice-read-wide-2
+shared-slice-read-wide-2 c = let s = c .before .before .before .before .before in mirror-lt _ _ _ (c .before .before .before .mirror .ensures) (s .pre .0)
 
-shared-slice-read-unpack-2 : tie.Need-shared-slice-read-unpack-2
-shared-slice-read-unpack-2 c = let s = c .before .before .before .before .before .before in let h = mirror-lt _ _ _ (c .before .before .before .before .mirror .ensures) (s .pre) in omega (arith, s .pre)
-
-unpack-requires-2 : tie.Need-unpack-requires-2
-unpack-requires-2 c κs = search needs
-
-widen-requires-2 : tie.Need-widen-requires-2
-widen-requires-2 c κs = search needs
+wide-requires-2 : tie.Need-wide-requires-2
+wide-requires-2 c κs = let s = c .before .before .before .before .before in within-number (s .args .x .now) (c .before .before .before .mirror .result) (s .pre .1) (mirror-lt _ _ _ (c .before .before .before .mirror .ensures) (s .pre .0))
 
 norm-sqr-requires : tie.Need-norm-sqr-requires
 norm-sqr-requires c κs = search needs
@@ -52,25 +41,24 @@ mul-requires c κs = search needs
 
 returns : tie.Need-returns
 returns c =
-    let s = c .before .before .before .before .before .before .before .before .before .before .args in
+    let s = c .before .before .before .before .before .before .before .before .args in
     let x = s .x .now in
-    let v = wide (at x (s .k)) (c .before .before .before .before .before .before .unpack .ensures) (c .before .before .before .before .before .widen .ensures) in
-    let w = wide (at x (c .before .before .before .before .before .before .before .before .mirror .result)) (c .before .before .before .unpack2 .ensures) (c .before .before .widen2 .ensures) ∙ ap (λ (m : ℕ). sampleOf (at x m)) (c .before .before .before .before .before .before .before .before .mirror .ensures) in
-    (c .before .norm-sqr .ensures ∙ ap (power binary64) v, ap view64 (c .mul .ensures) ∙ ap (λ (z : Complex). product binary64 z (view64 (c .before .before .widen2 .result))) v ∙ ap (product binary64 (sampleOf (at x (s .k)))) w)
+    let m = c .before .before .before .before .before .before .mirror in
+    let v = c .before .before .before .before .wide .ensures in
+    let w = c .before .before .wide2 .ensures ∙ ap (λ (i : ℕ). sampleOf (at x i)) (m .ensures) in
+    (c .before .norm-sqr .ensures ∙ ap (power binary64) v, ap view64 (c .mul .ensures) ∙ ap (λ (z : Complex). product binary64 z (view64 (c .before .before .wide2 .result))) v ∙ ap (product binary64 (sampleOf (at x (s .k)))) w)
 
 pub terms-of-spec : {M : Type 1} → statement M
 terms-of-spec =
     tie.close
     (tie.spec
     mirror-requires
-    mul-unpack
-    shared-slice-read-unpack
-    unpack-requires
-    widen-requires
-    mul-unpack-2
-    shared-slice-read-unpack-2
-    unpack-requires-2
-    widen-requires-2
+    mul-wide
+    shared-slice-read-wide
+    wide-requires
+    mul-wide-2
+    shared-slice-read-wide-2
+    wide-requires-2
     norm-sqr-requires
     mul-requires
     returns)

@@ -7,9 +7,6 @@ use Rattle.iq.proofs.correct.Tie as tie
 unpack-requires : tie.Need-unpack-requires
 unpack-requires c κs = search needs
 
-widen-requires : tie.Need-widen-requires
-widen-requires c κs = search needs
-
 conj-requires : tie.Need-conj-requires
 conj-requires c κs = search needs
 
@@ -19,11 +16,8 @@ mul-requires c κs = search needs
 sub-requires : tie.Need-sub-requires
 sub-requires c κs = search needs
 
-narrow-requires : tie.Need-narrow-requires
-narrow-requires c κs = search needs
-
-pack-requires : tie.Need-pack-requires
-pack-requires c κs = search needs
+rounded-requires : tie.Need-rounded-requires
+rounded-requires c κs = search needs
 
 returns : tie.Need-returns
 returns c = search (needs, corrected-by)
@@ -31,12 +25,4 @@ returns c = search (needs, corrected-by)
 pub correct-spec : {M : Type 1} → statement M
 correct-spec =
     tie.close
-    (tie.spec
-    unpack-requires
-    widen-requires
-    conj-requires
-    mul-requires
-    sub-requires
-    narrow-requires
-    pack-requires
-    returns)
+    (tie.spec unpack-requires conj-requires mul-requires sub-requires rounded-requires returns)

@@ -7,9 +7,6 @@ use Rattle.iq.proofs.uncorrect.Tie as tie
 unpack-requires : tie.Need-unpack-requires
 unpack-requires c κs = search needs
 
-widen-requires : tie.Need-widen-requires
-widen-requires c κs = search needs
-
 norm-sqr-requires : tie.Need-norm-sqr-requires
 norm-sqr-requires c κs = search needs
 
@@ -25,11 +22,8 @@ add-requires c κs = search needs
 unscale-requires : tie.Need-unscale-requires
 unscale-requires c κs = search needs
 
-narrow-requires : tie.Need-narrow-requires
-narrow-requires c κs = search needs
-
-pack-requires : tie.Need-pack-requires
-pack-requires c κs = search needs
+rounded-requires : tie.Need-rounded-requires
+rounded-requires c κs = search needs
 
 returns : tie.Need-returns
 returns c = search (needs, uncorrected-by)
@@ -39,12 +33,10 @@ uncorrect-spec =
     tie.close
     (tie.spec
     unpack-requires
-    widen-requires
     norm-sqr-requires
     conj-requires
     mul-requires
     add-requires
     unscale-requires
-    narrow-requires
-    pack-requires
+    rounded-requires
     returns)

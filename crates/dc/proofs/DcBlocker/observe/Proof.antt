@@ -3,7 +3,7 @@ use mathlib.Core.Path.{refl, sym, _∙_, subst}
 use Prim.Native.Nat.{_+_, _-_}
 use native.Mathlib.Omega.{arith}
 use lib.ListN.{length}
-use Rattle.dc.specs.declared.Taken.{Taken}
+use Rattle.dc.specs.declared.DcBlocker.{DcBlocker}
 use Rattle.dc.specs.Runs.{Observing, observing-next, after-end}
 use borrow.Author.Needs.{needs}
 use Rattle.dc.proofs.DcBlocker.observe.Statement.{statement}
@@ -18,14 +18,14 @@ abbrev μ-loop : tie.MeasureT-loop
 loop-holds : tie.Need-loop-holds Inv-loop μ-loop
 loop-holds c = record { place = search needs; count = search needs; after = refl }
 
-mul-process-sample : tie.Need-mul-process-sample Inv-loop μ-loop
-mul-process-sample c = search needs
+mul-observe-sample : tie.Need-mul-observe-sample Inv-loop μ-loop
+mul-observe-sample c = search needs
 
-shared-slice-read-process-sample : tie.Need-shared-slice-read-process-sample Inv-loop μ-loop
-shared-slice-read-process-sample c = search needs
+shared-slice-read-observe-sample : tie.Need-shared-slice-read-observe-sample Inv-loop μ-loop
+shared-slice-read-observe-sample c = search needs
 
-process-sample-requires : tie.Need-process-sample-requires Inv-loop μ-loop
-process-sample-requires c κs = omega (arith, c .before .before .loop .inv .count)
+observe-sample-requires : tie.Need-observe-sample-requires Inv-loop μ-loop
+observe-sample-requires c κs = omega (arith, c .before .before .loop .inv .count)
 
 add-k : tie.Need-add-k Inv-loop μ-loop
 add-k c = search needs
@@ -35,10 +35,10 @@ loop-less c = search needs
 
 loop-again : tie.Need-loop-again Inv-loop μ-loop
 loop-again c =
-    let l = c .before .before .before .before .loop in
-    let a = c .before .before .before .before .before .before .args in
-    subst (λ (t : Taken). Observing (a .self) (a .samples .now) (t .blocker) (l .k + 1)) (sym (c .before .process-sample .ensures))
-    (observing-next (a .self) (a .samples .now) (l .b) (l .k) (c .before .before .before .loop-test .taken) (l .inv))
+    let l = c .before .before .before .loop in
+    let a = c .before .before .before .before .before .args in
+    subst (λ (b : DcBlocker). Observing (a .self) (a .samples .now) b (l .k + 1)) (sym (c .observe-sample .ensures))
+    (observing-next (a .self) (a .samples .now) (l .b) (l .k) (c .before .before .loop-test .taken) (l .inv))
 
 returns : tie.Need-returns Inv-loop μ-loop
 returns c =
@@ -52,9 +52,9 @@ observe-spec =
     Inv-loop
     μ-loop
     loop-holds
-    mul-process-sample
-    shared-slice-read-process-sample
-    process-sample-requires
+    mul-observe-sample
+    shared-slice-read-observe-sample
+    observe-sample-requires
     add-k
     loop-less
     loop-again

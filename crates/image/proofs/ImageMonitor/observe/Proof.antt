@@ -5,9 +5,11 @@ use mathlib.Core.Bool.{true, false}
 use mathlib.Core.List.{List}
 use lib.Ieee.{Float}
 use lib.ListN.{length}
+use native.Mathlib.Omega.{arith}
 use lib.Dec.{ltb}
 use borrow.Author.Tests.{lt-ltb, le-ltb}
-use Rattle.rules.specs.Refusals.{badStart, anyBeyond}
+use Rattle.rules.specs.Refusals.{badStart, anyBeyond, firstBeyondFrom}
+use Rattle.part_limit.specs.LimitLaws.{first-place}
 use Rattle.image.specs.declared.HopAnswer.the-variants as answer
 use Rattle.image.specs.declared.ImageMonitor.{ImageMonitor}
 use Rattle.image.specs.declared.Observed.{Observed}
@@ -57,7 +59,13 @@ returns-5 c =
     with-said (a .self) (a .fs) (a .n) (a .x .now) (a .start) (a .words .now) (ap (λ (k : ℕ). record { monitor = a .self; answer = answer.Beyond k }) (place .ensures) ∙ ap (λ (v : Seen). v .seen) (sym e)) (ap (λ (v : Seen). v .words) (sym e))
 
 accept-requires : tie.Need-accept-requires
-accept-requires c κs = search needs
+accept-requires c κs =
+    let s = c .before .before .before .before .before .before .before .before .before .before in
+    let most = first-place (s .args .x .now) .most in
+    let place : firstBeyondFrom 0 (s .args .x .now) ≡ length (s .args .x .now) = omega (arith, c .before .before .first-beyond .ensures, c .before .if5 .left) in
+    let n = c .before .before .before .before .before .before .before .if1 .left in
+    let many = c .before .before .before .before .before .before .if2 .left in
+    (omega (arith, s .pre .0), (omega (arith, s .pre .1), (omega arith, (c .before .before .before .before .before .if3 .left, place))))
 
 same-length : tie.Need-same-length
 same-length c = search needs

@@ -37,7 +37,7 @@ entered-requires : tie.Need-entered-requires
 entered-requires c κs = search needs
 
 is-flagged-requires : tie.Need-is-flagged-requires
-is-flagged-requires c κs = let a = c .before .args in (keeps-received (a .self) (c .entered .result) (a .j) (c .entered .ensures) (search needs), search needs)
+is-flagged-requires c κs = let a = c .before .args in ((keeps-received (a .self) (c .entered .result) (a .j) (c .entered .ensures) (search needs), search needs), c .before .pre .1)
 
 grown-requires : tie.Need-grown-requires
 grown-requires c κs = let a = c .before .before .before .args in keeps-run (a .self) (c .before .before .entered .result) (a .j) (c .before .before .entered .ensures) (search needs)

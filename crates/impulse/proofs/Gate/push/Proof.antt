@@ -30,12 +30,16 @@ verdict-requires : tie.Need-verdict-requires
 verdict-requires c κs =
     let a = c .before .before .before .before .before .before .before .before .before .before .args in
     let g = c .before .before .before .arrived .ensures in
-    let n = ordered-length 33 (a .self .received) (getD (a .window .now) (a .self .received % 33) nan) (powerOf (a .x)) (a .sorted .now) (search needs) (search needs) in (
-      omega (arith, ap (λ (x : Gate). x .blocklen) g),
-      omega (arith, ap (λ (x : Gate). x .received) g),
-      omega (arith, ap (λ (x : Gate). x .flagged) g),
-      subst (λ (x : Gate). runEnd (x .run) ≤ 2 ^ 52) (sym g) (omega arith),
-      ap length (c .before .before .before .before .before .before .before .take-in .ensures .1) ∙ n,
+    let n = ordered-length 33 (a .self .received) (getD (a .window .now) (a .self .received % 33) nan) (powerOf (a .x)) (a .sorted .now) (search needs) (search needs) in
+    let t = c .before .before .before .before .before .before .before .take-in .ensures in (
+      (
+        omega (arith, ap (λ (x : Gate). x .blocklen) g),
+        omega (arith, ap (λ (x : Gate). x .received) g),
+        omega (arith, ap (λ (x : Gate). x .flagged) g),
+        subst (λ (x : Gate). runEnd (x .run) ≤ 2 ^ 52) (sym g) (omega arith),
+        ap length (t .1 .0) ∙ n,
+      ),
+      t .1 .1,
     )
 
 returns : tie.Need-returns
@@ -46,7 +50,7 @@ returns c =
     let r = c .before .before .before .before .before .before .released .ensures in
     let g = c .before .before .before .before .before .arrived .ensures in
     let v = c .before .verdict .ensures in
-    (simp (v .0, r, h .0, h .1, t .0, t .1, g), (t .0, (t .1, v .1 ∙ simp (h .1, t .0, t .1, g))))
+    (simp (v .0, r, h .0, h .1, t .0, t .1 .0, g), (t .0, (t .1 .0, v .1 ∙ simp (h .1, t .0, t .1 .0, g))))
 
 pub push-spec : {M : Type 1} → statement M
 push-spec =

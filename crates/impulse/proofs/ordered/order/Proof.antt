@@ -1,68 +1,61 @@
 -- `impulse::ordered::order` meets its contract. Assumes nothing.
-use mathlib.Core.Path.{ap, _∙_}
-use Prim.Native.Nat.{ℕ, _-_}
-use native.Mathlib.Omega.{arith}
-use lib.Ieee.{lt}
+use mathlib.Core.Path.{sym, _∙_, subst}
+use Prim.Native.Nat.{_-_}
+use lib.Dec.{T}
+use lib.Ieee.{ofBits}
 use borrow.Author.Tests.{lt-ltb, le-ltb}
 use borrow.Author.Needs.{needs}
 use Rattle.impulse.specs.Machine.{ordered}
-use Rattle.impulse.specs.Ordering.{rank, without, putIn}
-use Rattle.impulse.proofs.Places.{rank-take, growing, replacing}
+use Rattle.impulse.proofs.Blends.{rises}
 use Rattle.impulse.proofs.ordered.order.Statement.{statement}
 use Rattle.impulse.proofs.ordered.order.Tie as tie
 
-rank-requires : tie.Need-rank-requires
-rank-requires c κs = search needs
-
-put-requires : tie.Need-put-requires
-put-requires c κs = let a = c .before .before .before .before .args in (search needs, omega (arith, c .before .rank .ensures, rank-take lt (a .p) (a .i) (without (a .sorted .now) (a .i))), search needs)
+grow-requires : tie.Need-grow-requires
+grow-requires c κs = search needs
 
 returns : tie.Need-returns
 unfolding ordered
 returns c =
+    let a = c .before .before .before .args in
+    (rw (lt-ltb (a .i) 33 (c .before .before .if1 .taken)) (c .grow .ensures), λ e. absurd (subst T (sym e) tt))
+
+ascends-requires : tie.Need-ascends-requires
+ascends-requires c κs = search needs
+
+replace-requires : tie.Need-replace-requires
+replace-requires c κs =
     let a = c .before .before .before .before .before .args in
-    rw (lt-ltb (a .i) 33 (c .before .before .before .before .if1 .taken))
-    (c .put .ensures
-    ∙ ap (λ (k : ℕ). putIn (without (a .sorted .now) (a .i)) k (a .p)) (c .before .before .rank .ensures)
-    ∙ growing lt (a .sorted .now) (a .i) (a .p) (omega (arith, c .before .before .before .before .if1 .taken)))
+    let e = c .before .before .ascends .ensures in
+    (search needs, rises (a .sorted .now) (e .1) (sym (e .0) ∙ c .before .if2 .taken))
 
-sub-last : tie.Need-sub-last
-sub-last c = search needs
-
-rank-requires-2 : tie.Need-rank-requires-2
-rank-requires-2 c κs = search needs
-
-rank-requires-3 : tie.Need-rank-requires-3
-rank-requires-3 c κs = let a = c .before .before .before .before .args in (search needs, omega (arith, c .before .rank2 .ensures, rank-take lt (a .old) 32 (without (a .sorted .now) 32)), search needs)
-
-put-requires-2 : tie.Need-put-requires-2
-put-requires-2 c κs =
-    let a = c .before .before .before .before .before .before .args in
-    let g = c .before .before .before .rank2 in (
-      omega (arith, g .ensures, rank-take lt (a .old) 32 (without (a .sorted .now) 32)),
-      omega (arith, c .before .rank3 .ensures, rank-take lt (a .p) 32 (without (a .sorted .now) (g .result))),
-      search needs,
-    )
+at-most-requires : tie.Need-at-most-requires
+at-most-requires c κs = search needs
 
 returns-2 : tie.Need-returns-2
-unfolding ordered
+unfolding ordered ofBits
 returns-2 c =
     let a = c .before .before .before .before .before .before .before .args in
-    let g = c .before .before .before .before .rank2 in
-    rw (le-ltb (a .i) 33 (c .before .before .before .before .before .before .if1 .left))
-    (c .put2 .ensures
-    ∙ ap (λ (k : ℕ). putIn (without (a .sorted .now) (g .result)) k (a .p)) (c .before .before .rank3 .ensures)
-    ∙ replacing lt (a .sorted .now) 32 (g .result) (a .old) (a .p) (search needs) (g .ensures))
+    let r = c .before .replace .ensures in
+    (rw (le-ltb (a .i) 33 (c .before .before .before .before .before .before .if1 .left)) (r .0), λ e. r .1 (sym (c .at-most .ensures .0) ∙ e))
+
+exchange-requires : tie.Need-exchange-requires
+exchange-requires c κs = search needs
+
+returns-3 : tie.Need-returns-3
+unfolding ordered
+returns-3 c =
+    let a = c .before .before .before .before .before .before .args in
+    (rw (le-ltb (a .i) 33 (c .before .before .before .before .before .if1 .left)) (c .exchange .ensures), λ e. absurd (subst T (sym e) tt))
 
 pub order-spec : {M : Type 1} → statement M
 order-spec =
     tie.close
     (tie.spec
-    rank-requires
-    put-requires
+    grow-requires
     returns
-    sub-last
-    rank-requires-2
-    rank-requires-3
-    put-requires-2
-    returns-2)
+    ascends-requires
+    replace-requires
+    at-most-requires
+    returns-2
+    exchange-requires
+    returns-3)

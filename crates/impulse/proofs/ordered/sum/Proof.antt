@@ -1,6 +1,6 @@
 -- `impulse::ordered::sum` meets its contract: after k turns it is the sum of the first k powers. Assumes nothing.
 use mathlib.Core.Path.{_≡_, refl}
-use mathlib.Core.List.{List, [], _∷_, _++_, foldl}
+use mathlib.Core.List.{List, foldl}
 use Prim.Native.Nat.{ℕ, _+_, _-_, _≤_, _<_}
 use native.Mathlib.Omega.{arith}
 use native.Mathlib.Numerals.{add-one}
@@ -9,12 +9,9 @@ use lib.ListN.{length, getD, take}
 use lib.Seq.{take-suc}
 use borrow.Author.Needs.{needs}
 use Rattle.rules.specs.Constants.{zeroF}
+use Rattle.impulse.proofs.Quiet.{fold-snoc}
 use Rattle.impulse.proofs.ordered.sum.Statement.{statement}
 use Rattle.impulse.proofs.ordered.sum.Tie as tie
-
-fold-snoc : (z : Float) (l : List Float) (x : Float) → foldl (add binary64) z (l ++ (x ∷ [])) ≡ add binary64 (foldl (add binary64) z l) x
-fold-snoc z [] x = refl
-fold-snoc z (y ∷ l) x = fold-snoc (add binary64 z y) l x
 
 more : (l : List Float) (k : ℕ) (s : Float) → k < length l → s ≡ foldl (add binary64) zeroF (take k l) → add binary64 s (getD l k nan) ≡ foldl (add binary64) zeroF (take (k + 1) l)
 more l k s h e = rw (e, add-one, take-suc l k nan, fold-snoc)

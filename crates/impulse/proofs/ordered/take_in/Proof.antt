@@ -44,7 +44,7 @@ returns : tie.Need-returns
 returns c =
     let a = c .before .before .before .before .before .args in
     let w = power-is (a .x) (c .before .before .before .before .unpack .result) (c .before .before .before .norm-sqr .result) (c .before .before .before .before .unpack .ensures) (c .before .before .before .norm-sqr .ensures) in
-    (ap (set (a .window .now) (a .i % 33)) w, c .order .ensures ∙ ap (λ (p : Float). ordered 33 (a .i) (getD (a .window .now) (a .i % 33) nan) p (a .sorted .now)) w)
+    (ap (set (a .window .now) (a .i % 33)) w, (c .order .ensures .0 ∙ ap (λ (p : Float). ordered 33 (a .i) (getD (a .window .now) (a .i % 33) nan) p (a .sorted .now)) w, c .order .ensures .1))
 
 pub take-in-spec : {M : Type 1} → statement M
 take-in-spec =
