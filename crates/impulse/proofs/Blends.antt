@@ -2,12 +2,12 @@
 use mathlib.Core.Path.{_≡_, refl, sym, ap, _∙_, subst}
 use mathlib.Core.Bool.{Bool, true, false, cond, _&&_}
 use mathlib.Core.List.{List, [], _∷_, _++_}
-use Prim.Native.Nat.{ℕ, zero, suc, _≤_, _<_}
+use Prim.Native.Nat.{ℕ, zero, suc, _+_, _≤_, _<_}
 use native.Mathlib.Omega.{arith}
 use lib.Dec.{T}
 use lib.ListN.{length, getD, set, take}
 use lib.Seq.{take-all, take-suc, take-suc-set}
-use lib.Ieee.{Float, binary32, ofBits, fits, lt, le}
+use lib.Ieee.{Float, nan, binary32, ofBits, fits, lt, le}
 use Rattle.ieee.specs.Plain.{key}
 use Rattle.rules.specs.Constants.{zeroF}
 use Rattle.rules.specs.Sort.{insert, remove}
@@ -26,48 +26,59 @@ last true true = refl
 last true false = refl
 last false y = refl
 
-pub climbs-more : (z : Float) (l : List Float) (k : ℕ) (d : Float) → suc k < length l → climbs z (take (suc (suc k)) l) ≡ (climbs z (take (suc k) l) && le (getD l k d) (getD l (suc k) d))
-unfolding climbs
-climbs-more z [] k d h = absurd (omega arith)
-climbs-more z (a ∷ []) k d h = absurd (omega arith)
-climbs-more z (a ∷ b ∷ l) zero d h = last (le z a) (le a b)
-climbs-more z (a ∷ b ∷ l) (suc k) d h =
-    ap (λ (t : Bool). le z a && t) (climbs-more a (b ∷ l) k d (omega arith))
-    ∙ join (le z a) (climbs a (take (suc k) (b ∷ l))) (le (getD (b ∷ l) k d) (getD (b ∷ l) (suc k) d))
-
 unless : (x : Bool) → (x && true) ≡ x
 unless true = refl
 unless false = refl
 
-pub climbs-one : (z : Float) (l : List Float) (d : Float) → 0 < length l → climbs z (take 1 l) ≡ le z (getD l 0 d)
-unfolding climbs
-climbs-one z [] d h = absurd (omega arith)
-climbs-one z (a ∷ l) d h = unless (le z a)
+module _ (by : Float → Float → Bool) where
+  pub climbs-one : (z : Float) (l : List Float) (d : Float) → 0 < length l → climbs by z (take 1 l) ≡ by z (getD l 0 d)
+  unfolding climbs
+  climbs-one z [] d h = absurd (omega arith)
+  climbs-one z (a ∷ l) d h = unless (by z a)
+
+  pub climbs-more : (z : Float) (l : List Float) (k : ℕ) (d : Float) → suc k < length l → climbs by z (take (suc (suc k)) l) ≡ (climbs by z (take (suc k) l) && by (getD l k d) (getD l (suc k) d))
+  unfolding climbs
+  climbs-more z [] k d h = absurd (omega arith)
+  climbs-more z (a ∷ []) k d h = absurd (omega arith)
+  climbs-more z (a ∷ b ∷ l) zero d h = last (by z a) (by a b)
+  climbs-more z (a ∷ b ∷ l) (suc k) d h =
+      ap (λ (t : Bool). by z a && t) (climbs-more a (b ∷ l) k d (omega arith))
+      ∙ join (by z a) (climbs by a (take (suc k) (b ∷ l))) (by (getD (b ∷ l) k d) (getD (b ∷ l) (suc k) d))
 
 pub held-more : (l : List Float) (k : ℕ) (d : Float) → k < length l → All Held (take k l) → Held (getD l k d) → All Held (take (suc k) l)
 held-more l k d h g e = rw (take-suc l k d h) (all-append Held (take k l) (getD l k d ∷ []) g (e, tt))
 
-climbs-rises : (z : Float) (l : List Float) → NotNegative z → Held z → All Held l → climbs z l ≡ true → Rising (key binary32 z) l
+-- the test of the first k + 1, of the next, and so of both
+pub further : (by : Float → Float → Bool) (l : List Float) (k : ℕ) (so next : Bool) → suc k < length l → so ≡ climbs by zeroF (take (suc k) l) → All Held (take (suc k) l)
+    → next ≡ by (getD l k nan) (getD l (k + 1) nan) → Held (getD l (k + 1) nan)
+    → ((so && next) ≡ climbs by zeroF (take (suc (k + 1)) l)) × All Held (take (suc (k + 1)) l)
+further by l k so next h e a f g =
+    let one : k + 1 ≡ suc k = omega arith in
+    let w = rw one at f in
+    let v = rw one at g in
+    rw one (rw (e, w) (sym (climbs-more by zeroF l k nan h)), held-more l (suc k) nan h a v)
+
+climbs-rises : (z : Float) (l : List Float) → NotNegative z → Held z → All Held l → climbs le z l ≡ true → Rising (key binary32 z) l
 unfolding climbs
 climbs-rises z [] n h g c = tt
 climbs-rises z (a ∷ l) n h g c =
-    let b = both-true (le z a) (climbs a l) c in
+    let b = both-true (le z a) (climbs le a l) c in
     let u = at-most binary32 z a n h (g .0) (b .0) in
     (u .0, g .0, u .1, climbs-rises a l (u .0) (g .0) (g .1) (b .1))
 
-zero-held : Held zeroF
+pub zero-held : Held zeroF
 unfolding ofBits fits
 zero-held = tt
 
-zero-key : key binary32 zeroF ≡ 0
+pub zero-key : key binary32 zeroF ≡ 0
 unfolding ofBits
 zero-key = refl
 
-zero-not-negative : NotNegative zeroF
+pub zero-not-negative : NotNegative zeroF
 unfolding ofBits
 zero-not-negative = tt
 
-pub rises : (l : List Float) → All Held l → climbs zeroF l ≡ true → Rising 0 l
+pub rises : (l : List Float) → All Held l → climbs le zeroF l ≡ true → Rising 0 l
 rises l g c = subst (λ (n : ℕ). Rising n l) zero-key (climbs-rises zeroF l zero-not-negative zero-held g c)
 
 -- a power that is at least 0

@@ -26,7 +26,7 @@ abs-plain f (inf s) n h = (tt, tt)
 abs-plain f (fin s zero e) n h = (tt, h)
 abs-plain f (fin s (suc m) e) n h = (tt, h)
 
-abs-key : (f : Format) (a : Float) → key f (abs a) ≡ key f a
+pub abs-key : (f : Format) (a : Float) → key f (abs a) ≡ key f a
 abs-key f nan = refl
 abs-key f (inf s) = refl
 abs-key f (fin s m e) = refl
@@ -90,7 +90,7 @@ pub both-true : (a b : Bool) → (a && b) ≡ true → (a ≡ true) × (b ≡ tr
 both-true true b h = (refl, h)
 both-true false b h = absurd (subst T (sym h) tt)
 
-no-size : (f : Format) (b : Float) → NotNegative b → signClear b ≡ false → key f b ≡ 0
+pub no-size : (f : Format) (b : Float) → NotNegative b → signClear b ≡ false → key f b ≡ 0
 no-size f nan n c = absurd n
 no-size f (inf true) n c = absurd n
 no-size f (inf false) n c = absurd (subst T c tt)
@@ -135,7 +135,7 @@ module _ (f : Format) (a : Float) (n : NotNegative a) (h : T (fits f a)) where
 
 -- ---- a test
 
-equal-abs : (a b : Float) → NotNegative a → eq a b ≡ true → NotNegative b × (eq (abs a) (abs b) ≡ true)
+pub equal-abs : (a b : Float) → NotNegative a → eq a b ≡ true → NotNegative b × (eq (abs a) (abs b) ≡ true)
 unfolding eq
 equal-abs nan b n h = absurd n
 equal-abs (inf true) b n h = absurd n

@@ -4,15 +4,15 @@ use mathlib.Core.Bool.{Bool, true, false, cond, not, _&&_}
 use mathlib.Core.List.{List, [], _∷_}
 use Prim.Native.Nat.{ℕ, _≤_}
 use lib.Dec.{T}
-use lib.Ieee.{Float, nan, inf, fin, binary32, binary64, fits, lt, le, ofBits}
+use lib.Ieee.{Float, nan, inf, fin, binary32, binary64, fits, lt, ofBits}
 use Rattle.ieee.specs.Plain.{key}
 
 -- ---- the test
 
--- a is at most the first, and each at most the next
-unfoldable pub climbs : Float → List Float → Bool
-climbs a [] = true
-climbs a (b ∷ l) = le a b && climbs b l
+-- a and the first pass a test, and so do each and the next
+unfoldable pub climbs : (Float → Float → Bool) → Float → List Float → Bool
+climbs by a [] = true
+climbs by a (b ∷ l) = by a b && climbs by b l
 
 -- ---- what it says
 

@@ -113,7 +113,7 @@ fn at_most(a: f32, b: f32) -> bool
 // Whether they do. None is a NaN then.
 fn ascends(sorted: &[f32; ImpulseSuppressor::WINDOW]) -> bool
     requires { ⌜ length (now sorted) ≡ 33 ⌝ }
-    ensures result { λ r. ⌜ r ≡ climbs zeroF (now (sorted .entry)) ⌝ }
+    ensures result { λ r. ⌜ r ≡ climbs le zeroF (now (sorted .entry)) ⌝ }
     ensures values { λ r. ⌜ All Held (now (sorted .entry)) ⌝ }
 {
     let mut rising = at_most(0.0, sorted[0]);

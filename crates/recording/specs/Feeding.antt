@@ -1,10 +1,9 @@
 -- A recording's start and its blocks: what each answers, and what it makes of the state and of every lent word. Definitions only.
-use mathlib.Core.Bool.{cond}
 use mathlib.Core.List.{List, [], _∷_, _++_}
 use Prim.Native.Nat.{ℕ, zero, suc, _+_, _-_, _/_, min}
 use lib.ListN.{length, take, drop}
 use Rattle.rules.specs.Constants.{zeroF}
-use Rattle.rules.specs.Guard.{guarded, unusable}
+use Rattle.rules.specs.Guard.{guarded}
 use Rattle.iq.specs.declared.StageMode.the-variants as mode
 use Rattle.iq.specs.declared.Calibration.the-variants.{Absent}
 use Rattle.config.specs.declared.ConditioningConfig.{ConditioningConfig}

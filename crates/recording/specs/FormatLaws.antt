@@ -1,12 +1,12 @@
 -- A word by its eight bytes, and the words of a list of bytes. Assumes nothing.
 use mathlib.Core.Path.{_≡_, refl, ap, sym, _∙_}
-use mathlib.Core.List.{List, [], _∷_, _++_, append-nil}
-use Prim.Native.Nat.{ℕ, zero, suc, _+_, _*_, _/_, _≤_, _<_}
+use mathlib.Core.List.{List, _++_, append-nil}
+use Prim.Native.Nat.{ℕ, suc, _+_, _*_, _/_, _≤_, _<_}
 use native.Mathlib.Numerals.{add-one}
 use native.Mathlib.Omega.{arith}
 use lib.ListN.{length, take, drop, set, length-set}
 use lib.Seq.{drop-cons, drop-length, paste, paste-zero, paste-suc}
-use Rattle.rules.specs.Lists.{at, upTo}
+use Rattle.rules.specs.Lists.{at}
 use Rattle.rules.specs.ListLaws.{length-upTo, getD-upTo}
 use Rattle.recording.specs.Format.{littleEndian, wordAt, wordsIn}
 

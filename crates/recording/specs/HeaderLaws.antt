@@ -3,11 +3,10 @@ use mathlib.Core.Path.{_≡_, refl, ap, sym, _∙_}
 use mathlib.Core.Bool.{Bool, true, false, cond, _&&_}
 use mathlib.Core.List.{List}
 use Prim.Native.Nat.{ℕ, zero, suc}
-use native.Mathlib.Omega.{arith}
 use lib.Dec.{leb}
 use lib.ListN.{length}
 use Rattle.rules.specs.Iq as rules
-use Rattle.rules.specs.Iq.{Mode, apply, Calibrated, with}
+use Rattle.rules.specs.Iq.{apply, with}
 use Rattle.rules.specs.Chain.{Config}
 use Rattle.iq.specs.declared.StageMode.{StageMode}
 use Rattle.iq.specs.declared.StageMode.the-variants as mode

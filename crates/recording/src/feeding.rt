@@ -3,7 +3,7 @@
 ghost use mathlib.Core.Path.{_≡_};
 ghost use mathlib.Core.List.{_++_};
 ghost use Prim.Native.Nat.{_*_, _≤_, min};
-ghost use lib.ListN.{length, take, drop};
+ghost use lib.ListN.{length, take};
 ghost use Rattle.rules.specs.Constants.{zeroF};
 ghost use Rattle.rules.specs.Guard.{guarded, unusable};
 ghost use Rattle.condition.specs.Making.{freshState, saidMaking, madeWords};

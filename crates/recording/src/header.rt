@@ -3,10 +3,9 @@
 ghost use mathlib.Core.Path.{_≡_};
 ghost use Prim.Native.Nat.{_<_, _≤_};
 ghost use lib.ListN.{length};
-ghost use Rattle.rules.specs.Lists.{at};
 ghost use Rattle.iq.specs.View.{modeOf, calibratedOf};
 ghost use Rattle.config.specs.Config.{configOf};
-ghost use Rattle.recording.specs.Format.{markFits, modesFit, headerFits, modeBy, realAt, calibrationIn, configIn};
+ghost use Rattle.recording.specs.Format.{markFits, modesFit, modeBy, realAt, calibrationIn, configIn};
 ghost use Rattle.recording.specs.Header.{saidHeader, headerSaid};
 use crate::HeaderRead;
 use crate::words;

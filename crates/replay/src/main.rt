@@ -129,7 +129,7 @@ fn play(
 
 // ---- the answer
 
-fn report(played: Played, spans: &[u64], text: &mut [u8]) -> usize
+fn write_played(played: Played, spans: &[u64], text: &mut [u8]) -> usize
     ensures { λ r. ⌜ r ≤ length (now (text .entry)) ⌝ }
 {
     if played.number != 0 {
@@ -168,7 +168,7 @@ fn answer(
         size,
     };
     let played = play(first, bytes, samples, spans, repairs);
-    report(played, spans, text)
+    write_played(played, spans, text)
 }
 
 fn print(text: &[u8], size: usize)

@@ -1,5 +1,6 @@
 -- definitions
 pub mod Fits
+pub mod Occurs
 pub mod Causes
 -- laws
 pub mod Blocks

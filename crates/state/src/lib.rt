@@ -1,17 +1,21 @@
 // The chain's state, and number 5's tests of it, a function for each group of causes.
 
 ghost use mathlib.Core.Path.{_≡_};
-ghost use mathlib.Core.Bool.{_&&_};
+ghost use mathlib.Core.Bool.{true, _&&_};
 ghost use mathlib.Core.List.{_++_};
 ghost use Prim.Native.Nat.{_-_, _≤_, min};
 ghost use lib.Dec.{eqb};
 ghost use lib.ListN.{length, getD, take, drop};
-ghost use lib.Ieee.{binary64, toBits};
+ghost use lib.Ieee.{binary64, lt, eq, toBits};
 ghost use Rattle.rules.specs.Constants.{zeroF};
+ghost use Rattle.rules.specs.Sort.{sort};
+ghost use Rattle.rules.specs.SortLaws.{All};
 ghost use Rattle.rules.specs.Refusals.{withinLimit};
 ghost use Rattle.part_limit.specs.Limit.{limited};
 ghost use Rattle.log.specs.Check.{allTo};
+ghost use Rattle.impulse.specs.Rising.{climbs, Held};
 ghost use Rattle.iq.specs.View.{settledOf};
+ghost use Rattle.state.specs.Occurs.{occurs};
 ghost use Rattle.state.specs.Fits.{counter, settingsFit, applies, heldBy, countsFit, endsAt, runFits, leftFits, gateFits, powerFits, sortedFits, suppressorFits, blockerFits, coefficientFits, begunFits, monitorFits, logsFit, stagesFit, frontFits, impulseFits, stateFits};
 use dc::DcBlocker;
 use image::Begun;
@@ -220,7 +224,8 @@ fn same_powers(sorted: &[f32; 33], wide: &[f64; 33]) -> bool
     true
 }
 
-fn sorted_fits(n: usize, window: &[f32; 33], sorted: &[f32; 33]) -> bool
+// By sorting the window.
+fn sorts_to(n: usize, window: &[f32; 33], sorted: &[f32; 33]) -> bool
     requires { ⌜ n ≤ 33 ⌝ ∗ ⌜ length (now window) ≡ 33 ⌝ ∗ ⌜ length (now sorted) ≡ 33 ⌝ }
     ensures { λ r. ⌜ r ≡ sortedFits n (now (window .entry)) (now (sorted .entry)) ⌝ }
 {
@@ -228,6 +233,90 @@ fn sorted_fits(n: usize, window: &[f32; 33], sorted: &[f32; 33]) -> bool
     copy_powers(window, n, &mut wide);
     image::sort_words(&mut wide[..n]);
     same_powers(sorted, &wide)
+}
+
+// ---- a full window, without sorting it
+
+fn below(a: f32, b: f32) -> bool
+    ensures result { λ r. ⌜ r ≡ lt a b ⌝ }
+    ensures values { λ r. ⌜ Held a × Held b ⌝ }
+{
+    a < b
+}
+
+fn equal(a: f32, b: f32) -> bool
+    ensures result { λ r. ⌜ r ≡ eq a b ⌝ }
+    ensures values { λ r. ⌜ Held a × Held b ⌝ }
+{
+    a == b
+}
+
+// Whether the powers are above 0, and each above the one before.
+fn ascends(sorted: &[f32; 33]) -> bool
+    requires { ⌜ length (now sorted) ≡ 33 ⌝ }
+    ensures result { λ r. ⌜ r ≡ climbs lt zeroF (now (sorted .entry)) ⌝ }
+    ensures values { λ r. ⌜ All Held (now (sorted .entry)) ⌝ }
+{
+    let mut rising = below(0.0, sorted[0]);
+    let mut k: usize = 0;
+    while k < 32 {
+        rising = rising & below(sorted[k], sorted[k + 1]);
+        k += 1;
+    }
+    rising
+}
+
+fn occurs(window: &[f32; 33], x: f32) -> bool
+    requires { ⌜ length (now window) ≡ 33 ⌝ }
+    ensures result { λ r. ⌜ r ≡ occurs x (now (window .entry)) ⌝ }
+    ensures values { λ r. ⌜ All Held (now (window .entry)) ⌝ }
+{
+    let mut found = false;
+    let mut k: usize = 0;
+    while k < 33 {
+        found = found | equal(x, window[k]);
+        k += 1;
+    }
+    found
+}
+
+// Whether each power of the sorted list occurs in the window.
+fn all_occur(window: &[f32; 33], sorted: &[f32; 33]) -> bool
+    requires { ⌜ length (now window) ≡ 33 ⌝ ∗ ⌜ length (now sorted) ≡ 33 ⌝ }
+    ensures result { λ r. ⌜ r ≡ allTo (λ k. occurs (getD (now (sorted .entry)) k zeroF) (now (window .entry))) 33 ⌝ }
+    ensures values { λ r. ⌜ All Held (now (window .entry)) ⌝ }
+{
+    for k in 0..33 {
+        if !occurs(window, sorted[k]) {
+            return false;
+        }
+    }
+    true
+}
+
+// Whether it is known without sorting that the sorted list is the window sorted: as many different
+// powers, in order, each of which occurs there.
+fn is_arranged(window: &[f32; 33], sorted: &[f32; 33]) -> bool
+    requires { ⌜ length (now window) ≡ 33 ⌝ ∗ ⌜ length (now sorted) ≡ 33 ⌝ }
+    ensures { λ r. ⌜ (r ≡ true → sort lt (now (window .entry)) ≡ now (sorted .entry)) ⌝ }
+{
+    if !ascends(sorted) {
+        return false;
+    }
+    all_occur(window, sorted)
+}
+
+fn sorted_fits(n: usize, window: &[f32; 33], sorted: &[f32; 33]) -> bool
+    requires { ⌜ n ≤ 33 ⌝ ∗ ⌜ length (now window) ≡ 33 ⌝ ∗ ⌜ length (now sorted) ≡ 33 ⌝ }
+    ensures { λ r. ⌜ r ≡ sortedFits n (now (window .entry)) (now (sorted .entry)) ⌝ }
+{
+    if n != 33 {
+        return sorts_to(n, window, sorted);
+    }
+    if is_arranged(window, sorted) {
+        return true;
+    }
+    sorts_to(n, window, sorted)
 }
 
 // How many samples the window holds, of so many seen.

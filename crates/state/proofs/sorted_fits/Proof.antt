@@ -1,87 +1,59 @@
--- `state::sorted_fits` is `sortedFits`: the powers are copied over zeros and sorted there. Assumes nothing.
+-- `state::sorted_fits` is `sortedFits`: where the sorted list is the window sorted, every power has the same bits. Assumes nothing.
 use mathlib.Core.Path.{_≡_, sym, ap, _∙_}
-use mathlib.Core.List.{List, _++_}
-use Prim.Native.Nat.{ℕ, _≤_}
+use mathlib.Core.Bool.{true}
+use mathlib.Core.List.{List, append-nil}
+use Prim.Native.Nat.{ℕ, _-_}
 use native.Mathlib.Omega.{arith}
 use lib.Dec.{eqb}
-use lib.ListN.{length, getD, take, drop, replicate}
-use lib.Seq.{length-take-le}
-use lib.Ieee.{Float, binary64, toBits, lt}
+use lib.ListN.{length, getD, take}
+use lib.Seq.{take-all}
+use lib.Ieee.{Float, binary64, lt, toBits}
+use borrow.Author.Tests.{eq-eqb}
+use borrow.Author.Needs.{needs}
 use Rattle.rules.specs.Constants.{zeroF}
 use Rattle.rules.specs.Sort.{sort}
-use Rattle.log.specs.Check.{allTo}
+use Rattle.log.specs.CheckLaws.{all-of}
 use Rattle.impulse.specs.State.{padded}
 use Rattle.state.specs.Fits.{sortedFits}
-use Rattle.state.proofs.Powers.{copied-length, sorted-over, padded-length}
-use borrow.Author.Needs.{needs}
 use Rattle.state.proofs.sorted_fits.Statement.{statement}
 use Rattle.state.proofs.sorted_fits.Tie as tie
 
-copy-powers-requires : tie.Need-copy-powers-requires
-copy-powers-requires c κs = search needs
+arranged : (n : ℕ) (w s : List Float) → n ≡ 33 → length w ≡ 33 → length s ≡ 33 → sort lt w ≡ s → true ≡ sortedFits n w s
+unfolding sortedFits
+arranged n w s e h g a =
+    let full : take n w ≡ w = take-all n w (omega arith) in
+    let none : 33 - length s ≡ 0 = omega arith in
+    let same : padded 33 (sort lt (take n w)) ≡ s = rw (full, a, none) (append-nil s) in
+    sym (all-of (λ k. eqb (toBits binary64 (getD s k zeroF)) (toBits binary64 (getD (padded 33 (sort lt (take n w))) k zeroF))) 33
+    (λ k h. eq-eqb (toBits binary64 (getD s k zeroF)) (toBits binary64 (getD (padded 33 (sort lt (take n w))) k zeroF)) (ap (λ (l : List Float). toBits binary64 (getD l k zeroF)) (sym same))))
 
--- the words with the powers copied
-module _ (c : tie.After-copy-powers) where
-  abbrev n : ℕ
-  n = c .before .before .args .n
-
-  abbrev xs : List Float
-  xs = c .before .before .args .window .now
-
-  abbrev ws : List Float
-  ws = c .copy-powers .last .1 .1 .0
-
-  few : n ≤ 33
-  few = c .before .before .pre .0
-
-  whole : length xs ≡ 33
-  whole = c .before .before .pre .1 .0
-
-  copied : ws ≡ take n xs ++ drop n (replicate 33 zeroF)
-  copied = c .copy-powers .ensures
-
-  long : length ws ≡ 33
-  long = copied-length n xs ws few whole copied
-
-array-borrow-prefix-wide : tie.Need-array-borrow-prefix-wide
-array-borrow-prefix-wide c = let h : n c ≤ length (ws c) = omega (arith, few c, long c) in h
-
-slice-aggregate-sort-words : tie.Need-slice-aggregate-sort-words
-slice-aggregate-sort-words c =
-    let b = c .before in
-    let h : n b ≤ length (ws b) = omega (arith, few b, long b) in
-    sym (length-take-le (n b) (ws b) h)
-
-sort-words-requires : tie.Need-sort-words-requires
-sort-words-requires c κs = search needs
-
--- and sorted
-over : (c : tie.After-sort-words) → let b = c .before .before in c .sort-words .last .0 ++ drop (n b) (ws b) ≡ padded 33 (sort lt (take (n b) (xs b)))
-over c =
-    let b = c .before .before in
-    sorted-over (n b) (xs b) (ws b) (few b) (whole b) (copied b) (c .sort-words .last .0) (c .sort-words .ensures)
-
-same-powers-requires : tie.Need-same-powers-requires
-same-powers-requires c κs =
-    let s = c .before .before in
-    let b = s .before .before in
-    (b .before .before .pre .1 .1, ap length (over s) ∙ padded-length (n b) (xs b) (ws b) (few b) (whole b) (copied b))
+sorts-to-requires : tie.Need-sorts-to-requires
+sorts-to-requires c κs = search needs
 
 returns : tie.Need-returns
-unfolding sortedFits
-returns c =
-    let s = c .before .before .before in
-    let a = s .before .before .before .before .args in
-    c .same-powers .ensures
-    ∙ ap (λ (l : List Float). allTo (λ k. eqb (toBits binary64 (getD (a .sorted .now) k zeroF)) (toBits binary64 (getD l k zeroF))) 33) (over s)
+returns c = search needs
+
+is-arranged-requires : tie.Need-is-arranged-requires
+is-arranged-requires c κs = search needs
+
+returns-2 : tie.Need-returns-2
+returns-2 c =
+    let st = c .before .before .before in
+    arranged (st .args .n) (st .args .window .now) (st .args .sorted .now) (omega arith) (st .pre .1 .0) (st .pre .1 .1) (c .before .is-arranged .ensures (c .if2 .taken))
+
+sorts-to-requires-2 : tie.Need-sorts-to-requires-2
+sorts-to-requires-2 c κs = search needs
+
+returns-3 : tie.Need-returns-3
+returns-3 c = search needs
 
 pub sorted-fits-spec : {M : Type 1} → statement M
 sorted-fits-spec =
     tie.close
     (tie.spec
-    copy-powers-requires
-    array-borrow-prefix-wide
-    slice-aggregate-sort-words
-    sort-words-requires
-    same-powers-requires
-    returns)
+    sorts-to-requires
+    returns
+    is-arranged-requires
+    returns-2
+    sorts-to-requires-2
+    returns-3)

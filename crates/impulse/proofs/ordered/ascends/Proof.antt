@@ -1,33 +1,21 @@
 -- `impulse::ordered::ascends` meets its contract: the powers passed ascend. Assumes nothing.
 use mathlib.Core.Path.{_≡_, sym, _∙_}
-use mathlib.Core.Bool.{Bool, _&&_}
-use mathlib.Core.List.{List}
-use Prim.Native.Nat.{ℕ, suc, _+_, _-_, _≤_, _<_}
+use Prim.Native.Nat.{suc, _-_, _≤_}
 use native.Mathlib.Omega.{arith}
-use lib.Ieee.{Float, nan, le, ofBits}
-use lib.ListN.{length, getD, take}
+use lib.Ieee.{nan, le, ofBits}
+use lib.ListN.{take}
 use lib.Seq.{take-all}
 use borrow.Author.Needs.{needs}
 use Rattle.rules.specs.Constants.{zeroF}
 use Rattle.rules.specs.SortLaws.{All}
 use Rattle.impulse.specs.Rising.{climbs, Held}
-use Rattle.impulse.proofs.Blends.{climbs-one, climbs-more, held-more}
+use Rattle.impulse.proofs.Blends.{climbs-one, held-more, further}
 use Rattle.impulse.proofs.ordered.ascends.Statement.{statement}
 use Rattle.impulse.proofs.ordered.ascends.Tie as tie
 
--- the next one
-further : (l : List Float) (k : ℕ) (so next : Bool) → suc k < length l → so ≡ climbs zeroF (take (suc k) l) → All Held (take (suc k) l)
-    → next ≡ le (getD l k nan) (getD l (k + 1) nan) → Held (getD l (k + 1) nan)
-    → ((so && next) ≡ climbs zeroF (take (suc (k + 1)) l)) × All Held (take (suc (k + 1)) l)
-further l k so next h e a f g =
-    let one : k + 1 ≡ suc k = omega arith in
-    let w = rw one at f in
-    let v = rw one at g in
-    rw one (rw (e, w) (sym (climbs-more zeroF l k nan h)), held-more l (suc k) nan h a v)
-
 abbrev Inv-loop : tie.InvT-loop
 Inv-loop sorted rising₀ k₀ rising k =
-    (k ≤ 32) × (rising ≡ climbs zeroF (take (suc k) sorted)) × All Held (take (suc k) sorted)
+    (k ≤ 32) × (rising ≡ climbs le zeroF (take (suc k) sorted)) × All Held (take (suc k) sorted)
 
 abbrev μ-loop : tie.MeasureT-loop
 μ-loop sorted rising₀ k₀ rising k = 32 - k
@@ -43,7 +31,7 @@ unfolding ofBits
 loop-holds c =
     let l = c .before .before .args .sorted .now in
     let e = c .at-most .ensures in
-    (omega arith, e .0 ∙ sym (climbs-one zeroF l nan (omega arith)), held-more l 0 nan (omega arith) tt (e .1 .1))
+    (omega arith, e .0 ∙ sym (climbs-one le zeroF l nan (omega arith)), held-more l 0 nan (omega arith) tt (e .1 .1))
 
 sub-loop : tie.Need-sub-loop Inv-loop μ-loop
 sub-loop c = omega arith
@@ -77,7 +65,7 @@ loop-again c =
     let l = c .before .before .before .before .before .before .before .args .sorted .now in
     let i = c .before .before .before .before .loop in
     let e = c .at-most2 .ensures in
-    let f = further l (i .k) (i .rising) (c .at-most2 .result) (omega arith) (i .inv .1) (i .inv .2) (e .0) (e .1 .1) in
+    let f = further le l (i .k) (i .rising) (c .at-most2 .result) (omega arith) (i .inv .1) (i .inv .2) (e .0) (e .1 .1) in
     (omega arith, f .0, f .1)
 
 returns : tie.Need-returns Inv-loop μ-loop

@@ -1,5 +1,5 @@
 -- `recording::words::read_words`: the words before place k are read, the others as they were. Assumes nothing.
-use Prim.Native.Nat.{_+_, _-_}
+use Prim.Native.Nat.{_-_}
 use native.Mathlib.Omega.{arith}
 use borrow.Author.Needs.{needs}
 use lib.ListN.{length}
