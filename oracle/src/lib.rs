@@ -3,7 +3,10 @@
 //! shares no code with it. The tests hold the two together.
 
 pub mod condition;
+pub mod draw;
 pub mod num_complex;
 pub mod random;
 pub mod rules;
 pub mod sample_guard;
+pub mod sides;
+pub mod trace;

@@ -30,9 +30,10 @@ pub const DC_UPDATE_CLAMP: f64 = 1.0;
 /// The DC blocker's state.
 #[derive(Debug, Clone)]
 pub struct DcBlocker {
-    a: f64,
-    n: u64,
-    dc: Complex64,
+    // CHANGED: public, so that a test can read them.
+    pub a: f64,
+    pub n: u64,
+    pub dc: Complex64,
 }
 
 impl DcBlocker {

@@ -76,35 +76,37 @@ pub struct Repair {
 }
 
 /// An open flagged run.
+// CHANGED: public with its fields, so that a test can read them.
 #[derive(Debug, Clone, Copy)]
-struct Run {
-    start: u64,
-    len: u64,
+pub struct Run {
+    pub start: u64,
+    pub len: u64,
     /// A sample of the run lies in a paused block, so it is never
     /// repaired.
-    paused: bool,
+    pub paused: bool,
 }
 
 /// The suppressor's state.
+// CHANGED: its fields public, so that a test can read them.
 #[derive(Debug, Clone)]
 pub struct ImpulseSuppressor {
-    apply: bool,
-    block_len: u64,
+    pub apply: bool,
+    pub block_len: u64,
     /// Received samples not yet released, oldest first; `pending[0]` has
     /// index `next_out`.
-    pending: VecDeque<Complex32>,
-    next_out: u64,
-    received: u64,
+    pub pending: VecDeque<Complex32>,
+    pub next_out: u64,
+    pub received: u64,
     /// The newest `IMPULSE_WINDOW` (or fewer) raw powers, oldest first, and
     /// the same values sorted.
-    window: VecDeque<f32>,
-    sorted: Vec<f32>,
-    run: Option<Run>,
+    pub window: VecDeque<f32>,
+    pub sorted: Vec<f32>,
+    pub run: Option<Run>,
     /// The newest unflagged judged sample (never written by this stage).
-    left: Option<Complex32>,
-    block: u64,
-    block_flagged: u64,
-    paused: bool,
+    pub left: Option<Complex32>,
+    pub block: u64,
+    pub block_flagged: u64,
+    pub paused: bool,
 }
 
 impl ImpulseSuppressor {

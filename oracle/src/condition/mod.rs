@@ -180,9 +180,18 @@ pub struct ConditioningLog {
     repairs_dropped: u64,
     iq_status: IqStatus,
     image_result: Option<iq::ImageResult>,
-    // CHANGED: no tone result; the two capacities, constants in the original.
+    // CHANGED: no tone result; the two capacities, constants in the original; the marks and repairs
+    // as they were told, if a listener asked for them.
     span_capacity: usize,
     repair_capacity: usize,
+    told: Option<Told>,
+}
+
+// CHANGED: what a log was told, in order, so that a listener can lay out ring words.
+#[derive(Debug, Clone, PartialEq, Default)]
+pub struct Told {
+    pub marks: Vec<MarkedSpan>,
+    pub repairs: Vec<impulse::Repair>,
 }
 
 impl ConditioningLog {
@@ -200,9 +209,10 @@ impl ConditioningLog {
             repairs_dropped: 0,
             iq_status: IqStatus::Off,
             image_result: None,
-            // CHANGED: no tone result; the two capacities.
+            // CHANGED: no tone result; the two capacities; no listener.
             span_capacity,
             repair_capacity,
+            told: None,
         }
     }
 
@@ -270,6 +280,10 @@ impl ConditioningLog {
     }
 
     fn record_repair(&mut self, r: impulse::Repair) {
+        // CHANGED: a listener hears of it.
+        if let Some(told) = &mut self.told {
+            told.repairs.push(r);
+        }
         // CHANGED: the capacity given at construction, for the constant 4096.
         if self.repairs.len() == self.repair_capacity {
             self.repairs.pop_front();
@@ -284,6 +298,15 @@ impl ConditioningLog {
     fn mark(&mut self, stage: Stage, mark: Mark, start_sample: u64, len: u64) {
         if len == 0 {
             return;
+        }
+        // CHANGED: a listener hears of it.
+        if let Some(told) = &mut self.told {
+            told.marks.push(MarkedSpan {
+                stage,
+                mark,
+                start_sample,
+                len,
+            });
         }
         self.counts[stage as usize][mark as usize] += len;
         let ring = &mut self.spans[stage as usize][mark as usize];
@@ -311,9 +334,10 @@ impl ConditioningLog {
 /// [`InputConditioner::new`], which returns `None` when every stage is off.
 #[derive(Debug, Clone)]
 pub struct InputConditioner {
-    impulse: Option<impulse::ImpulseSuppressor>,
+    // CHANGED: `impulse` and `dc` public, so that a test can read them.
+    pub impulse: Option<impulse::ImpulseSuppressor>,
     impulse_apply: bool,
-    dc: Option<dc::DcBlocker>,
+    pub dc: Option<dc::DcBlocker>,
     dc_apply: bool,
     // CHANGED: `iq` and `image` public, so that a test can read them; no tone meter.
     pub iq: Option<iq::IqCorrector>,
@@ -497,5 +521,11 @@ impl InputConditioner {
     /// What the chain did so far.
     pub fn log(&self) -> &ConditioningLog {
         &self.log
+    }
+
+    // CHANGED: what the log was told since the last time that this was asked; the first time nothing,
+    // and from then on it listens.
+    pub fn take_told(&mut self) -> Told {
+        self.log.told.replace(Told::default()).unwrap_or_default()
     }
 }

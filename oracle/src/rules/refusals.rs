@@ -1,11 +1,15 @@
-//! **When the conditioner declines**: the numbers that plain input decides. Number 5 speaks of a
-//! state and of lent words, and 4 of lent lengths beyond those given here; they are not read.
+//! **When the conditioner declines**: the numbers that plain input and lent words decide. What number
+//! 5 says of a state is not read, nor 4 of lent lengths beyond those given here.
 
 use super::iq::{self, Coefficient};
+use super::log::{Ring, SpanRing};
 use super::{guard, Calibration, Mode, Sample, Setting};
 
 /// 2^48: the greatest total, and the greatest hop start.
 pub const TOTAL: u64 = 1 << 48;
+
+/// 2^52: "a counter > 2^52" is number 5.
+pub const COUNTER: u64 = 1 << 52;
 
 /// A number, and with number 7 the "first place in the slice".
 #[derive(Debug, Clone, Copy, PartialEq, Eq)]
@@ -73,6 +77,31 @@ pub fn making(s: &Setting, repairs: usize, spans: usize, monitor: usize) -> Answ
         return Answer::Accepted;
     };
     Answer::Refused(plain(number))
+}
+
+/// Number 5's rule on the words of a span ring: not "newest span's sum > 2^49".
+pub fn newest_fits(ring: &SpanRing) -> bool {
+    ring.ring.held == 0 || {
+        let newest = ring.ring.record(ring.ring.held - 1);
+        newest[0]
+            .checked_add(newest[1])
+            .is_some_and(|sum| sum <= 1 << 49)
+    }
+}
+
+/// Number 5's rules on the monitor's words: not "a monitor word not within 1e60", nor "a [..] channel
+/// power with its sign bit set".
+pub fn monitor_fits(n: usize, words: &[f64]) -> bool {
+    words.iter().all(|w| w.abs() <= 1e60) && words[..n].iter().all(|w| w.is_sign_positive())
+}
+
+/// Number 5's rule on the words of the repair ring: not "in repair undo a held record's length not
+/// 1..4 or start > 2^48".
+pub fn records_fit(repairs: &Ring) -> bool {
+    (0..repairs.held).all(|i| {
+        let record = repairs.record(i);
+        (1..=4).contains(&record[1]) && record[0] <= TOTAL
+    })
 }
 
 /// A call's "6, 8, 7", for a slice given after `seen` samples of which `held` are held.

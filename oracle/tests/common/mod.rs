@@ -1,139 +1,23 @@
-//! What the tests share: a small generator of numbers, the original run beside the second
-//! reading, and the comparison of the two, bit for bit.
+//! What the tests share: the original run beside the second reading, and the comparison of the
+//! two, bit for bit.
 
 #![allow(dead_code)]
 
 use oracle::condition::impulse::revert_repairs;
-use oracle::condition::iq::{revert_iq, ImageResult, IqCalibration};
-use oracle::condition::{
-    dc::revert_dc, ConditioningConfig, InputConditioner, IqStatus, Mark, Stage, StageMode,
-};
-use oracle::num_complex::{Complex32, Complex64};
+use oracle::condition::iq::{revert_iq, ImageResult};
+use oracle::condition::{dc::revert_dc, InputConditioner, IqStatus, Mark, Stage};
+pub use oracle::draw::Rng;
+use oracle::num_complex::Complex64;
 use oracle::rules::chain::{self, Record};
 use oracle::rules::iq::{Coefficient, Settled};
 use oracle::rules::monitor::{self, Evidence, Hop};
-use oracle::rules::{dc, iq, log, Calibration, Mode, Sample, Setting};
+use oracle::rules::{dc, iq, log, Mode, Sample, Setting};
+pub use oracle::sides::*;
 use std::io::Write;
 
 /// Says `line` past the test harness, so that a plain run shows it.
 pub fn say(line: &str) {
     writeln!(std::io::stdout(), "{line}").expect("standard output takes a line");
-}
-
-/// A xorshift generator: the same numbers for the same seed, everywhere.
-pub struct Rng(u64);
-
-impl Rng {
-    pub fn new(seed: u64) -> Self {
-        let mut rng = Rng(seed.wrapping_mul(0x9e37_79b9_7f4a_7c15) | 1);
-        for _ in 0..8 {
-            rng.next();
-        }
-        rng
-    }
-
-    pub fn next(&mut self) -> u64 {
-        self.0 ^= self.0 >> 12;
-        self.0 ^= self.0 << 25;
-        self.0 ^= self.0 >> 27;
-        self.0.wrapping_mul(0x2545_f491_4f6c_dd1d)
-    }
-
-    /// A number below `n`.
-    pub fn below(&mut self, n: usize) -> usize {
-        ((u128::from(self.next()) * n as u128) >> 64) as usize
-    }
-
-    /// A number from `a` to `b`, both among them.
-    pub fn from(&mut self, a: usize, b: usize) -> usize {
-        a + self.below(b - a + 1)
-    }
-
-    /// A number in 0..1.
-    pub fn unit(&mut self) -> f64 {
-        (self.next() >> 11) as f64 / (1u64 << 53) as f64
-    }
-
-    /// A number in −1..1.
-    pub fn both(&mut self) -> f64 {
-        2.0 * self.unit() - 1.0
-    }
-
-    /// True once in `n` on the average.
-    pub fn once_in(&mut self, n: usize) -> bool {
-        self.below(n) == 0
-    }
-
-    pub fn pick<T: Clone>(&mut self, of: &[T]) -> T {
-        of[self.below(of.len())].clone()
-    }
-}
-
-// ---- the two sides' types
-
-pub fn c32(x: Sample) -> Complex32 {
-    Complex32::new(x.re, x.im)
-}
-
-pub fn sample(c: Complex32) -> Sample {
-    Sample::new(c.re, c.im)
-}
-
-pub fn all_c32(xs: &[Sample]) -> Vec<Complex32> {
-    xs.iter().map(|&x| c32(x)).collect()
-}
-
-pub fn words(xs: &[Sample]) -> Vec<u64> {
-    xs.iter().map(|x| x.word()).collect()
-}
-
-pub fn words_c32(xs: &[Complex32]) -> Vec<u64> {
-    xs.iter().map(|&c| sample(c).word()).collect()
-}
-
-pub fn stage_mode(mode: Mode) -> StageMode {
-    match mode {
-        Mode::Off => StageMode::Off,
-        Mode::Observe => StageMode::Observe,
-        Mode::Apply => StageMode::Apply,
-    }
-}
-
-pub fn calibration(c: Calibration) -> IqCalibration {
-    IqCalibration {
-        gain_ratio: c.gain,
-        phase_deg: c.phase,
-        center_freq_hz: c.centre,
-    }
-}
-
-pub fn config(s: &Setting) -> ConditioningConfig {
-    ConditioningConfig {
-        impulse: stage_mode(s.impulse),
-        dc: stage_mode(s.dc),
-        iq: stage_mode(s.iq),
-        iq_calibration: s.calibration.map(calibration),
-    }
-}
-
-/// The original, made for the setting.
-pub fn original(s: &Setting) -> Option<InputConditioner> {
-    InputConditioner::with_geometry(s.fs, s.centre, s.n, &config(s), s.spans, s.repairs)
-}
-
-/// A setting with the given modes; the rest as the tests mostly want it.
-pub fn setting(fs: f64, impulse: Mode, dc: Mode, iq: Mode) -> Setting {
-    Setting {
-        fs,
-        centre: f64::NAN,
-        n: 8,
-        impulse,
-        dc,
-        iq,
-        calibration: None,
-        spans: 256,
-        repairs: 4096,
-    }
 }
 
 /// One call: the held samples (whatever stands there), then the new. Answers what it released.

@@ -28,10 +28,10 @@ mul-wide-2 : tie.Need-mul-wide-2
 mul-wide-2 c = let s = c .before .before .before .before in let h = mirror-lt _ _ _ (c .before .before .mirror .ensures) (s .pre .0) in omega arith
 
 shared-slice-read-wide-2 : tie.Need-shared-slice-read-wide-2
-shared-slice-read-wide-2 c = let s = c .before .before .before .before .before in mirror-lt _ _ _ (c .before .before .before .mirror .ensures) (s .pre .0)
+shared-slice-read-wide-2 c = let s = c .before .before .before .before .before in let h = mirror-lt _ _ _ (c .before .before .before .mirror .ensures) (s .pre .0) in omega (arith, s .pre .0)
 
 wide-requires-2 : tie.Need-wide-requires-2
-wide-requires-2 c κs = let s = c .before .before .before .before .before in within-number (s .args .x .now) (c .before .before .before .mirror .result) (s .pre .1) (mirror-lt _ _ _ (c .before .before .before .mirror .ensures) (s .pre .0))
+wide-requires-2 c κs = let s = c .before .before .before .before .before in let h = mirror-lt _ _ _ (c .before .before .before .mirror .ensures) (s .pre .0) in within-number (s .args .x .now) _ (s .pre .1) (omega (arith, s .pre .0))
 
 norm-sqr-requires : tie.Need-norm-sqr-requires
 norm-sqr-requires c κs = search needs

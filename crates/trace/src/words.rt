@@ -1,0 +1,286 @@
+// Words of 64 bits on standard input and standard output, little-endian.
+
+ghost use mathlib.Core.Path.{_≡_};
+ghost use Prim.Native.Nat.{_+_, _≤_, _<_};
+ghost use lib.ListN.{length, take};
+use libc::STDIN_FILENO;
+use libc::STDOUT_FILENO;
+
+// The words in front of an answer: the operation, its number and value, what belongs to it, and how
+// many words follow.
+pub struct Front {
+    pub op: u64,
+    pub number: u64,
+    pub value: u64,
+    pub p: u64,
+    pub q: u64,
+    pub r: u64,
+    pub s: u64,
+    pub m: u64,
+}
+
+// An answer as two numbers: which it is, and how many samples or which place it names.
+pub struct Told {
+    pub number: u64,
+    pub value: u64,
+}
+
+// An answer that names nothing.
+pub fn plain(number: u64) -> Told {
+    Told { number, value: 0 }
+}
+
+// The number, or the most if it is more.
+pub fn at_most(n: usize, most: usize) -> usize
+    ensures { λ r. ⌜ (r ≤ n) × (r ≤ most) ⌝ }
+{
+    if most < n {
+        return most;
+    }
+    n
+}
+
+// How many words go at once, of so many.
+fn at_once(left: usize) -> usize
+    requires { ⌜ 0 < left ⌝ }
+    ensures { λ r. ⌜ (0 < r) × (r ≤ left) × (r ≤ 512) ⌝ }
+{
+    if 512 < left {
+        return 512;
+    }
+    left
+}
+
+// So many of the words, or all if there are fewer.
+pub fn part(words: &[u64], n: usize) -> usize
+    ensures { λ r. ⌜ (r ≤ length (now (words .entry))) × (r ≡ length (take r (now (words .entry)))) ⌝ }
+{
+    at_most(n, words.len())
+}
+
+// The same of floats.
+pub fn part_of_floats(words: &[f64], n: usize) -> usize
+    ensures { λ r. ⌜ (r ≤ length (now (words .entry))) × (r ≡ length (take r (now (words .entry)))) ⌝ }
+{
+    at_most(n, words.len())
+}
+
+// A word of a slice, 0 behind its end.
+pub fn word(words: &[u64], k: usize) -> u64 {
+    if k < words.len() {
+        return words[k];
+    }
+    0
+}
+
+// ---- reading
+
+fn wide(b: u8) -> u64 {
+    b as u64
+}
+
+// The word of the eight bytes from a place on.
+fn word_at(bytes: &[u8; 4096], at: usize) -> u64
+    requires { ⌜ at + 8 ≤ 4096 ⌝ }
+{
+    let low = wide(bytes[at])
+        | wide(bytes[at + 1]) << 8
+        | wide(bytes[at + 2]) << 16
+        | wide(bytes[at + 3]) << 24;
+    let high = wide(bytes[at + 4])
+        | wide(bytes[at + 5]) << 8
+        | wide(bytes[at + 6]) << 16
+        | wide(bytes[at + 7]) << 24;
+    low | high << 32
+}
+
+fn decode(bytes: &[u8; 4096], words: &mut [u64])
+    requires { ⌜ length (now words) ≤ 512 ⌝ }
+{
+    let mut k: usize = 0;
+    while k < words.len() {
+        words[k] = word_at(bytes, k * 8);
+        k += 1;
+    }
+}
+
+// Whether all of these words were there.
+fn read_part(words: &mut [u64]) -> bool
+    requires { ⌜ length (now words) ≤ 512 ⌝ }
+{
+    let mut bytes = io::buffer();
+    let n = words.len() * 8;
+    let got = io::read_full(STDIN_FILENO, &mut bytes[..n]);
+    if got != n {
+        return false;
+    }
+    decode(&bytes, words);
+    true
+}
+
+// Reads over the slice; whether all of its words were there.
+pub fn read_words(words: &mut [u64]) -> bool {
+    let n = words.len();
+    let mut k: usize = 0;
+    while k < n {
+        let e = k + at_once(n - k);
+        if !read_part(&mut words[k..e]) {
+            return false;
+        }
+        k = e;
+    }
+    true
+}
+
+// ---- writing
+
+fn low(w: u64) -> u8 {
+    (w % 256) as u8
+}
+
+fn put_word(bytes: &mut [u8; 4096], at: usize, w: u64)
+    requires { ⌜ at + 8 ≤ 4096 ⌝ ∗ ⌜ 4096 ≡ length (now bytes) ⌝ }
+    ensures { λ _. ⌜ 4096 ≡ length (now (bytes .exit)) ⌝ }
+{
+    bytes[at] = low(w);
+    bytes[at + 1] = low(w >> 8);
+    bytes[at + 2] = low(w >> 16);
+    bytes[at + 3] = low(w >> 24);
+    bytes[at + 4] = low(w >> 32);
+    bytes[at + 5] = low(w >> 40);
+    bytes[at + 6] = low(w >> 48);
+    bytes[at + 7] = low(w >> 56);
+}
+
+fn encode(words: &[u64], bytes: &mut [u8; 4096])
+    requires { ⌜ length (now words) ≤ 512 ⌝ ∗ ⌜ 4096 ≡ length (now bytes) ⌝ }
+    ensures { λ _. ⌜ 4096 ≡ length (now (bytes .exit)) ⌝ }
+{
+    let mut k: usize = 0;
+    while k < words.len() {
+        put_word(bytes, k * 8, words[k]);
+        k += 1;
+    }
+}
+
+fn write_part(words: &[u64])
+    requires { ⌜ length (now words) ≤ 512 ⌝ }
+{
+    let mut bytes = io::buffer();
+    encode(words, &mut bytes);
+    let n = words.len() * 8;
+    io::write_all(STDOUT_FILENO, &bytes[..n]);
+}
+
+pub fn write_words(words: &[u64]) {
+    let n = words.len();
+    let mut k: usize = 0;
+    while k < n {
+        let e = k + at_once(n - k);
+        write_part(&words[k..e]);
+        k = e;
+    }
+}
+
+pub fn write_front(f: Front) {
+    let words = [f.op, f.number, f.value, f.p, f.q, f.r, f.s, f.m];
+    write_words(&words);
+}
+
+// ---- one word of many
+
+// A step that can be undone, so a difference in one word is never lost.
+fn mixed(h: u64, w: u64) -> u64 {
+    let x = h ^ w;
+    let a = x ^ (x << 13);
+    let b = a ^ (a >> 7);
+    std::num::wrapping_add_u64(b ^ (b << 17), 0x9e37_79b9_7f4a_7c15)
+}
+
+fn digest(words: &[u64]) -> u64 {
+    let mut h: u64 = 0;
+    let mut k: usize = 0;
+    while k < words.len() {
+        h = mixed(h, words[k]);
+        k += 1;
+    }
+    h
+}
+
+fn digest_floats(words: &[f64]) -> u64 {
+    let mut h: u64 = 0;
+    let mut k: usize = 0;
+    while k < words.len() {
+        h = mixed(h, ieee::to_bits64(words[k]));
+        k += 1;
+    }
+    h
+}
+
+fn write_one(w: u64) {
+    let words = [w];
+    write_words(&words);
+}
+
+// The words, or their digest.
+pub fn show_words(words: &[u64], how: u64) {
+    if how == 1 {
+        write_one(digest(words));
+        return;
+    }
+    write_words(words);
+}
+
+fn write_floats(words: &[f64]) {
+    let mut k: usize = 0;
+    while k < words.len() {
+        write_one(ieee::to_bits64(words[k]));
+        k += 1;
+    }
+}
+
+pub fn show_floats(words: &[f64], how: u64) {
+    if how == 1 {
+        write_one(digest_floats(words));
+        return;
+    }
+    write_floats(words);
+}
+
+// How many words are shown.
+pub fn shown(n: usize, how: u64) -> u64 {
+    if how == 1 {
+        return 1;
+    }
+    n as u64
+}
+
+// The answer to an operation, with the n words of the slice that it left.
+pub fn answer_slice(op: u64, told: Told, slice: &[u64], length: usize, how: u64) {
+    let n = part(slice, length);
+    write_front(Front {
+        op,
+        number: told.number,
+        value: told.value,
+        p: 0,
+        q: 0,
+        r: 0,
+        s: n as u64,
+        m: shown(n, how),
+    });
+    show_words(&slice[..n], how);
+}
+
+// The answer to an operation, with two words.
+pub fn answer_plain(op: u64, told: Told, p: u64, q: u64) {
+    write_front(Front {
+        op,
+        number: told.number,
+        value: told.value,
+        p,
+        q,
+        r: 0,
+        s: 0,
+        m: 0,
+    });
+}
