@@ -168,11 +168,15 @@ impl Drawing<'_> {
                 Operation::new(CALL, &[spans, repairs, AS_HELD], xs)
             }
             2 => {
-                let over = rng.pick(&[0, 1, 2, 1 << 20, 1 << 51]);
-                let seen = (1u64 << 48) + over;
-                let back = rng.below(n + 1) as u64;
-                let xs = words(&some_samples(rng, n));
-                Operation::new(CALL, &[spans, repairs, AS_HELD, seen - back], xs)
+                // At the limit, and past it; a sample that is not usable is refused behind 8.
+                let mut xs = words(&some_samples(rng, n + 1));
+                let past = rng.pick(&[0, 0, 1, 2, 1 << 20, 1 << 51]);
+                let seen = (1u64 << 48) + past - xs.len() as u64;
+                if past == 0 || rng.once_in(2) {
+                    let place = rng.below(n + 1);
+                    xs[place] = unusable(rng).word();
+                }
+                Operation::new(CALL, &[spans, repairs, AS_HELD, seen], xs)
             }
             _ => {
                 let seen = (1 << 52) + rng.from(0, 3) as u64;
@@ -200,7 +204,10 @@ impl Drawing<'_> {
     /// A word of a store is written, operations follow, and the word is written back.
     fn written(&mut self) {
         let s = self.setting();
-        let store = self.rng.below(3);
+        let store = match self.rng.below(3) {
+            1 if self.machine.repair_ring().held == 0 => 0,
+            any => any,
+        };
         let size = [24 * s.spans, 6 * s.repairs, 4 * s.n][store];
         let used = match store {
             // Near the newest span of a ring that holds one, mostly.
@@ -232,9 +239,9 @@ impl Drawing<'_> {
                 (1 << 49) - 1000,
                 7,
             ]),
-            1 => self
-                .rng
-                .pick(&[0, 1, 4, 5, 1 << 48, (1 << 48) + 1, u64::MAX, 3]),
+            // A length at its limits, or a start.
+            1 if place % 6 == 1 => self.rng.pick(&[0, 1, 4, 5, u64::MAX]),
+            1 => self.rng.pick(&[0, 1 << 48, (1 << 48) + 1, u64::MAX, 3]),
             _ => {
                 let limit = self.rng.pick(&[1e60, -1e60]);
                 let near = near(self.rng, limit);
@@ -245,7 +252,12 @@ impl Drawing<'_> {
         };
         let before = self.word_of(store, place);
         self.add(Operation::new(WRITE, &[store as u64, place, word], vec![]));
-        for _ in 0..self.rng.from(1, 3) {
+        match store {
+            0 => self.call(vec![], 20),
+            1 => self.undo(),
+            _ => self.hop(20),
+        }
+        for _ in 0..self.rng.below(3) {
             self.chain_step(20);
         }
         if !self.rng.once_in(8) {

@@ -195,6 +195,16 @@ impl List {
             self.read();
             self.spans();
         }
+        // DC: zeros before the first update, and differences of zero behind it.
+        for mode in [Mode::Observe, Mode::Apply] {
+            self.make(&setting([Mode::Off, mode, Mode::Off]));
+            let re = [0.0, -0.0, 0.5, 0.5, 0.5, 2.0, 0.0, 45.0, -45.0];
+            let xs = re.map(|re| Sample::new(re, if re == 45.0 { 43.0 } else { 0.0 }));
+            for part in xs.chunks(2) {
+                self.call(part, false);
+                self.op(STATE, &[], vec![]);
+            }
+        }
         let rng = &mut Rng::new(7);
         for k in 0..6 {
             let mut s = setting([Mode::Apply, MODES[k % 3], MODES[k / 2]]);

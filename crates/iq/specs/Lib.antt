@@ -1,5 +1,6 @@
 -- definitions
 pub mod View
+pub mod Eights
 pub mod Undo
 pub mod Calls
 -- laws
@@ -10,3 +11,5 @@ pub mod Steps
 pub mod Maps
 pub mod Cutting
 pub mod UndoLaws
+pub mod EightLaws
+pub mod EightRuns

@@ -1,75 +1,61 @@
--- `iq::correct_all` is the map of `corrected`. The invariant: what is written before place k, and what is left from k on, give the same. Assumes nothing.
-use mathlib.Core.Path.{refl, sym, subst}
-use Prim.Native.Nat.{ℕ, _+_, _-_}
-use lib.ListN.{length, set}
+-- `iq::correct_all` is the map of `corrected`. Assumes nothing.
+use borrow.Author.Tests.{not-false}
 use Rattle.complex.specs.View.{view64}
-use Rattle.rules.specs.Iq.{corrected}
-use Rattle.iq.specs.Maps.{Mapping, mapping-next, mapping-end}
+use Rattle.iq.specs.EightLaws.{small}
+use Rattle.iq.specs.EightRuns.{mapping-rest}
 use borrow.Author.Needs.{needs}
 use Rattle.iq.proofs.correct_all.Statement.{statement}
 use Rattle.iq.proofs.correct_all.Tie as tie
 
-abbrev Inv-loop : tie.InvT-loop
-Inv-loop rho samples₀ k₀ samples k = Mapping (corrected (view64 rho)) samples₀ samples k
+is-small-requires : tie.Need-is-small-requires
+is-small-requires c κs = search needs
 
-abbrev μ-loop : tie.MeasureT-loop
-μ-loop rho samples₀ k₀ samples k = length samples₀ - k
+correct-each-requires : tie.Need-correct-each-requires
+correct-each-requires c κs = search needs
 
-loop-holds : tie.Need-loop-holds Inv-loop μ-loop
-loop-holds c = record { same = refl; place = search needs; written = refl }
+same-length : tie.Need-same-length
+same-length c = search needs
 
-mul-correct : tie.Need-mul-correct Inv-loop μ-loop
-mul-correct c = search needs
+returns : tie.Need-returns
+returns c = search needs
 
-slice-read-correct : tie.Need-slice-read-correct Inv-loop μ-loop
-slice-read-correct c = search needs
+correct-eights-requires : tie.Need-correct-eights-requires
+correct-eights-requires c κs = small (view64 (c .before .before .before .before .args .rho)) (c .before .before .is-small .ensures) (not-false _ (c .before .if1 .left))
 
-correct-requires : tie.Need-correct-requires Inv-loop μ-loop
-correct-requires c κs = search needs
+mul-correct-each : tie.Need-mul-correct-each
+mul-correct-each c = search needs
 
-mul-samples : tie.Need-mul-samples Inv-loop μ-loop
-mul-samples c = search needs
+sub-correct-each : tie.Need-sub-correct-each
+sub-correct-each c = search needs
 
-slice-write-samples : tie.Need-slice-write-samples Inv-loop μ-loop
-slice-write-samples c = search needs
+part-correct-each-start : tie.Need-part-correct-each-start
+part-correct-each-start c = search needs
 
-add-k : tie.Need-add-k Inv-loop μ-loop
-add-k c = search needs
+part-correct-each-end : tie.Need-part-correct-each-end
+part-correct-each-end c = search needs
 
-loop-less : tie.Need-loop-less Inv-loop μ-loop
-loop-less c = search needs
+correct-each-requires-2 : tie.Need-correct-each-requires-2
+correct-each-requires-2 c κs = search needs
 
-loop-again : tie.Need-loop-again Inv-loop μ-loop
-loop-again c =
-    let l = c .before .before .before .loop in
-    let a = c .before .before .before .before .before .args in
-    let f = corrected (view64 (a .rho)) in
-    subst (λ (w : ℕ). Mapping f (a .samples .now) (set (l .samples) (l .k) w) (l .k + 1)) (sym (c .correct .ensures))
-    (mapping-next f (a .samples .now) (l .samples) (l .k) (c .before .before .loop-test .taken) (l .inv))
+same-length-2 : tie.Need-same-length-2
+same-length-2 c = search needs
 
-same-length : tie.Need-same-length Inv-loop μ-loop
-same-length c = c .before .loop .inv .same
-
-returns : tie.Need-returns Inv-loop μ-loop
-returns c =
-    let l = c .before .loop in
-    let a = c .before .before .before .args in
-    mapping-end (corrected (view64 (a .rho))) (a .samples .now) (l .samples) (l .k) (c .loop-test .left) (l .inv)
+returns-2 : tie.Need-returns-2
+returns-2 c = mapping-rest _ _ _ _ _ (c .before .before .correct-each2 .ensures) (c .before .before .before .before .before .before .correct-eights .ensures)
 
 pub correct-all-spec : {M : Type 1} → statement M
 correct-all-spec =
     tie.close
     (tie.spec
-    Inv-loop
-    μ-loop
-    loop-holds
-    mul-correct
-    slice-read-correct
-    correct-requires
-    mul-samples
-    slice-write-samples
-    add-k
-    loop-less
-    loop-again
+    is-small-requires
+    correct-each-requires
     same-length
-    returns)
+    returns
+    correct-eights-requires
+    mul-correct-each
+    sub-correct-each
+    part-correct-each-start
+    part-correct-each-end
+    correct-each-requires-2
+    same-length-2
+    returns-2)
