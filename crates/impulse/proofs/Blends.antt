@@ -1,10 +1,9 @@
 -- Laws of powers that ascend from 0 on: what the test says; one power replaced by minima and maxima is a removal and an insertion, and the powers still ascend. Assumes nothing.
 use mathlib.Core.Path.{_≡_, refl, sym, ap, _∙_, subst}
 use mathlib.Core.Bool.{Bool, true, false, cond, _&&_}
-use mathlib.Core.List.{List, [], _∷_, _++_}
+use mathlib.Core.List.{List, [], _∷_}
 use Prim.Native.Nat.{ℕ, zero, suc, _+_, _≤_, _<_}
 use native.Mathlib.Omega.{arith}
-use lib.Dec.{T}
 use lib.ListN.{length, getD, set, take}
 use lib.Seq.{take-all, take-suc, take-suc-set}
 use lib.Ieee.{Float, nan, binary32, ofBits, fits, lt, le}
@@ -13,7 +12,7 @@ use Rattle.rules.specs.Constants.{zeroF}
 use Rattle.rules.specs.Sort.{insert, remove}
 use Rattle.rules.specs.SortLaws.{All, all-append}
 use Rattle.impulse.specs.Rising.{climbs, NotNegative, Held, Rising, least, most, moved, blendedFrom, blended}
-use Rattle.impulse.proofs.Sizes.{both-true, below, not-below, stays, lower, higher, at-most}
+use Rattle.impulse.proofs.Sizes.{both-true, below, not-below, stays, higher, at-most}
 
 -- ---- the test
 

@@ -5,7 +5,6 @@ use Prim.Native.Nat.{ℕ, zero, suc, _+_, _*_, _/_, _^_, _≤_, _<_}
 use native.Mathlib.Nat.{zero-mul, mul-pos, zero-div}
 use native.Mathlib.Omega.{arith}
 use lib.Dec.{T, ltb, eqb, eqb→eq}
-use lib.IntN.{ℤ}
 use lib.Ieee.{Float, nan, inf, fin, Format, low, up, down, fits, lt, eq, le}
 use lib.Ieee.Fits.{and-l, and-r, up-pos, down-pos}
 use borrow.Author.Tests.{ltb-true, ltb-false, lt-ltb, le-ltb}

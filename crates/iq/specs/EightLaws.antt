@@ -1,7 +1,7 @@
 -- A small coefficient gives a number of every finite sample, and its word by bits. Assumes nothing.
-use mathlib.Core.Path.{_≡_, refl, sym, ap, _∙_, subst}
+use mathlib.Core.Path.{_≡_, sym, ap, _∙_, subst}
 use Prim.Native.Nat.{ℕ, _+_, _*_, _/_, _%_, _-_, _^_, _≤_, _<_}
-use native.Mathlib.Nat.{le-trans, le-of-eq, le-of-lt, mul-assoc, mul-comm, mul-one, mul-right-comm, mul-le-mul-right, le-of-mul-le-mul-right}
+use native.Mathlib.Nat.{le-trans, le-of-eq, le-of-lt, mul-one, mul-right-comm, mul-le-mul-right, le-of-mul-le-mul-right}
 use native.Mathlib.Omega.{arith}
 use mathlib.Core.Bool.{Bool, true, false, not, _&&_}
 use lib.IntN.{pos}
@@ -18,7 +18,7 @@ use Rattle.ieee.specs.Bound.{Within, Value}
 use Rattle.ieee.specs.Bounds.{add-within, sub-within, mul-within, neg-within, scaled-value, between-within}
 use Rattle.ieee.specs.LowerBounds.{within-own, fits-value}
 use Rattle.ieee.specs.Nan.{no-nan-bits, number-below}
-use Rattle.ieee.specs.Narrow.{narrowed, normalIn, cutOf}
+use Rattle.ieee.specs.Narrow.{normalIn, cutOf}
 use Rattle.ieee.specs.SingleLaws.{cut}
 use Rattle.complex.specs.Complex.{Complex, difference, product, conjugate, narrowedParts, wordOf, sampleOf}
 use Rattle.complex.specs.declared.Complex64.{Complex64}

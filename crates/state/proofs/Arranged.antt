@@ -1,9 +1,9 @@
 -- A list of different powers in order, each of which occurs in a window that is as long, is that window sorted. Assumes nothing.
 use mathlib.Core.Path.{_≡_, refl, sym, ap, _∙_, subst}
-use mathlib.Core.Bool.{Bool, true, false, cond, _&&_, _||_}
+use mathlib.Core.Bool.{Bool, true, false, _||_}
 use mathlib.Core.List.{List, [], _∷_, _++_}
 use mathlib.Core.Logic.{_⊎_, inl, inr}
-use Prim.Native.Nat.{ℕ, zero, suc, _≤_, _<_}
+use Prim.Native.Nat.{ℕ, suc, _≤_, _<_}
 use native.Mathlib.Omega.{arith}
 use lib.Dec.{T, ltb}
 use lib.ListN.{length, getD, take, length-append}
@@ -16,8 +16,6 @@ use Rattle.ieee.specs.Order.{lt-key, same-key, plain-equal}
 use Rattle.rules.specs.Constants.{zeroF}
 use Rattle.rules.specs.Sort.{insert, sort}
 use Rattle.rules.specs.SortLaws.{All, Ordered, is-not-below, insert-comm, sort-good}
-use Rattle.log.specs.Check.{allTo}
-use Rattle.log.specs.CheckLaws.{all-at}
 use Rattle.impulse.specs.Rising.{climbs, NotNegative, Held}
 use Rattle.impulse.proofs.Sizes.{abs, abs-plain, abs-key, clear, both-true, lt-size, no-size, equal-abs}
 use Rattle.impulse.proofs.Blends.{zero-held, zero-not-negative}

@@ -1,6 +1,6 @@
 -- `ieee::half_root` meets its contract, by the test or by all digits. Assumes nothing.
 use mathlib.Core.Path.{sym, _∙_, subst}
-use Prim.Native.Nat.{_+_, _*_, _%_, _^_, _≤_, _<_}
+use Prim.Native.Nat.{_+_, _*_, _%_, _^_}
 use native.Mathlib.Omega.{arith}
 use mathlib.Core.Bool.{_&&_}
 use lib.Dec.{T, ltb, leb, ltb→lt, leb→le}

@@ -1,6 +1,6 @@
 -- `ieee::is_half_root` meets its contract: its words are those of `square` of `proofs/HalfRoots.antt`. Assumes nothing.
-use mathlib.Core.Path.{_≡_, refl}
-use Prim.Native.Nat.{ℕ, _+_, _-_, _*_, _/_, _%_, _^_, _≤_, _<_}
+use mathlib.Core.Path.{refl}
+use Prim.Native.Nat.{ℕ, _+_, _*_, _%_, _^_, _≤_, _<_}
 use native.Mathlib.Omega.{arith}
 use Rattle.ieee.proofs.HalfRoots.{square, far-above, far-below, not-below, decided}
 use borrow.Author.Needs.{needs}

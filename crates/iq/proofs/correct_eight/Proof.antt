@@ -1,8 +1,6 @@
 -- `iq::correct_eight` is the map of `corrected`, by either way. Assumes nothing.
-use mathlib.Core.Path.{_≡_, refl, sym, ap, _∙_}
+use mathlib.Core.Path.{refl, ap, _∙_}
 use lib.ListN.{length, length-map}
-use Rattle.complex.specs.View.{view64}
-use Rattle.rules.specs.Iq.{corrected}
 use borrow.Author.Needs.{needs}
 use Rattle.iq.proofs.correct_eight.Statement.{statement}
 use Rattle.iq.proofs.correct_eight.Tie as tie

@@ -1,10 +1,9 @@
 -- `iq::try_sample` meets its contract: its numbers are no NaNs, and its word is right if both marks say so. Assumes nothing.
 use mathlib.Core.Path.{_≡_, sym, subst}
-use Prim.Native.Nat.{_+_, _*_, _^_, _<_}
+use Prim.Native.Nat.{_^_, _<_}
 use native.Mathlib.Omega.{arith}
 use Rattle.complex.specs.Complex.{Complex}
 use Rattle.complex.specs.View.{view64}
-use Rattle.iq.specs.Eights.{patternCut}
 use Rattle.iq.specs.EightLaws.{Numbers, numbers, exact, exact-by, pattern-lt, tried}
 use borrow.Author.Needs.{needs}
 use Rattle.iq.proofs.try_sample.Statement.{statement}

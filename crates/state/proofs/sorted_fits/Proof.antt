@@ -1,5 +1,5 @@
 -- `state::sorted_fits` is `sortedFits`: where the sorted list is the window sorted, every power has the same bits. Assumes nothing.
-use mathlib.Core.Path.{_≡_, sym, ap, _∙_}
+use mathlib.Core.Path.{_≡_, sym, ap}
 use mathlib.Core.Bool.{true}
 use mathlib.Core.List.{List, append-nil}
 use Prim.Native.Nat.{ℕ, _-_}

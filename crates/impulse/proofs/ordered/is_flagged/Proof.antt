@@ -1,7 +1,6 @@
 -- `impulse::ordered::is_flagged` meets its contract. Assumes nothing.
 use mathlib.Core.Path.{sym}
 use Prim.Native.Nat.{_-_}
-use native.Mathlib.Omega.{arith}
 use Rattle.impulse.specs.Machine.{flaggedBy}
 use borrow.Author.Needs.{needs}
 use Rattle.impulse.proofs.ordered.is_flagged.Statement.{statement}
