@@ -89,11 +89,6 @@ pub fn odd_float(seed: u64, k: u64) -> f64 {
     ieee::from_bits64(odd_word(seed, k))
 }
 
-// A float of an odd word's low half.
-pub fn odd_power(seed: u64, k: u64) -> f32 {
-    ieee::from_bits32((odd_word(seed, k) % 0x1_0000_0000) as u32)
-}
-
 // A usable sample: (1 + a fraction, 0), and now and then (100, 0).
 pub fn sample(seed: u64, k: u64) -> u64 {
     let w = drawn(seed, k);

@@ -1,36 +1,22 @@
 // A hop, with random channels and starts.
 
-use crate::bench::Bench;
-use crate::bench::Lent;
-use crate::bench::Told;
-use crate::bench::at_most;
-use crate::bench::plain;
-use crate::bench::same_bench;
-use crate::bench::same_told;
 use crate::draw::below;
 use crate::draw::odd_word;
 use crate::draw::samples;
+use crate::tried::Told;
+use crate::tried::Tried;
+use crate::tried::plain;
+use crate::tried::same_told;
 use complex::Complex32;
-use condition::HopCalled;
-use condition::HopSaid;
-use image::Begun;
-use iq::Iq;
-use state::InputConditioner;
-
-// How a hop ended: the answer's number, what it left, and whether that is as it must be.
-pub struct HopTried {
-    pub bench: Bench,
-    pub number: u64,
-    pub good: bool,
-    // Whether a fit state and fit stores are answered so.
-    pub right: bool,
-}
-
-// What a hop leaves.
-struct AfterHop {
-    bench: Bench,
-    answer: HopSaid,
-}
+use hops::HopSaid;
+use state_words::BEGUN;
+use state_words::CHANNELS;
+use state_words::END;
+use state_words::IQ;
+use state_words::Lent;
+use state_words::RATE;
+use state_words::bench::Bench;
+use state_words::bench::same_bench;
 
 // Channels, of which now and then one is an odd word.
 fn any_channels(seed: u64) -> [u64; 64] {
@@ -43,11 +29,11 @@ fn any_channels(seed: u64) -> [u64; 64] {
 }
 
 // How many channels: what the settings have, mostly.
-fn any_count(n: usize, seed: u64) -> usize {
+fn any_count(n: u64, seed: u64) -> usize {
     if below(seed, 153, 10) == 0 {
         return below(seed, 154, 65) as usize;
     }
-    n % 9
+    (n % 9) as usize
 }
 
 // A start: not long after the last end, mostly.
@@ -62,47 +48,22 @@ fn any_start(end: u64, seed: u64) -> u64 {
     std::num::wrapping_add_u64(end, below(seed, 157, 3))
 }
 
-// With so much of the channels and of each store.
-fn hop_with(
-    state: InputConditioner,
-    x: &[u64],
-    count: usize,
-    start: u64,
-    spans: &mut [u64],
-    words: &mut [f64],
-    lent: Lent,
-) -> HopCalled {
-    let n = at_most(count, x.len());
-    let a = at_most(lent.spans, spans.len());
-    let c = at_most(lent.words, words.len());
-    condition::hops::observe_hop(state, &x[..n], start, &mut spans[..a], &mut words[..c])
-}
-
 fn told(answer: HopSaid) -> Told {
     match answer {
-        HopSaid::Nothing => plain(0),
-        HopSaid::NoReport => plain(1),
-        HopSaid::Report(_) => plain(2),
-        HopSaid::BadLength => plain(3),
-        HopSaid::BadState => plain(4),
+        HopSaid::Nothing => plain(12),
+        HopSaid::NoReport => plain(13),
+        HopSaid::Report(_) => plain(14),
+        HopSaid::BadLength => plain(15),
+        HopSaid::BadState => plain(16),
         HopSaid::Beyond(place) => Told {
-            number: 5,
+            number: 17,
             value: place as u64,
         },
-        HopSaid::Early => plain(6),
+        HopSaid::Early => plain(18),
     }
 }
 
 // ---- the answer that document 01 gives where the state and the stores are fit
-
-fn is_off(iq: Iq) -> bool {
-    match iq {
-        Iq::Off => true,
-        Iq::Observing => false,
-        Iq::Correcting(_) => false,
-        Iq::Withheld => false,
-    }
-}
 
 fn is_within(x: f32) -> bool {
     let wide = ieee::widen(x);
@@ -135,115 +96,79 @@ fn first_beyond(x: [u64; 64], count: usize) -> usize {
     count
 }
 
-fn began(first: Begun, start: u64) -> u64 {
-    match first {
-        Begun::Never => start,
-        Begun::At(f) => f,
+// Where the window began: with this hop if it has none.
+fn began(b: Bench, start: u64) -> u64 {
+    if b.state[BEGUN] == 0 {
+        return start;
     }
+    b.state[BEGUN + 1]
 }
 
 // A report is due where the window has 5 seconds.
-fn is_due(state: InputConditioner, count: usize, start: u64) -> bool {
-    let settings = state.settings;
-    let monitor = state.monitor;
-    let first = monitor.first;
+fn is_due(b: Bench, count: usize, start: u64) -> bool {
     let end = std::num::wrapping_add_u64(start, count as u64 / 4);
-    let length = std::num::wrapping_sub_u64(end, began(first, start));
-    5.0 * settings.fs <= std::num::nearest_u64_to_f64(length)
+    let length = std::num::wrapping_sub_u64(end, began(b, start));
+    5.0 * ieee::from_bits64(b.state[RATE]) <= std::num::nearest_u64_to_f64(length)
 }
 
-fn expected_taken(state: InputConditioner, x: [u64; 64], count: usize, start: u64) -> Told {
+fn expected_taken(b: Bench, x: [u64; 64], count: usize, start: u64) -> Told {
     let place = first_beyond(x, count);
     if place < count {
         return Told {
-            number: 5,
+            number: 17,
             value: place as u64,
         };
     }
-    if is_due(state, count, start) {
-        return plain(2);
+    if is_due(b, count, start) {
+        return plain(14);
     }
-    plain(1)
+    plain(13)
 }
 
-fn expected(state: InputConditioner, x: [u64; 64], count: usize, start: u64) -> Told {
-    let settings = state.settings;
-    let iq = settings.iq;
-    if is_off(iq) {
-        return plain(0);
+fn expected(b: Bench, x: [u64; 64], count: usize, start: u64) -> Told {
+    if b.state[IQ] == 0 {
+        return plain(12);
     }
-    if count != settings.n {
-        return plain(0);
+    if count as u64 != b.state[CHANNELS] {
+        return plain(12);
     }
     if count < 8 {
-        return plain(0);
+        return plain(12);
     }
     if 0x1_0000_0000_0000 < start {
-        return plain(6);
+        return plain(18);
     }
-    if start < last_end(state) {
-        return plain(6);
+    if start < b.state[END] {
+        return plain(18);
     }
-    expected_taken(state, x, count, start)
+    expected_taken(b, x, count, start)
 }
 
 // ---- a hop
 
-fn hopped(b: Bench, x: [u64; 64], count: usize, start: u64, lent: Lent) -> AfterHop {
-    let mut spans = b.spans;
-    let mut words = b.words;
-    let repairs = b.repairs;
-    let state = b.state;
-    let called = hop_with(state, &x, count, start, &mut spans, &mut words, lent);
-    let after = called.state;
-    let answer = called.answer;
-    let bench = Bench {
-        state: after,
-        spans,
-        repairs,
-        words,
-    };
-    AfterHop { bench, answer }
-}
-
-// Whether a hop of this number was added.
-fn is_added(number: u64) -> bool {
-    if number == 1 {
-        return true;
-    }
-    number == 2
-}
-
-fn last_end(state: InputConditioner) -> u64 {
-    let monitor = state.monitor;
-    monitor.end
-}
-
 // Whether a hop left what it must: all, unless it was added.
-fn is_good(b: Bench, after: AfterHop) -> bool {
-    let bench = after.bench;
-    let answer = after.answer;
-    let said = told(answer);
-    if is_added(said.number) {
+fn is_good(b: Bench, left: Bench, number: u64) -> bool {
+    if number == 13 {
         return true;
     }
-    same_bench(b, bench)
+    if number == 14 {
+        return true;
+    }
+    same_bench(b, left)
 }
 
-pub fn try_hop(b: Bench, seed: u64, lent: Lent) -> HopTried {
-    let state = b.state;
-    let settings = state.settings;
+pub fn try_hop(b: Bench, seed: u64, lent: Lent) -> Tried {
     let x = any_channels(seed);
-    let count = any_count(settings.n, seed);
-    let start = any_start(last_end(state), seed);
-    let after = hopped(b, x, count, start, lent);
-    let bench = after.bench;
-    let answer = after.answer;
+    let count = any_count(b.state[CHANNELS], seed);
+    let start = any_start(b.state[END], seed);
+    let tried = state_words::bench::hop(b, &x, count, start, lent);
+    let left = tried.bench;
+    let answer = tried.answer;
     let said = told(answer);
-    HopTried {
-        bench,
+    Tried {
         number: said.number,
-        good: is_good(b, after),
-        right: same_told(said, expected(state, x, count, start)),
+        bench: left,
+        good: is_good(b, left, said.number),
+        right: same_told(said, expected(b, x, count, start)),
     }
 }

@@ -1,153 +1,95 @@
 // Random makings, calls and hops on fit states and on spoilt ones: how many there were of each answer, how many
 // refusals did not leave all as it was, and how many answers on a fit state were not document 01's.
 
-mod bench;
 mod call;
+mod chain;
 mod draw;
 mod hop;
-mod making;
 mod spoil;
+mod tried;
 
-use bench::Bench;
-use bench::Lent;
 use libc::STDOUT_FILENO;
-use state::InputConditioner;
+use state_words::SEEN;
+use state_words::bench::Bench;
+use tried::Tried;
+use tried::odd_lengths;
+use tried::right_lengths;
 
-// The chain that accepted operations have reached, and the counts.
+// The chain that accepted operations have reached, and the counts: of each answer, of the refusals that did not
+// leave all as it was, and of the answers on a fit state that were not document 01's.
 struct World {
     seed: u64,
     bench: Bench,
-    counts: [u64; 19],
-    changed: u64,
-    wrong: u64,
+    counts: [u64; 21],
 }
 
-// ---- one operation
-
-fn counted(w: World, at: u64) -> World {
+fn one_more(w: World, at: u64) -> World {
     let mut out = w;
-    let k = (at % 19) as usize;
+    let k = (at % 21) as usize;
     out.counts[k] = std::num::wrapping_add_u64(out.counts[k], 1);
     out
 }
 
-// Whether what was left is good.
-fn judged(w: World, good: bool) -> World {
-    let mut out = w;
-    if !good {
-        out.changed = std::num::wrapping_add_u64(out.changed, 1);
+// An operation on a spoilt chain, which leaves the chain itself.
+fn counted(w: World, t: Tried) -> World {
+    let out = one_more(w, t.number);
+    if !t.good {
+        return one_more(out, 19);
     }
     out
 }
 
-// Whether a fit state was answered right.
-fn checked(w: World, right: bool) -> World {
-    let mut out = w;
-    if !right {
-        out.wrong = std::num::wrapping_add_u64(out.wrong, 1);
+// An operation on a fit chain.
+fn checked(w: World, t: Tried) -> World {
+    let out = counted(w, t);
+    if !t.right {
+        return one_more(out, 20);
     }
     out
 }
 
-fn with_bench(w: World, b: Bench) -> World {
-    let mut out = w;
-    out.bench = b;
+// The chain's own next operation, which it goes on from.
+fn own(w: World, t: Tried) -> World {
+    let mut out = checked(w, t);
+    let bench = t.bench;
+    out.bench = bench;
     out
 }
 
-// Another chain, where making makes one.
-fn make(w: World) -> World {
-    let b = w.bench;
-    let tried = making::try_making(b, w.seed);
-    let left = tried.bench;
-    let at = std::num::wrapping_add_u64(tried.number, 13);
-    let out = judged(counted(w, at), tried.good);
-    with_bench(checked(out, tried.right), left)
-}
-
-// The chain's own next call.
 fn own_call(w: World) -> World {
     let b = w.bench;
-    let tried = call::try_call(b, w.seed, own_lengths(b));
-    let left = tried.bench;
-    let out = judged(counted(w, tried.number), tried.good);
-    with_bench(checked(out, tried.right), left)
-}
-
-// The chain's own next hop.
-fn own_hop(w: World) -> World {
-    let b = w.bench;
-    let tried = hop::try_hop(b, w.seed, own_lengths(b));
-    let left = tried.bench;
-    let at = std::num::wrapping_add_u64(tried.number, 6);
-    let out = judged(counted(w, at), tried.good);
-    with_bench(checked(out, tried.right), left)
+    own(w, call::try_call(b, w.seed, right_lengths(b)))
 }
 
 // A call on the chain with nearly 2^48 samples seen, where its window is full.
 fn full_call(w: World) -> World {
-    let mut b = w.bench;
-    let state = b.state;
-    if state.seen < 33 {
+    let b = w.bench;
+    if b.state[SEEN] < 33 {
         return own_call(w);
     }
-    b.state = spoil::nearly_full(state, w.seed);
-    let tried = call::try_call(b, w.seed, own_lengths(b));
-    let out = judged(counted(w, tried.number), tried.good);
-    checked(out, tried.right)
-}
-
-fn own_lengths(b: Bench) -> Lent {
-    let state = b.state;
-    bench::right_lengths(state)
-}
-
-// ---- spoilt states
-
-fn spoilt_state(state: InputConditioner, seed: u64) -> InputConditioner {
-    let f = draw::below(seed, 160, 16);
-    if f < 2 {
-        return spoil::nearly_full(state, seed);
-    }
-    if f < 6 {
-        return state;
-    }
-    if f < 14 {
-        return spoil::spoil(state, seed, f % 3 + 1);
-    }
-    spoil::spoil(state, seed, 200)
-}
-
-fn spoilt(b: Bench, seed: u64) -> Bench {
-    let state = b.state;
-    let mut out = b;
-    out.state = spoilt_state(state, seed);
-    bench::odd_stores(out, seed)
-}
-
-fn spoilt_lengths(b: Bench, seed: u64) -> Lent {
-    bench::odd_lengths(own_lengths(b), seed)
+    let full = spoil::nearly_full(b, w.seed);
+    checked(w, call::try_call(full, w.seed, right_lengths(full)))
 }
 
 fn spoilt_call(w: World) -> World {
-    let b = spoilt(w.bench, w.seed);
-    let tried = call::try_call(b, w.seed, spoilt_lengths(b, w.seed));
-    judged(counted(w, tried.number), tried.good)
+    let b = spoil::spoilt(w.bench, w.seed);
+    let lent = odd_lengths(right_lengths(b), w.seed);
+    counted(w, call::try_call(b, w.seed, lent))
 }
 
 fn spoilt_hop(w: World) -> World {
-    let b = spoilt(w.bench, w.seed);
-    let tried = hop::try_hop(b, w.seed, spoilt_lengths(b, w.seed));
-    let at = std::num::wrapping_add_u64(tried.number, 6);
-    judged(counted(w, at), tried.good)
+    let b = spoil::spoilt(w.bench, w.seed);
+    let lent = odd_lengths(right_lengths(b), w.seed);
+    counted(w, hop::try_hop(b, w.seed, lent))
 }
 
 // ---- all
 
 fn turn(w: World) -> World {
     let f = draw::below(w.seed, 170, 16);
+    let b = w.bench;
     if f == 0 {
-        return make(w);
+        return own(w, chain::try_making(b, w.seed));
     }
     if f < 5 {
         return own_call(w);
@@ -156,7 +98,7 @@ fn turn(w: World) -> World {
         return full_call(w);
     }
     if f < 9 {
-        return own_hop(w);
+        return own(w, hop::try_hop(b, w.seed, right_lengths(b)));
     }
     if f < 12 {
         return spoilt_call(w);
@@ -171,50 +113,11 @@ fn next(w: World) -> World {
 }
 
 fn fresh() -> World {
-    let spans = [0u64; 50];
-    let repairs = [0u64; 14];
-    let words = [0.0f64; 34];
     World {
         seed: 88172645463325252,
-        bench: making::first(spans, repairs, words),
-        counts: [0u64; 19],
-        changed: 0,
-        wrong: 0,
+        bench: chain::first(),
+        counts: [0u64; 21],
     }
-}
-
-fn line(name: &[u8], n: u64) {
-    io::write_all(STDOUT_FILENO, name);
-    io::print_decimal(STDOUT_FILENO, n);
-    io::write_all(STDOUT_FILENO, b"\n");
-}
-
-fn print_calls(w: World) {
-    line(b"call ready ", w.counts[0]);
-    line(b"call 4 ", w.counts[1]);
-    line(b"call 5 ", w.counts[2]);
-    line(b"call 6 ", w.counts[3]);
-    line(b"call 7 ", w.counts[4]);
-    line(b"call 8 ", w.counts[5]);
-}
-
-fn print_hops(w: World) {
-    line(b"hop nothing ", w.counts[6]);
-    line(b"hop no report ", w.counts[7]);
-    line(b"hop report ", w.counts[8]);
-    line(b"hop 4 ", w.counts[9]);
-    line(b"hop 5 ", w.counts[10]);
-    line(b"hop 7 ", w.counts[11]);
-    line(b"hop 9 ", w.counts[12]);
-}
-
-fn print_makings(w: World) {
-    line(b"making nothing ", w.counts[13]);
-    line(b"making 1 ", w.counts[14]);
-    line(b"making 2 ", w.counts[15]);
-    line(b"making 3 ", w.counts[16]);
-    line(b"making 4 ", w.counts[17]);
-    line(b"making made ", w.counts[18]);
 }
 
 fn run(turns: u64) -> World {
@@ -227,11 +130,55 @@ fn run(turns: u64) -> World {
     w
 }
 
+// A byte of a name, with the count in front of a line's end.
+fn print_byte(c: u8, count: u64) {
+    let text = [c];
+    if c == b'\n' {
+        io::print_decimal(STDOUT_FILENO, count);
+    }
+    io::write_all(STDOUT_FILENO, &text);
+}
+
+// The line that the byte behind this one is in.
+fn line_after(line: usize, c: u8) -> usize {
+    if c == b'\n' {
+        return line % 21 + 1;
+    }
+    line
+}
+
+// Each line of the names with its count, from this count on.
+fn print(names: &[u8], counts: &[u64; 21], from: usize) {
+    let mut line: usize = from;
+    let mut k: usize = 0;
+    while k < names.len() {
+        print_byte(names[k], counts[line % 21]);
+        line = line_after(line, names[k]);
+        k += 1;
+    }
+}
+
 fn main() {
     let w = run(24000);
-    print_makings(w);
-    print_calls(w);
-    print_hops(w);
-    line(b"refused, and not all as it was: ", w.changed);
-    line(b"on a fit state, and not document 01's answer: ", w.wrong);
+    let counts = w.counts;
+    print(
+        b"making nothing \nmaking 1 \nmaking 2 \nmaking 3 \nmaking 4 \nmaking made \n",
+        &counts,
+        0,
+    );
+    print(
+        b"call ready \ncall 4 \ncall 5 \ncall 6 \ncall 7 \ncall 8 \n",
+        &counts,
+        6,
+    );
+    print(
+        b"hop nothing \nhop no report \nhop report \nhop 4 \nhop 5 \nhop 7 \nhop 9 \n",
+        &counts,
+        12,
+    );
+    print(
+        b"refused, and not all as it was: \non a fit state, and not document 01's answer: \n",
+        &counts,
+        19,
+    );
 }

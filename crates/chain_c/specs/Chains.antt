@@ -11,8 +11,8 @@ use Rattle.iq.specs.declared.Calibration.the-variants.{Present, Absent}
 use Rattle.iq.specs.declared.IqCalibration.{IqCalibration}
 use Rattle.config.specs.declared.ConditioningConfig.{ConditioningConfig}
 use Rattle.config.specs.Config.{configOf}
-use Rattle.condition.specs.Making as making
-use Rattle.condition.specs.Making.{makingSaid}
+use Rattle.making.specs.Making as making
+use Rattle.making.specs.Making.{makingSaid}
 
 abbrev pub appliedIf : Bool → StageMode
 appliedIf on = cond on Apply Off

@@ -8,8 +8,8 @@ use lib.Ieee.{Float}
 use Rattle.iq.specs.declared.IqCalibration.{IqCalibration}
 use Rattle.config.specs.declared.ConditioningConfig.{ConditioningConfig}
 use Rattle.state.specs.declared.InputConditioner.{InputConditioner}
-use Rattle.condition.specs.Making.{freshState, madeWords}
-use Rattle.condition.specs.Calls.{Machine, machineOf, Said, refused, ready, Outcome, called}
+use Rattle.making.specs.Making.{freshState, madeWords}
+use Rattle.calls.specs.Calls.{Machine, machineOf, Said, refused, ready, Outcome, called}
 use Rattle.chain_c.specs.Chains.{appliedChain, saidOf, madeNumber}
 
 -- ---- a part of a list: n elements from a place on

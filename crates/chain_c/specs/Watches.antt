@@ -8,10 +8,10 @@ use lib.Ieee.{Float}
 use Rattle.rules.specs.Constants.{zeroF}
 use Rattle.config.specs.declared.ConditioningConfig.{ConditioningConfig}
 use Rattle.state.specs.declared.InputConditioner.{InputConditioner}
-use Rattle.condition.specs.declared.HopSaid.{HopSaid}
-use Rattle.condition.specs.declared.HopSaid.the-variants as hop
-use Rattle.condition.specs.Making.{freshState, madeWords}
-use Rattle.condition.specs.Hops.{Hopped, hopOf}
+use Rattle.hops.specs.declared.HopSaid.{HopSaid}
+use Rattle.hops.specs.declared.HopSaid.the-variants as hop
+use Rattle.making.specs.Making.{freshState, madeWords}
+use Rattle.hops.specs.Hops.{Hopped, hopOf}
 use Rattle.chain_c.specs.Chains.{saidOf, madeNumber}
 
 abbrev pub reportsIn : HopSaid → ℕ

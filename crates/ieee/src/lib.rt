@@ -122,7 +122,7 @@ fn shifted(m: u64, r: u64) -> u64
 }
 
 // The bits b without the last 29, rounded to the nearest, a tie to the even one.
-pub fn cut(b: u64) -> u64
+fn cut(b: u64) -> u64
     requires { ⌜ b + 2 ^ 28 < 2 ^ 64 ⌝ }
     ensures { λ c. ⌜ c ≡ cutOf b ⌝ }
 {

@@ -1,5 +1,5 @@
-pub mod Lists
-pub mod Selecting
-pub mod Signs
+pub mod Turns
 pub mod Limit
+pub mod Products
+pub mod Pairs
 pub mod Strength

@@ -13,7 +13,7 @@ use borrow.Author.Tests.{ltb-true, lt-ltb}
 use Rattle.rules.specs.Constants.{zeroF}
 use Rattle.rules.specs.Monitor.{Choice, nobody, channelAt, eligible, stronger, strongest}
 use Rattle.image.specs.Observe.{powerAt, EligibleFrom, strongerOf}
-use Rattle.image.proofs.Lists.{read-any}
+use Rattle.rules.specs.ListLaws.{read-any}
 
 eligible-by : (n k : ℕ) → 2 < k → k + 2 < n → 2 < (k - n / 2) + (n / 2 - k) → eligible n k ≡ true
 eligible-by n k a b c = rw (lt-ltb 2 k a, lt-ltb (k + 2) n b, lt-ltb 2 ((k - n / 2) + (n / 2 - k)) c)

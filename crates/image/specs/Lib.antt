@@ -1,6 +1,5 @@
 -- definitions
 pub mod Words
-pub mod Select
 pub mod Observe
 pub mod Hops
 -- laws

@@ -24,7 +24,9 @@ use Rattle.rules.specs.Lists.{at, upTo}
 use Rattle.rules.specs.SortLaws.{All}
 use Rattle.rules.specs.Refusals.{withinLimit, firstBeyondFrom}
 use Rattle.rules.specs.Monitor.{Hop, hopEnd, channel, mirrorOf, channelPower, channelProduct, total, powerSum, realSum, imagSum, windowStart, due, nextWindow, openWindow, windowLength, monitorWords}
-use Rattle.image.specs.Words.{wordLimit, sumFits, powerFits, allOf, wordsFit}
+use Rattle.rules.specs.Lists.{allOf}
+use Rattle.image.specs.Words.{wordLimit, sumFits, powerFits, wordsFit}
+use Rattle.rules.specs.Lists.{allOf}
 use Rattle.image.specs.WordsLaws.{powers-are, others-are}
 use Rattle.image.specs.ObserveLaws.{is-some, is-next}
 use Rattle.image.specs.Hops.{Accepted, InOrder, lastEnd, byRules}

@@ -1,15 +1,14 @@
 -- The monitor's lent words: n powers, n real and n imaginary product sums, n for sorting. A hop added to them, and number 5's tests. Definitions only.
-use mathlib.Core.Bool.{Bool, true, _&&_}
-use mathlib.Core.List.{List, [], _∷_}
-use Prim.Native.Nat.{ℕ, zero, suc, _+_, _*_, _/_, _%_, _^_}
-use lib.Dec.{leb}
+use mathlib.Core.Bool.{Bool, _&&_}
+use mathlib.Core.List.{List}
+use Prim.Native.Nat.{ℕ, zero, suc, _+_, _*_}
 use lib.ListN.{length, getD, set, take, drop}
 use lib.Ieee.{Float, nan, binary64, add, le, ofBits}
 use Rattle.ieee.specs.Plain.{signClear}
 use Rattle.complex.specs.Complex.{Complex, product, power, sampleOf}
 use Rattle.rules.specs.Constants.{zeroF}
 use Rattle.rules.specs.Guard.{magnitude}
-use Rattle.rules.specs.Lists.{at}
+use Rattle.rules.specs.Lists.{at, allOf}
 use Rattle.rules.specs.Monitor.{mirrorOf}
 
 -- x more in the word at i
@@ -35,12 +34,6 @@ unfoldable pub addedHop : List ℕ → List Float → ℕ → List Float
 addedHop xs ws zero = ws
 addedHop xs ws (suc k) = addedChannel xs (addedHop xs ws k) k
 
--- ---- number 7, by bits
-
--- both parts of a sample are at most the greatest f32 within 1e18, their signs aside
-unfoldable pub small : ℕ → Bool
-small w = leb (w % 2 ^ 31) 0x5d5e_0b6b && leb (w / 2 ^ 32 % 2 ^ 31) 0x5d5e_0b6b
-
 -- ---- number 5: 'a monitor word not within 1e60', 'a window or channel power with its sign bit set'
 
 -- 1e60
@@ -52,10 +45,6 @@ sumFits x = le (magnitude x) wordLimit
 
 unfoldable pub powerFits : Float → Bool
 powerFits x = signClear x && le (magnitude x) wordLimit
-
-unfoldable pub allOf : {A : Type 0} → (A → Bool) → List A → Bool
-allOf p [] = true
-allOf p (x ∷ xs) = p x && allOf p xs
 
 unfoldable pub wordsFit : ℕ → List Float → Bool
 wordsFit n ws = allOf powerFits (take n ws) && allOf sumFits (drop n ws)

@@ -15,7 +15,7 @@ use Rattle.rules.specs.SortLaws.{map-snoc}
 use Rattle.rules.specs.Monitor.{Hop, channel, mirrorOf, channelPower, channelProduct, total, powerSum, realSum, imagSum, monitorWords}
 use Rattle.image.specs.Words.{more, powerIn, productIn, addedTerms, addedHop}
 
-length-terms : (n : ℕ) (ws : List Float) (k : ℕ) (p : Float) (c : Complex) → length (addedTerms n ws k p c) ≡ length ws
+pub length-terms : (n : ℕ) (ws : List Float) (k : ℕ) (p : Float) (c : Complex) → length (addedTerms n ws k p c) ≡ length ws
 unfolding addedTerms
 length-terms n ws k p c = simp length-set
 

@@ -3,22 +3,15 @@
 
 ghost use mathlib.Core.Path.{_≡_};
 ghost use Prim.Native.Nat.{_+_, _-_, _*_, _/_, _≤_, _<_, _^_};
-ghost use mathlib.Core.Bool.{_&&_};
-ghost use lib.Dec.{T};
-ghost use lib.ListN.{length, getD, take, drop, replicate};
-ghost use mathlib.Core.List.{_++_};
-ghost use lib.Ieee.{nan, lt, binary64, fits};
-ghost use Rattle.ieee.specs.Plain.{signClear, Plain};
+ghost use lib.ListN.{length, replicate};
 ghost use Rattle.rules.specs.Constants.{zeroF};
-ghost use Rattle.rules.specs.Sort.{insert, sort};
-ghost use Rattle.rules.specs.SortLaws.{All};
-ghost use Rattle.rules.specs.Monitor.{channelAt, mirrorOf, strongest, floorOf, coherenceOf, suspicious, windowLength};
+ghost use Rattle.rules.specs.Lists.{allOf};
+ghost use Rattle.rules.specs.Monitor.{channelAt, mirrorOf, strongest, coherenceOf, suspicious, windowLength};
 ghost use Rattle.complex.specs.Complex.{sampleOf};
 ghost use Rattle.complex.specs.View.{view64};
 ghost use Rattle.complex.specs.Words.{NoNan};
 ghost use Rattle.rules.specs.Refusals.{firstBeyondFrom};
-ghost use Rattle.image.specs.Words.{powerIn, productIn, addedTerms, addedChannel, addedHop, small, powerFits, sumFits, allOf, wordsFit};
-ghost use Rattle.image.specs.Select.{belowOf, aboveOf, Window, Turning, Narrowed, Selected, leastAbove};
+ghost use Rattle.image.specs.Words.{powerIn, productIn, addedTerms, addedChannel, addedHop, sumFits, wordsFit};
 ghost use Rattle.image.specs.Observe.{Among, choice, powerAt, EligibleFrom, strongerOf, pairIn, reportIn, evidence, firstOr, full, fresh, acceptedOf, observed, said, hopSaid};
 use complex::Complex64;
 
@@ -74,22 +67,6 @@ struct Pair {
     coherence: f64,
 }
 
-// How many words are below one, and how many above.
-struct Sides {
-    below: usize,
-    above: usize,
-}
-
-// A sorted place is looked for: it is this place of the first count words, sorted. Their bits are
-// from low to high, and so many turns are left.
-struct Search {
-    count: usize,
-    place: usize,
-    low: u64,
-    high: u64,
-    left: u64,
-}
-
 // The channel that mirrors k, of n.
 fn mirror(n: usize, k: usize) -> usize
     requires { ⌜ k < n ⌝ }
@@ -99,48 +76,6 @@ fn mirror(n: usize, k: usize) -> usize
         return 0;
     }
     n - k
-}
-
-fn both(a: bool, b: bool) -> bool
-    ensures { λ r. ⌜ r ≡ (a && b) ⌝ }
-{
-    if a {
-        return b;
-    }
-    false
-}
-
-// Whether both parts of a sample are at most the greatest f32 within 1e18, by their bits.
-fn is_small(w: u64) -> bool
-    ensures { λ r. ⌜ r ≡ small w ⌝ }
-{
-    let re = w % 0x8000_0000;
-    let im = w / 0x1_0000_0000 % 0x8000_0000;
-    both(re <= 0x5d5e_0b6b, im <= 0x5d5e_0b6b)
-}
-
-// Whether all samples are.
-fn all_small(x: &[u64]) -> bool
-    ensures { λ r. ⌜ r ≡ allOf small (now (x .entry)) ⌝ }
-{
-    let mut good = true;
-    let mut k: usize = 0;
-    while k < x.len() {
-        good = both(is_small(x[k]), good);
-        k += 1;
-    }
-    good
-}
-
-// The first place of a sample with a part that is not within 1e18, and the number of samples if
-// there is none, which is nearly always so.
-fn first_beyond(x: &[u64]) -> usize
-    ensures { λ r. ⌜ r ≡ firstBeyondFrom 0 (now (x .entry)) ⌝ }
-{
-    if all_small(x) {
-        return x.len();
-    }
-    part_limit::first_beyond(x)
 }
 
 // Channel k's power, and its product with its mirror.
@@ -198,346 +133,37 @@ fn add_channel(words: &mut [f64], x: &[u64], k: usize)
     add_terms(words, x.len(), k, t);
 }
 
-// Adds a hop's channels.
+// Adds channel k and its mirror, which is another channel and has the same product.
+fn add_pair(words: &mut [f64], x: &[u64], k: usize)
+    requires { ⌜ (0 < k) × (k + k < length (now x)) ⌝ ∗ ⌜ length (now words) ≡ 4 * length (now x) ⌝ ∗ ⌜ length (now x) ≤ 2048 ⌝ ∗ ⌜ firstBeyondFrom 0 (now x) ≡ length (now x) ⌝ }
+    ensures { λ _. ⌜ now (words .exit) ≡ addedChannel (now (x .entry)) (addedChannel (now (x .entry)) (now (words .entry)) k) (length (now (x .entry)) - k) ⌝ }
+{
+    let n = x.len();
+    let m = n - k;
+    let t = terms_of(x, k);
+    let product = t.product;
+    let v = wide(x[m]);
+    let power = v.norm_sqr();
+    add_terms(words, n, k, t);
+    add_terms(words, n, m, Terms { power, product });
+}
+
+// Adds a hop's channels: the one that is its own mirror, then pairs, then the middle one, if there is.
 fn add_hop(words: &mut [f64], x: &[u64])
-    requires { ⌜ length (now words) ≡ 4 * length (now x) ⌝ ∗ ⌜ length (now x) ≤ 2048 ⌝ ∗ ⌜ firstBeyondFrom 0 (now x) ≡ length (now x) ⌝ }
+    requires { ⌜ length (now words) ≡ 4 * length (now x) ⌝ ∗ ⌜ length (now x) ≤ 2048 ⌝ ∗ ⌜ 0 < length (now x) ⌝ ∗ ⌜ firstBeyondFrom 0 (now x) ≡ length (now x) ⌝ }
     ensures { λ _. ⌜ now (words .exit) ≡ addedHop (now (x .entry)) (now (words .entry)) (length (now (x .entry))) ⌝ }
 {
-    let mut k: usize = 0;
-    while k < x.len() {
-        add_channel(words, x, k);
+    add_channel(words, x, 0);
+    let half = (x.len() + 1) / 2;
+    let mut k: usize = 1;
+    while k < half {
+        add_pair(words, x, k);
         k += 1;
     }
-}
-
-// Moves the word at k up to its place among those behind it, which are sorted.
-fn sink(part: &mut [f64], k: usize)
-    requires { ⌜ k < length (now part) ⌝ }
-    ensures { λ _. ⌜ now (part .exit) ≡ take k (now (part .entry)) ++ insert lt (getD (now (part .entry)) k nan) (drop (k + 1) (now (part .entry))) ⌝ }
-{
-    let a = part[k];
-    let mut i = k;
-    while i + 1 < part.len() && part[i + 1] < a {
-        part[i] = part[i + 1];
-        i += 1;
+    if x.len() < k + k {
+        return;
     }
-    part[i] = a;
-}
-
-// Sorts, ascending.
-pub fn sort_words(part: &mut [f64])
-    ensures { λ _. ⌜ now (part .exit) ≡ sort lt (now (part .entry)) ⌝ }
-{
-    let mut k = part.len();
-    while 0 < k {
-        k -= 1;
-        sink(part, k);
-    }
-}
-
-// The powers, over the sorting words.
-fn copy_powers(words: &mut [f64], n: usize)
-    requires { ⌜ length (now words) ≡ 4 * n ⌝ ∗ ⌜ n ≤ 2048 ⌝ }
-    ensures { λ _. ⌜ now (words .exit) ≡ take (3 * n) (now (words .entry)) ++ take n (now (words .entry)) ⌝ }
-{
-    let mut k: usize = 0;
-    while k < n {
-        let spare = 3 * n + k;
-        words[spare] = words[k];
-        k += 1;
-    }
-}
-
-// Half the sum of the two powers in the middle, from all of them sorted.
-fn sorted_floor(words: &mut [f64], n: usize) -> f64
-    requires { ⌜ length (now words) ≡ 4 * n ⌝ ∗ ⌜ n ≤ 2048 ⌝ ∗ ⌜ 0 < n ⌝ }
-    ensures { λ r. ⌜ r ≡ floorOf (take n (now (words .entry))) ⌝ }
-{
-    copy_powers(words, n);
-    let from = 3 * n;
-    sort_words(&mut words[from..]);
-    let low = from + (n - 1) / 2;
-    let high = from + n / 2;
-    (words[low] + words[high]) * 0.5
-}
-
-// Whether x is no NaN and its sign bit is clear.
-fn is_plain(x: f64) -> bool
-    ensures { λ r. ⌜ (r ≡ signClear x) × T (fits binary64 x) ⌝ }
-{
-    if x != x {
-        return false;
-    }
-    f64::to_bits(x) < 0x8000_0000_0000_0000
-}
-
-// Whether all are: then their order is total.
-fn all_plain(part: &[f64]) -> bool
-    ensures { λ r. ⌜ (r ≡ allOf signClear (now (part .entry))) × All (λ x. T (fits binary64 x)) (now (part .entry)) ⌝ }
-{
-    let mut good = true;
-    let mut k: usize = 0;
-    while k < part.len() {
-        good = both(is_plain(part[k]), good);
-        k += 1;
-    }
-    good
-}
-
-// How many words are below p, and how many above.
-fn count_sides(part: &[f64], p: f64) -> Sides
-    ensures { λ r. ⌜ (r .below ≡ length (belowOf p (now (part .entry)))) × (r .above ≡ length (aboveOf p (now (part .entry)))) ⌝ }
-{
-    let mut below: usize = 0;
-    let mut above: usize = 0;
-    let mut k: usize = 0;
-    while k < part.len() {
-        below += (part[k] < p) as usize;
-        above += (p < part[k]) as usize;
-        k += 1;
-    }
-    Sides { below, above }
-}
-
-// Moves the words below p to the front, in order, and counts them.
-fn keep_below(part: &mut [f64], p: f64) -> usize
-    ensures { λ r. ⌜ (r ≤ length (now (part .entry))) × (take r (now (part .exit)) ≡ belowOf p (now (part .entry))) ⌝ }
-{
-    let mut kept: usize = 0;
-    let mut k: usize = 0;
-    while k < part.len() {
-        let x = part[k];
-        part[kept] = x;
-        kept += (x < p) as usize;
-        k += 1;
-    }
-    kept
-}
-
-// Moves the words above p to the front.
-fn keep_above(part: &mut [f64], p: f64) -> usize
-    ensures { λ r. ⌜ (r ≤ length (now (part .entry))) × (take r (now (part .exit)) ≡ aboveOf p (now (part .entry))) ⌝ }
-{
-    let mut kept: usize = 0;
-    let mut k: usize = 0;
-    while k < part.len() {
-        let x = part[k];
-        part[kept] = x;
-        kept += (p < x) as usize;
-        k += 1;
-    }
-    kept
-}
-
-// The one in the middle.
-fn median(a: f64, b: f64, c: f64) -> f64
-    requires { ⌜ Plain binary64 a ⌝ ∗ ⌜ Plain binary64 b ⌝ ∗ ⌜ Plain binary64 c ⌝ }
-    ensures { λ r. ⌜ Plain binary64 r ⌝ }
-{
-    if a < b {
-        if b < c {
-            return b;
-        }
-        if a < c {
-            return c;
-        }
-        return a;
-    }
-    if a < c {
-        return a;
-    }
-    if b < c {
-        return c;
-    }
-    b
-}
-
-// A power to compare the words of a window with: any is right, and one in their middle is fast.
-// When this took too many turns, the bits that it can have are halved.
-fn pivot(part: &[f64], low: u64, high: u64, left: u64) -> f64
-    requires { ⌜ 0 < length (now part) ⌝ ∗ ⌜ All (Plain binary64) (now part) ⌝ }
-    ensures { λ r. ⌜ Plain binary64 r ⌝ }
-{
-    let middle = part.len() / 2;
-    if left <= 64 {
-        let p = ieee::from_bits64(low / 2 + high / 2);
-        if is_plain(p) {
-            return p;
-        }
-        return part[middle];
-    }
-    let first = part.len() / 4;
-    let last = middle + first;
-    median(part[first], part[middle], part[last])
-}
-
-// The place is among the words below p.
-fn search_below(part: &mut [f64], s: Search, p: f64) -> Search
-    requires { ⌜ Turning (now part) s p ⌝ ∗ ⌜ s .place < length (belowOf p (take (s .count) (now part))) ⌝ }
-    ensures { λ r. ⌜ Narrowed (now (part .entry)) s (now (part .exit)) r ⌝ }
-{
-    let m = s.count;
-    let count = keep_below(&mut part[..m], p);
-    Search {
-        count,
-        place: s.place,
-        low: s.low,
-        high: ieee::to_bits64(p),
-        left: s.left - 1,
-    }
-}
-
-// It is among those above p: so many are not.
-fn search_above(part: &mut [f64], s: Search, p: f64, passed: usize) -> Search
-    requires { ⌜ Turning (now part) s p ⌝ ∗ ⌜ passed + length (aboveOf p (take (s .count) (now part))) ≡ s .count ⌝ ∗ ⌜ passed ≤ s .place ⌝ }
-    ensures { λ r. ⌜ Narrowed (now (part .entry)) s (now (part .exit)) r ⌝ }
-{
-    let m = s.count;
-    let count = keep_above(&mut part[..m], p);
-    Search {
-        count,
-        place: s.place - passed,
-        low: ieee::to_bits64(p),
-        high: s.high,
-        left: s.left - 1,
-    }
-}
-
-// It is among those equal to p, and so is the next place if that is before passed.
-fn search_equal(part: &mut [f64], s: Search, p: f64, passed: usize) -> Search
-    requires { ⌜ Turning (now part) s p ⌝ ∗ ⌜ passed + length (aboveOf p (take (s .count) (now part))) ≡ s .count ⌝ ∗ ⌜ s .place < passed ⌝ ∗ ⌜ length (belowOf p (take (s .count) (now part))) ≤ s .place ⌝ }
-    ensures { λ r. ⌜ Narrowed (now (part .entry)) s (now (part .exit)) r ⌝ }
-{
-    part[0] = p;
-    part[1] = p;
-    if s.place + 1 < passed {
-        return Search {
-            count: 2,
-            place: 0,
-            low: s.low,
-            high: s.high,
-            left: s.left - 1,
-        };
-    }
-    Search {
-        count: 1,
-        place: 0,
-        low: s.low,
-        high: s.high,
-        left: s.left - 1,
-    }
-}
-
-fn turn(part: &mut [f64], s: Search) -> Search
-    requires { ⌜ Window (now part) s ⌝ ∗ ⌜ 1 < s .count ⌝ ∗ ⌜ 0 < s .left ⌝ }
-    ensures { λ r. ⌜ Narrowed (now (part .entry)) s (now (part .exit)) r ⌝ }
-{
-    let m = s.count;
-    let p = pivot(&part[..m], s.low, s.high, s.left);
-    let r = count_sides(&part[..m], p);
-    if s.place < r.below {
-        return search_below(part, s, p);
-    }
-    let passed = m - r.above;
-    if passed <= s.place {
-        return search_above(part, s, p, passed);
-    }
-    search_equal(part, s, p, passed)
-}
-
-// Sorts a part of the words, in front, that has the one at this place of all of them sorted. What
-// is left when the turns are used up are equals, which are sorted in one pass.
-fn select(part: &mut [f64], place: usize) -> Search
-    requires { ⌜ place < length (now part) ⌝ ∗ ⌜ All (Plain binary64) (now part) ⌝ }
-    ensures { λ r. ⌜ Selected (now (part .entry)) place (now (part .exit)) r ⌝ }
-{
-    let mut s = Search {
-        count: part.len(),
-        place,
-        low: 0,
-        high: 0x7ff0_0000_0000_0000,
-        left: 80,
-    };
-    while 16 < s.count && 0 < s.left {
-        s = turn(part, s);
-    }
-    let m = s.count;
-    sort_words(&mut part[..m]);
-    s
-}
-
-// The least word above p.
-fn least_above(part: &[f64], p: f64) -> f64
-    ensures { λ r. ⌜ r ≡ leastAbove p (now (part .entry)) ⌝ }
-{
-    let mut least: f64 = 0.0 / 0.0;
-    let mut k = part.len();
-    while 0 < k {
-        k -= 1;
-        let x = part[k];
-        if !(p < x) {
-            continue;
-        }
-        if least < x {
-            continue;
-        }
-        least = x;
-    }
-    least
-}
-
-// The power after the sorted place k, whose power is p.
-fn next_power(powers: &[f64], k: usize, p: f64) -> f64
-    requires { ⌜ k + 1 < length (now powers) ⌝ ∗ ⌜ All (Plain binary64) (now powers) ⌝ ∗ ⌜ p ≡ getD (sort lt (now powers)) k nan ⌝ }
-    ensures { λ r. ⌜ r ≡ getD (sort lt (now (powers .entry))) (k + 1) nan ⌝ }
-{
-    let r = count_sides(powers, p);
-    if k + 1 < powers.len() - r.above {
-        return p;
-    }
-    least_above(powers, p)
-}
-
-// The power at the upper of the two places in the middle, where p is that at the lower.
-fn upper_power(words: &[f64], n: usize, s: Search, p: f64) -> f64
-    requires { ⌜ (length (now words) ≡ 4 * n) × (n ≤ 2048) × (0 < n) ⌝ ∗ ⌜ All (Plain binary64) (take n (now words)) ⌝ ∗ ⌜ Selected (take n (now words)) ((n - 1) / 2) (drop (3 * n) (now words)) s ⌝ ∗ ⌜ p ≡ getD (sort lt (take n (now words))) ((n - 1) / 2) nan ⌝ }
-    ensures { λ r. ⌜ r ≡ getD (sort lt (take n (now (words .entry)))) (n / 2) nan ⌝ }
-{
-    let low = (n - 1) / 2;
-    if low == n / 2 {
-        return p;
-    }
-    let next = s.place + 1;
-    if next < s.count {
-        let at = 3 * n + next;
-        return words[at];
-    }
-    next_power(&words[..n], low, p)
-}
-
-// Half the sum of the two powers in the middle, from a selection.
-fn selected_floor(words: &mut [f64], n: usize) -> f64
-    requires { ⌜ length (now words) ≡ 4 * n ⌝ ∗ ⌜ n ≤ 2048 ⌝ ∗ ⌜ 0 < n ⌝ ∗ ⌜ All (Plain binary64) (take n (now words)) ⌝ }
-    ensures { λ r. ⌜ r ≡ floorOf (take n (now (words .entry))) ⌝ }
-{
-    copy_powers(words, n);
-    let from = 3 * n;
-    let s = select(&mut words[from..], (n - 1) / 2);
-    let at = from + s.place;
-    let p = words[at];
-    let q = upper_power(words, n, s, p);
-    (p + q) * 0.5
-}
-
-// The order of powers is total unless there is a NaN or a set sign bit.
-fn floor_power(words: &mut [f64], n: usize) -> f64
-    requires { ⌜ length (now words) ≡ 4 * n ⌝ ∗ ⌜ n ≤ 2048 ⌝ ∗ ⌜ 0 < n ⌝ }
-    ensures { λ r. ⌜ r ≡ floorOf (take n (now (words .entry))) ⌝ }
-{
-    if all_plain(&words[..n]) {
-        return selected_floor(words, n);
-    }
-    sorted_floor(words, n)
+    add_channel(words, x, k);
 }
 
 // The stronger of channels j and k, and k if they are equal.
@@ -662,7 +288,7 @@ fn report(words: &mut [f64], n: usize, first: u64, end: u64) -> Evidence
 {
     let best = strongest_channel(&words[..n]);
     let pair = pair_of(words, n, best);
-    let floor = floor_power(words, n);
+    let floor = floor::floor_power(words, n);
     Evidence {
         start: first,
         end,
@@ -706,31 +332,8 @@ fn is_due(fs: f64, first: u64, end: u64) -> bool
     length <= end - first
 }
 
-// Number 5's rules on the monitor's words: each is within 1e60, and no power has its sign bit set.
-fn powers_fit(powers: &[f64]) -> bool
-    ensures { λ r. ⌜ r ≡ allOf powerFits (now (powers .entry)) ⌝ }
-{
-    let mut k: usize = 0;
-    while k < powers.len() {
-        if power_fits(powers[k]) {
-            k += 1;
-        } else {
-            return false;
-        }
-    }
-    true
-}
-
-fn power_fits(x: f64) -> bool
-    ensures { λ r. ⌜ r ≡ powerFits x ⌝ }
-{
-    if 0x8000_0000_0000_0000 <= ieee::to_bits64(x) {
-        return false;
-    }
-    x <= 1.0e60
-}
-
-fn sum_fits(x: f64) -> bool
+// Whether a monitor word is within 1e60.
+fn word_fits(x: f64) -> bool
     ensures { λ r. ⌜ r ≡ sumFits x ⌝ }
 {
     if -1.0e60 <= x {
@@ -739,18 +342,17 @@ fn sum_fits(x: f64) -> bool
     false
 }
 
-fn sums_fit(sums: &[f64]) -> bool
-    ensures { λ r. ⌜ r ≡ allOf sumFits (now (sums .entry)) ⌝ }
+// Whether all words are.
+fn all_fit(words: &[f64]) -> bool
+    ensures { λ r. ⌜ r ≡ allOf sumFits (now (words .entry)) ⌝ }
 {
+    let mut others: usize = 0;
     let mut k: usize = 0;
-    while k < sums.len() {
-        if sum_fits(sums[k]) {
-            k += 1;
-        } else {
-            return false;
-        }
+    while k < words.len() {
+        others += !word_fits(words[k]) as usize;
+        k += 1;
     }
-    true
+    others == 0
 }
 
 impl ImageMonitor {
@@ -781,13 +383,14 @@ impl ImageMonitor {
         samples
     }
 
-    // Number 5's rules on the lent words of n channels.
+    // Number 5's rules on the lent words of n channels: each is within 1e60, and no power has its
+    // sign bit set.
     pub fn words_fit(words: &[f64], n: usize) -> bool
         requires { ⌜ n ≤ length (now words) ⌝ }
         ensures { λ r. ⌜ r ≡ wordsFit n (now (words .entry)) ⌝ }
     {
-        if powers_fit(&words[..n]) {
-            return sums_fit(&words[n..]);
+        if all_fit(words) {
+            return floor::all_plain(&words[..n]);
         }
         false
     }
@@ -851,7 +454,7 @@ impl ImageMonitor {
                 answer: HopAnswer::Early,
             };
         }
-        let place = first_beyond(x);
+        let place = part_limit::first_beyond(x);
         if place < x.len() {
             return Observed {
                 monitor: self,

@@ -3,8 +3,6 @@ pub mod Machine
 pub mod View
 pub mod Running
 pub mod Room
-pub mod Ordering
-pub mod Rising
 pub mod Circle
 pub mod State
 pub mod Sound

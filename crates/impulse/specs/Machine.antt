@@ -1,14 +1,14 @@
 -- The impulse stage as a machine that takes one sample after the other, for any setting: what the code's contracts say of each function. Definitions only.
 use mathlib.Core.Bool.{Bool, true, false, cond, _||_}
 use mathlib.Core.List.{List, [], _∷_, _++_}
-use Prim.Native.Nat.{ℕ, zero, suc, _+_, _-_, _/_, _%_, min}
+use Prim.Native.Nat.{ℕ, zero, suc, _+_, _-_, _/_, _%_}
 use lib.Dec.{ltb, eqb}
-use lib.ListN.{getD, set, take, drop, replicate}
-use lib.Ieee.{Float, nan, lt}
+use lib.ListN.{getD, set, replicate}
+use lib.Ieee.{Float, nan}
 use Rattle.complex.specs.Complex.{wordOf, sampleOf}
 use Rattle.rules.specs.Constants.{zeroF}
-use Rattle.rules.specs.Sort.{insert, remove}
-use Rattle.rules.specs.Impulse.{Setting, standard, width, lookahead, powerOf, mean, standsOut, pauses, mendable, between}
+use Rattle.rules.specs.Impulse.{Setting, standard, width, lookahead, powerOf, pauses, mendable, between}
+use Rattle.ordered.specs.Ordered.{ordered, flaggedBy}
 use Rattle.impulse.specs.declared.Run.{Run}
 use Rattle.impulse.specs.declared.Open.{Open}
 use Rattle.impulse.specs.declared.Open.the-variants.{Running, Closed}
@@ -33,16 +33,6 @@ fresh s =
       sorted = replicate (width s) zeroF;
       pending = replicate (lookahead s) 0;
     }
-
--- ---- the ordered window: an array of w powers, those of the window in front, ascending, and then zeros
-
--- power p comes as the i-th (from 0), and once the window is full the oldest, `old`, goes
-unfoldable pub ordered : ℕ → ℕ → Float → Float → List Float → List Float
-ordered w i old p l = cond (ltb i w) (insert lt p (take i l) ++ drop (i + 1) l) (insert lt p (take (w - 1) (remove lt old l)))
-
--- a sample of power p is flagged, when n samples have come: the strongest `trim` of the window are left out of the mean
-unfoldable pub flaggedBy : ℕ → ℕ → ℕ → List Float → Float → Bool
-flaggedBy w trim n sorted p = standsOut (mean (take (min n w - trim) sorted)) p
 
 -- ---- the gate
 

@@ -11,10 +11,9 @@ ghost use Rattle.rules.specs.Impulse.{standard, pauses};
 ghost use Rattle.impulse.specs.Machine.{settingOf, fresh, grown, arrived, entered, withRun, withNeighbour, closing, closingPending, ending, endingPending, judge, verdict, released, push};
 ghost use Rattle.impulse.specs.View.{suppressorOf, endedOf, judgedOf, pushedOf};
 ghost use Rattle.impulse.specs.Room.{runEnd, Room};
-ghost use Rattle.impulse.specs.Rising.{Rising};
+ghost use Rattle.ordered.specs.Rising.{Rising};
 
 mod mending;
-mod ordered;
 
 use log::Repair;
 
@@ -84,11 +83,11 @@ pub struct Pushed {
 
 impl ImpulseSuppressor {
     // The reference window, centred on the sample being judged.
-    pub const WINDOW: usize = 33;
+    pub const WINDOW: usize = ordered::WINDOW;
     // The samples on each side of it.
     pub const HALF_WINDOW: usize = 16;
     // The window's strongest powers, left out of the reference: room for two runs that are mended.
-    pub const TRIM: usize = 8;
+    pub const TRIM: usize = ordered::TRIM;
     // The longest run that is mended.
     pub const MAX_RUN: usize = 4;
     // How many samples an applying suppressor holds back: half a window, a run and its neighbour.

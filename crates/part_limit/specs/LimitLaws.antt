@@ -1,23 +1,33 @@
--- A size at most L is a number from -L to L; where a scan stands, and what place it finds. Assumes nothing.
+-- A size at most L is a number from -L to L; parts under a limit; where a scan stands, and what place it finds. Assumes nothing.
 use mathlib.Core.Path.{_≡_, refl, sym, ap, _∙_, subst}
 use mathlib.Core.Bool.{Bool, true, false, _&&_, cond}
 use mathlib.Core.List.{List, [], _∷_}
-use Prim.Native.Nat.{ℕ, zero, suc, _+_, _<_, _≤_, suc-le-suc}
+use Prim.Native.Nat.{ℕ, zero, suc, _+_, _/_, _%_, _^_, _<_, _≤_, suc-le-suc}
 use native.Mathlib.Nat.{add-zero, add-comm, le-of-suc-le-suc}
 use native.Mathlib.Numerals.{add-one}
 use native.Mathlib.Omega.{arith}
+use lib.Dec.{T, leb, leb→le}
 use lib.IntN.{pos}
 use lib.ListN.{length, drop, getD, drop-of-length-le}
 use lib.Ieee.{Float, le, neg, ofBits}
+use lib.Ieee.Fits.{and-l, and-r}
 use Rattle.rules.specs.Constants.{partLimit}
 use Rattle.rules.specs.SizeLaws.{size-le}
 use Rattle.rules.specs.Refusals.{withinLimit, firstBeyondFrom}
 use Rattle.part_limit.specs.Slices.{left}
-use Rattle.part_limit.specs.Limit.{limited}
+use Rattle.part_limit.specs.Limit.{limited, under}
 
 pub limited-is : (x : Float) → limited x ≡ (le (neg partLimit) x && le x partLimit)
 unfolding limited neg ofBits
 limited-is x = size-le x 3814697265625 (pos 18)
+
+-- both parts of a sample under a limit
+pub parts-under : (limit w : ℕ) → T (under limit w) → (w % 2 ^ 31 ≤ limit) × (w / 2 ^ 32 % 2 ^ 31 ≤ limit)
+unfolding under
+parts-under limit w t =
+    let a = leb (w % 2 ^ 31) limit in
+    let b = leb (w / 2 ^ 32 % 2 ^ 31) limit in
+    (leb→le (w % 2 ^ 31) limit (and-l a b t), leb→le (w / 2 ^ 32 % 2 ^ 31) limit (and-r a b t))
 
 -- ---- a scan that has come to k
 

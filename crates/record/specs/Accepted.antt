@@ -20,13 +20,13 @@ use Rattle.iq.specs.View.{settledOf}
 use Rattle.image.specs.declared.HopAnswer.the-variants as answer
 use Rattle.state.specs.declared.InputConditioner.{InputConditioner}
 use Rattle.state.specs.Fits.{stateFits}
-use Rattle.condition.specs.Calls.{Machine, newPart, callRefusal, Said, Outcome, taken, declined, called}
-use Rattle.condition.specs.CallTests.{callNumber, refusal-by}
-use Rattle.condition.specs.Hops.{saidHop, answerOf, isOffIq, watched, hopRefusal, hopOf, byNumber, followed}
-use Rattle.condition.specs.Hops as hops
-use Rattle.condition.specs.declared.HopSaid.the-variants as said
-use Rattle.condition.specs.HopLaws.{watched-by}
-use Rattle.condition.specs.HopKeeps.{isAnswered}
+use Rattle.calls.specs.Calls.{Machine, newPart, callRefusal, Said, Outcome, taken, declined, called}
+use Rattle.calls.specs.CallTests.{callNumber, refusal-by}
+use Rattle.hops.specs.Hops.{saidHop, answerOf, isOffIq, watched, hopRefusal, hopOf, byNumber, followed}
+use Rattle.hops.specs.Hops as hops
+use Rattle.hops.specs.declared.HopSaid.the-variants as said
+use Rattle.hops.specs.HopLaws.{watched-by}
+use Rattle.hops.specs.HopKeeps.{isAnswered}
 use Rattle.record.specs.Lists.{isReady}
 
 -- ---- calls

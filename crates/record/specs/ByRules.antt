@@ -24,16 +24,16 @@ use Rattle.dc.specs.Blocker.{blockerOf}
 use Rattle.iq.specs.View.{modeOf, settledOf}
 use Rattle.config.specs.declared.ConditioningConfig.{ConditioningConfig}
 use Rattle.config.specs.Config.{configOf}
-use Rattle.condition.specs.Making.{freshState, freshSettings}
-use Rattle.condition.specs.MakingLaws.{settled-again}
-use Rattle.condition.specs.Calls.{notesIn, impulseAfter, impulseOut, impulseTold, blockerAfterBy, blockedBy, handsOn, notesAfter, loggedAfter, process}
+use Rattle.making.specs.Making.{freshState, freshSettings}
+use Rattle.making.specs.MakingLaws.{settled-again}
+use Rattle.calls.specs.Calls.{notesIn, impulseAfter, impulseOut, impulseTold, blockerAfterBy, blockedBy, handsOn, notesAfter, loggedAfter, process}
 use Rattle.rules.specs.Monitor.{Hop, suspectedSpans}
 use Rattle.rules.specs.Chain as chain
-use Rattle.condition.specs.Hops.{isObserving}
+use Rattle.hops.specs.Hops.{isObserving}
 use borrow.Author.Tests.{ne-eqb}
 use Rattle.impulse_run.specs.Noted.{marksFor}
-use Rattle.condition.specs.Calls.{releasedSpan}
-use Rattle.condition.specs.Accepting.{hands-length}
+use Rattle.calls.specs.Calls.{releasedSpan}
+use Rattle.calls.specs.Accepting.{hands-length}
 use Rattle.record.specs.Rings.{dcMarks, iqMarks, markIf, ringAfter}
 use Rattle.record.specs.RingLaws.{call-rings, call-at}
 use Rattle.record.specs.Append.{others-none}

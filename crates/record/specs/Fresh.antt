@@ -24,9 +24,9 @@ use Rattle.iq.specs.View.{modeOf, settledOf}
 use Rattle.config.specs.declared.ConditioningConfig.{ConditioningConfig}
 use Rattle.config.specs.Config.{configOf}
 use Rattle.state.specs.declared.InputConditioner.{InputConditioner}
-use Rattle.condition.specs.Making.{freshState, Said, made, makingSaid, madeWords}
-use Rattle.condition.specs.Calls.{settingIn, Machine, machineOf, notesIn, impulseAfter, impulseOut, impulseTold, blockerAfterBy, blockedBy, handsOn, notesAfter, loggedAfter, process}
-use Rattle.condition.specs.Hops.{isObserving}
+use Rattle.making.specs.Making.{freshState, Said, made, makingSaid, madeWords}
+use Rattle.calls.specs.Calls.{settingIn, Machine, machineOf, notesIn, impulseAfter, impulseOut, impulseTold, blockerAfterBy, blockedBy, handsOn, notesAfter, loggedAfter, process}
+use Rattle.hops.specs.Hops.{isObserving}
 use Rattle.record.specs.Rings.{dcMarks, iqMarks, markIf, ringAfter}
 use Rattle.record.specs.RingLaws.{same-rings, call-rings, call-at}
 use Rattle.record.specs.Hopping.{withHops}

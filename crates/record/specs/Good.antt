@@ -27,9 +27,9 @@ use Rattle.image.specs.Words.{wordsFit}
 use Rattle.config.specs.declared.ConditioningConfig.{ConditioningConfig}
 use Rattle.config.specs.Config.{configOf}
 use Rattle.state.specs.Fits.{heldBy, applies, settingsFit, countsFit, gateFits, suppressorFits, blockerFits, coefficientFits, monitorFits, frontFits, impulseFits, logsFit, stagesFit, stateFits}
-use Rattle.condition.specs.Making.{freshState, freshSettings}
-use Rattle.condition.specs.MakingLaws.{settled-again}
-use Rattle.condition.specs.Calls.{impulseOut, process}
+use Rattle.making.specs.Making.{freshState, freshSettings}
+use Rattle.making.specs.MakingLaws.{settled-again}
+use Rattle.calls.specs.Calls.{impulseOut, process}
 use Rattle.record.specs.Append.{setting-same}
 use Rattle.record.specs.Hopping.{withHops, hopLogged}
 use Rattle.record.specs.Reaching.{freshMachine, hopMarks, core, chainAt, Reached}

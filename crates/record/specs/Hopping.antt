@@ -15,9 +15,9 @@ use Rattle.image.specs.declared.ImageMonitor.{ImageMonitor}
 use Rattle.impulse_run.specs.Noted.{marksFor, Rings}
 use Rattle.impulse_run.specs.NotedRings.{marked-rings, noted-repairs, noted-long}
 use Rattle.iq.specs.View.{modeOf, settledOf}
-use Rattle.condition.specs.Calls.{Machine, notesIn, impulseAfter, impulseOut, impulseTold, releasedSpan, notesAfter, loggedAfter, process, handsOn}
+use Rattle.calls.specs.Calls.{Machine, notesIn, impulseAfter, impulseOut, impulseTold, releasedSpan, notesAfter, loggedAfter, process, handsOn}
 use Rattle.state.specs.declared.InputConditioner.{InputConditioner}
-use Rattle.condition.specs.Hops.{uncertain, withMonitor, isObserving}
+use Rattle.hops.specs.Hops.{uncertain, withMonitor, isObserving}
 use Rattle.record.specs.Rings.{dcMarks, iqMarks, markIf, ringAfter}
 use Rattle.record.specs.RingLaws.{same-rings, marked-at, call-rings, call-at}
 

@@ -16,11 +16,11 @@ use Rattle.image.specs.Observe as monitor
 use Rattle.config.specs.declared.ConditioningConfig.{ConditioningConfig}
 use Rattle.config.specs.Config.{configOf}
 use Rattle.state.specs.declared.InputConditioner.{InputConditioner}
-use Rattle.condition.specs.Making.{freshState, makingSaid, madeWords}
-use Rattle.condition.specs.Reading.{stateLevel}
-use Rattle.condition.specs.Calls.{Machine, machineOf, newPart, Said, refused, ready, Outcome, called}
-use Rattle.condition.specs.Hops.{saidHop, Hopped, hopOf}
-use Rattle.condition.specs.HopKeeps.{isAnswered}
+use Rattle.making.specs.Making.{freshState, makingSaid, madeWords}
+use Rattle.reading.specs.Reading.{stateLevel}
+use Rattle.calls.specs.Calls.{Machine, machineOf, newPart, Said, refused, ready, Outcome, called}
+use Rattle.hops.specs.Hops.{saidHop, Hopped, hopOf}
+use Rattle.hops.specs.HopKeeps.{isAnswered}
 use Rattle.undo.specs.Undoing as undo
 use Rattle.undo.specs.Undoing.{undoOf}
 

@@ -13,7 +13,7 @@ use Rattle.config.specs.declared.ConditioningConfig.{ConditioningConfig}
 use Rattle.config.specs.Config.{configOf, allOff, settingRefusal, refusal}
 use Rattle.config.specs.ConfigLaws.{Limits, setting-limits}
 use Rattle.state.specs.Blocks.{block-some}
-use Rattle.condition.specs.Making.{nothing, made, isMade, numbered, makingSaid}
+use Rattle.making.specs.Making.{nothing, made, isMade, numbered, makingSaid}
 
 pub record Fit (g : ConditioningConfig) : Type 0 where
   pub setting : settingRefusal (g .fs) (g .n) (g .spans) (g .repairs) ≡ 0

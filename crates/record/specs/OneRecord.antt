@@ -21,7 +21,7 @@ use Rattle.part_limit.specs.Limit.{returned}
 use Rattle.impulse.specs.Stage.{Usable}
 use Rattle.dc.specs.declared.DcBlocker.{DcBlocker}
 use Rattle.dc.specs.Blocker.{blockerOf}
-use Rattle.iq.specs.Maps.{unchanged}
+use Rattle.correction.specs.Maps.{unchanged}
 use Rattle.iq.specs.View.{modeOf, calibratedOf}
 use Rattle.image.specs.Observe as image
 use Rattle.image.specs.Hops.{Accepted, InOrder, lastEnd}
@@ -30,17 +30,17 @@ use Rattle.config.specs.declared.ConditioningConfig.{ConditioningConfig}
 use Rattle.config.specs.Config.{configOf}
 use Rattle.state.specs.declared.InputConditioner.{InputConditioner}
 use Rattle.state.specs.Fits.{heldBy}
-use Rattle.condition.specs.Making.{freshState, freshSettings, Said, made, makingSaid}
-use Rattle.condition.specs.Calls as call
-use Rattle.condition.specs.Calls.{newPart, callRefusal, refused, ready, Outcome, taken, declined, called, process, handsOn}
-use Rattle.condition.specs.CallTests.{callNumber, refusal-by, taken-by}
-use Rattle.condition.specs.Accepting.{hands-length}
-use Rattle.condition.specs.Hops as hop
+use Rattle.making.specs.Making.{freshState, freshSettings, Said, made, makingSaid}
+use Rattle.calls.specs.Calls as call
+use Rattle.calls.specs.Calls.{newPart, callRefusal, refused, ready, Outcome, taken, declined, called, process, handsOn}
+use Rattle.calls.specs.CallTests.{callNumber, refusal-by, taken-by}
+use Rattle.calls.specs.Accepting.{hands-length}
+use Rattle.hops.specs.Hops as hop
 use Rattle.image.specs.declared.HopAnswer.{HopAnswer}
 use Rattle.image.specs.declared.HopAnswer.the-variants as answer
 use Rattle.rules.specs.Undo.{undoneAll}
-use Rattle.condition.specs.Hops.{isOffIq, saidHop, Hopped, hopOf, hopRefusal}
-use Rattle.condition.specs.HopLaws as hopLaws
+use Rattle.hops.specs.Hops.{isOffIq, saidHop, Hopped, hopOf, hopRefusal}
+use Rattle.hops.specs.HopLaws as hopLaws
 use Rattle.undo.specs.Undoing as undo
 use Rattle.undo.specs.Undoing.{undoOf, undoRefusal}
 use Rattle.undo.specs.UndoLaws.{chain-made, made-length, chain-accepted, chain-returns}

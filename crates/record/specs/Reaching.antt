@@ -27,19 +27,19 @@ use Rattle.config.specs.Config.{configOf}
 use Rattle.rules.specs.Refusals.{badStart}
 use Rattle.state.specs.declared.Settings.{Settings}
 use Rattle.state.specs.declared.InputConditioner.{InputConditioner}
-use Rattle.condition.specs.Making.{freshState, freshSettings}
-use Rattle.condition.specs.MakingLaws.{settled-again}
-use Rattle.condition.specs.Calls.{Machine, machineOf, notesIn, newPart, callRefusal, Said, refused, ready, Outcome, taken, called, process, handsOn}
-use Rattle.condition.specs.Hops as hops
-use Rattle.condition.specs.Hops.{isObserving, isOffIq, uncertain, saidHop, Hopped}
+use Rattle.making.specs.Making.{freshState, freshSettings}
+use Rattle.making.specs.MakingLaws.{settled-again}
+use Rattle.calls.specs.Calls.{Machine, machineOf, notesIn, newPart, callRefusal, Said, refused, ready, Outcome, taken, called, process, handsOn}
+use Rattle.hops.specs.Hops as hops
+use Rattle.hops.specs.Hops.{isObserving, isOffIq, uncertain, saidHop, Hopped}
 use Rattle.record.specs.Lists.{Given, own, other, handed, kept, Operation, call, hop, Chain, afterCall, callOn, afterHop, hopOn, next, run, IsOwn, isReady, Found, Proper}
 use Rattle.record.specs.RingLaws.{call-rings}
 use Rattle.record.specs.Append.{process-append, hands-append}
 use Rattle.record.specs.Hopping.{withHops, process-hops, hands-hops}
 use Rattle.record.specs.Accepted.{ready-none, refused-keeps, passes, usable-append, scan-usable, Taken, answered-taken}
-use Rattle.condition.specs.CallTests.{taken-by}
-use Rattle.condition.specs.HopLaws.{watched-by, hop-taken}
-use Rattle.condition.specs.HopKeeps.{isAnswered, Keeps, hop-keeps}
+use Rattle.calls.specs.CallTests.{taken-by}
+use Rattle.hops.specs.HopLaws.{watched-by, hop-taken}
+use Rattle.hops.specs.HopKeeps.{isAnswered, Keeps, hop-keeps}
 
 -- ---- a fresh chain
 

@@ -6,10 +6,8 @@ ghost use lib.ListN.{length};
 ghost use Rattle.io.specs.Counts.{Counts};
 use libc::STDIN_FILENO;
 use libc::STDOUT_FILENO;
-use recording::StartAnswer;
-use recording::Started;
-use recording::feeding;
-use recording::report;
+use starting::StartAnswer;
+use starting::Started;
 use state::InputConditioner;
 
 // Blocks to feed at most. Each full one has 2^13 samples, and the chain refuses what comes after 2^48.
@@ -133,7 +131,7 @@ fn write_played(played: Played, spans: &[u64], text: &mut [u8]) -> usize
     ensures { λ r. ⌜ r ≤ length (now (text .entry)) ⌝ }
 {
     if played.number != 0 {
-        return report::write_refusal(played.number, text);
+        return notices::write_refusal(played.number, text);
     }
     let state = played.state;
     report::write_report(state, spans, played.replaced, text)
@@ -154,12 +152,12 @@ fn answer(
 {
     let state = started.state;
     let said = started.answer;
-    let number = feeding::start_number(said);
+    let number = starting::start_number(said);
     if number != 0 {
-        return report::write_refusal(number, text);
+        return notices::write_refusal(number, text);
     }
     if let StartAnswer::Off = said {
-        return report::write_off(text);
+        return notices::write_off(text);
     }
     let first = Played {
         state,
@@ -185,7 +183,7 @@ fn main() {
     let mut words = monitor_store();
     let known = io::read_full(STDIN_FILENO, &mut head);
     let size = io::read_full(STDIN_FILENO, &mut bytes);
-    let started = feeding::start(
+    let started = starting::start(
         &head[..known],
         &bytes[..size],
         &mut spans,

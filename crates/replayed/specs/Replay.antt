@@ -5,13 +5,15 @@ use Prim.Native.Nat.{ℕ, _+_, _≤_, _<_}
 use lib.ListN.{length}
 use lib.Ieee.{Float}
 use Rattle.rules.specs.Guard.{unusable}
-use Rattle.condition.specs.Making as making
-use Rattle.condition.specs.Making.{nothing, made, madeWords}
-use Rattle.condition.specs.Calls.{Machine, machineOf, Said, refused, ready, Outcome}
+use Rattle.making.specs.Making as making
+use Rattle.making.specs.Making.{nothing, made, madeWords}
+use Rattle.calls.specs.Calls.{Machine, machineOf, Said, refused, ready, Outcome}
 use Rattle.recording.specs.Format.{headerSize, wordsIn}
-use Rattle.recording.specs.Feeding.{startSaid, startState, newWords, fed, callNumber}
-use Rattle.recording.specs.Report.{reportText, refusedText, offText}
-use Rattle.recording.specs.Shown.{reportIn}
+use Rattle.feeding.specs.Feeding.{newWords, fed, callNumber}
+use Rattle.starting.specs.Starting.{startSaid, startState}
+use Rattle.report.specs.Report.{reportText}
+use Rattle.notices.specs.Notices.{refusedText, offText}
+use Rattle.report.specs.Shown.{reportIn}
 
 -- a block of bytes, and the store of samples that it is read into, whatever stands there
 pub record Block : Type 0 where

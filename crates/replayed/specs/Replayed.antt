@@ -27,11 +27,11 @@ use Rattle.iq.specs.View.{modeOf, calibratedOf, settledOf}
 use Rattle.config.specs.declared.ConditioningConfig.{ConditioningConfig}
 use Rattle.config.specs.Config.{configOf, allOff, refusal}
 use Rattle.state.specs.FitsLaws.{state-groups}
-use Rattle.condition.specs.Making as making
-use Rattle.condition.specs.Making.{freshState, freshSettings, nothing, made, makingSaid, madeWords, numbered}
-use Rattle.condition.specs.Calls.{Machine, machineOf, Said, newPart, Outcome, process, taken, called, refused, ready}
-use Rattle.condition.specs.CallTests.{taken-by, declined-by}
-use Rattle.condition.specs.Reading.{storeFits, readable, spansIn, stateLevel}
+use Rattle.making.specs.Making as making
+use Rattle.making.specs.Making.{freshState, freshSettings, nothing, made, makingSaid, madeWords, numbered}
+use Rattle.calls.specs.Calls.{Machine, machineOf, Said, newPart, Outcome, process, taken, called, refused, ready}
+use Rattle.calls.specs.CallTests.{taken-by, declined-by}
+use Rattle.reading.specs.Reading.{storeFits, readable, spansIn, stateLevel}
 use Rattle.part_limit.specs.Limit.{returned}
 use Rattle.record.specs.Lists.{Chain, madeChain, ByRules}
 use Rattle.record.specs.Made.{Fit, made-fit}
@@ -43,9 +43,11 @@ use Rattle.record.specs.OneRecord.{at-rules, at-few, spans-long, call-accepted,
 use Rattle.recording.specs.Format.{markFits, modesFit, headerFits, headerSize, configIn, modeBy, wordsIn, samplesIn, startRefusal, inputRefusal, unlessRefused}
 use Rattle.recording.specs.FormatLaws.{words-many}
 use Rattle.recording.specs.Header.{modeFrom, calibrationFrom, configFrom}
-use Rattle.recording.specs.Feeding.{idle, startSaid, startState, heldIn, newMany, newWords, slice, fed, callNumber}
-use Rattle.recording.specs.Report.{Ring, Report, ringsOf, ringBy, reportText, refusedText, offText, reportBy, textUnless, playedText, printed}
-use Rattle.recording.specs.Shown.{shownSpans, shownRing, reportIn}
+use Rattle.feeding.specs.Feeding.{heldIn, newMany, newWords, slice, fed, callNumber}
+use Rattle.starting.specs.Starting.{idle, startSaid, startState}
+use Rattle.report.specs.Report.{Ring, Report, ringsOf, ringBy, reportText, reportBy, textUnless, playedText, printed}
+use Rattle.notices.specs.Notices.{refusedText, offText}
+use Rattle.report.specs.Shown.{shownSpans, shownRing, reportIn}
 use Rattle.replayed.specs.BlockLaws.{words-append, no-words, same-fits, same-config, behind-header, guarded-append, guarded-count, unusable-append, guarded-usable}
 use Rattle.replayed.specs.Replay.{Block, joined, firstBytes, afterCall, played, answeredBy, replayed, Fits, Read}
 

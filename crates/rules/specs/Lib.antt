@@ -26,5 +26,4 @@ pub mod EventLaws
 -- closed cases
 pub mod ByFlags
 pub mod Computing
-pub mod BenchMarks
 pub mod Cases

@@ -1,12 +1,17 @@
 -- Laws of lists by an index. Assumes nothing.
-use mathlib.Core.Path.{_≡_, refl, ap, _∙_}
+use mathlib.Core.Path.{_≡_, refl, sym, ap, _∙_}
+use mathlib.Core.Bool.{Bool, true, false, not, _&&_}
 use mathlib.Core.List.{List, [], _∷_, _++_, map}
-use Prim.Native.Nat.{ℕ, zero, suc, _<_}
+use Prim.Native.Nat.{ℕ, zero, suc, _+_, _≤_, _<_}
 use native.Mathlib.Decide.{ℕ-discrete}
 use native.Mathlib.Omega.{arith}
-use lib.ListN.{length, getD, length-append, List·getD-append}
-use lib.Seq.{getD-at}
-use Rattle.rules.specs.Lists.{upTo}
+use native.Mathlib.Numerals.{add-one}
+use lib.Dec.{eqb}
+use borrow.Author.Tests.{ne-eqb}
+use mir.Val.{boolByte}
+use lib.ListN.{length, getD, drop, length-append, drop-of-length-le, List·getD-append}
+use lib.Seq.{getD-at, drop-cons}
+use Rattle.rules.specs.Lists.{upTo, allOf}
 
 pub length-upTo : {A : Type 0} (f : ℕ → A) (n : ℕ) → length (upTo f n) ≡ n
 unfolding upTo
@@ -30,3 +35,48 @@ pub upTo-same : {A : Type 0} (f g : ℕ → A) (n : ℕ) → ((i : ℕ) → i < 
 unfolding upTo
 upTo-same f g zero h = refl
 upTo-same f g (suc n) h = λ k. upTo-same f g n (λ i l. h i (omega arith)) k ++ (h n (omega arith) k ∷ [])
+
+-- a read within the list does not turn on what stands for a place past its end
+pub read-any : {A : Type 0} (l : List A) (k : ℕ) (d e : A) → k < length l → getD l k d ≡ getD l k e
+read-any [] k d e h = absurd (omega arith)
+read-any (x ∷ l) zero d e h = refl
+read-any (x ∷ l) (suc k) d e h = read-any l k d e (omega arith)
+
+-- ---- a loop that tests every element: good tells of those before k
+
+all-done : {A : Type 0} (p : A → Bool) (l : List A) (k : ℕ) → length l ≤ k → true ≡ allOf p (drop k l)
+unfolding allOf
+all-done p l k h = sym (ap (allOf p) (drop-of-length-le l {i = k} h))
+
+pub good-next : {A : Type 0} (p : A → Bool) (d : A) (l : List A) (k : ℕ) (good here : Bool) → k < length l → here ≡ p (getD l k d) → (good && allOf p (drop k l)) ≡ allOf p l → ((here && good) && allOf p (drop (k + 1) l)) ≡ allOf p l
+unfolding allOf
+good-next {A = A} p d l k good here h e i =
+    ap (λ (b : Bool). (b && good) && allOf p (drop (k + 1) l)) e
+    ∙ swap (p (getD l k d)) good (allOf p (drop (k + 1) l))
+    ∙ ap (λ (m : List A). good && allOf p m) (sym (drop-cons l k d h ∙ ap (λ (j : ℕ). getD l k d ∷ drop j l) (sym (add-one k))))
+    ∙ i
+  where
+    swap : (a b c : Bool) → ((a && b) && c) ≡ (b && (a && c))
+    swap true b c = refl
+    swap false true c = refl
+    swap false false c = refl
+
+pub good-done : {A : Type 0} (p : A → Bool) (l : List A) (k : ℕ) (good : Bool) → length l ≤ k → (good && allOf p (drop k l)) ≡ allOf p l → good ≡ allOf p l
+unfolding allOf
+good-done p l k good h i = sym (unit good) ∙ ap (λ (b : Bool). good && b) (all-done p l k h) ∙ i
+  where
+    unit : (b : Bool) → (b && true) ≡ b
+    unit true = refl
+    unit false = refl
+
+-- by how many before k do not pass
+pub none-next : {A : Type 0} (p : A → Bool) (d : A) (l : List A) (k others : ℕ) (here : Bool) → k < length l → here ≡ p (getD l k d) → (eqb others 0 && allOf p (drop k l)) ≡ allOf p l → (eqb (others + boolByte (not here)) 0 && allOf p (drop (k + 1) l)) ≡ allOf p l
+none-next p d l k others here h e i = ap (λ (b : Bool). b && allOf p (drop (k + 1) l)) (one here) ∙ good-next p d l k (eqb others 0) here h e i
+  where
+    one : (b : Bool) → eqb (others + boolByte (not b)) 0 ≡ (b && eqb others 0)
+    one true = ap (λ (m : ℕ). eqb m 0) (let z : others + 0 ≡ others = omega arith in z)
+    one false = ne-eqb (others + 1) 0 (λ q. omega arith)
+
+pub bit : (b : Bool) → boolByte b ≤ 1
+bit true = omega arith
+bit false = omega arith

@@ -1,5 +1,5 @@
 -- Lists by an index. Definitions only.
-use mathlib.Core.Bool.{Bool, cond}
+use mathlib.Core.Bool.{Bool, true, _&&_, cond}
 use mathlib.Core.List.{List, [], _∷_, _++_}
 use Prim.Native.Nat.{ℕ, zero, suc, _+_}
 use lib.ListN.{getD}
@@ -21,3 +21,8 @@ count F a (suc n) = indicator (F (a + n)) + count F a n
 -- element k of a list of numbers, and 0 past its end
 abbrev pub at : List ℕ → ℕ → ℕ
 at xs k = getD xs k 0
+
+-- every element passes a test
+unfoldable pub allOf : {A : Type 0} → (A → Bool) → List A → Bool
+allOf p [] = true
+allOf p (x ∷ xs) = p x && allOf p xs

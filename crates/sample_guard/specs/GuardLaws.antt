@@ -1,20 +1,23 @@
 -- Usable by the bit patterns; where a scan stands; guarding word by word. Assumes nothing.
-use mathlib.Core.Path.{_≡_, refl, ap, sym, _∙_}
+use mathlib.Core.Path.{_≡_, refl, ap, sym, _∙_, subst}
 use mathlib.Core.Bool.{Bool, true, false, not, cond, _&&_}
 use mathlib.Core.List.{List, [], _∷_, _++_, map, append-assoc, append-nil}
 use Prim.Native.Nat.{ℕ, suc, _+_, _/_, _%_, _^_, _≤_, _<_}
 use native.Mathlib.Numerals.{add-one}
 use native.Mathlib.Omega.{arith}
-use borrow.Author.Tests.{ltb-false}
-use lib.Dec.{ltb, leb}
+use borrow.Author.Tests.{ltb-false, le-leb, lt-leb}
+use lib.Dec.{T, ltb, leb}
 use lib.IntN.{pos}
 use lib.ListN.{length, drop, take, set, drop-of-length-le, length-map, length-set}
 use lib.Seq.{drop-cons, take-suc-set, drop-set-lt, take-all}
-use lib.Ieee.{fin, binary32, ofBits, toBits, le, fits}
+use lib.Ieee.{fin, binary32, ofFields, ofBits, toBits, le, fits}
+use lib.Ieee.Bits.{is-true}
+use lib.Ieee.Fits.{and-l, and-r}
 use Rattle.complex.specs.Complex.{sampleOf}
 use Rattle.rules.specs.Constants.{usableLimit}
 use Rattle.rules.specs.Guard.{magnitude, usablePart, usable, firstUnusableFrom, guarded, unusable}
-use Rattle.rules.specs.Lists.{at, indicator}
+use Rattle.rules.specs.Lists.{at, indicator, allOf}
+use Rattle.part_limit.specs.Limit.{under}
 use Rattle.sample_guard.specs.declared.Found.the-variants.{At, Nothing}
 use Rattle.sample_guard.specs.Found.{found, placeIn, guardedWord}
 use Rattle.sample_guard.specs.Patterns.{size-pattern}
@@ -29,20 +32,33 @@ limit-pattern : toBits binary32 (fin false 2910383 (pos 35)) ≡ 0x5bb1_a2bc
 unfolding toBits
 limit-pattern = refl
 
-part-pattern : (b : ℕ) → b < 2 ^ 32 → usablePart (ofBits binary32 b) ≡ leb (b % 2 ^ 31) 0x5bb1_a2bc
+in-32 : (b : ℕ) → b < 2 ^ 32 → usablePart (ofBits binary32 b) ≡ leb (b % 2 ^ 31) 0x5bb1_a2bc
 unfolding usablePart fits
-part-pattern b h =
+in-32 b h =
     ap (le (magnitude (ofBits binary32 b))) limit-is
     ∙ size-pattern 2910383 (pos 35) tt (rw limit-pattern (omega arith)) b h
     ∙ ap (leb (b % 2 ^ 31)) limit-pattern
 
+-- of the bits from the sign on it counts only whether there are any
+part-pattern : (b : ℕ) → usablePart (ofBits binary32 b) ≡ leb (b % 2 ^ 31) 0x5bb1_a2bc
+unfolding ofBits
+part-pattern b = go (leb (2 ^ 31) b) refl
+  where
+    by : (d : ℕ) → d < 2 ^ 32 → leb (2 ^ 31) b ≡ leb (2 ^ 31) d → b % 2 ^ 31 ≡ d % 2 ^ 31 → usablePart (ofBits binary32 b) ≡ leb (b % 2 ^ 31) 0x5bb1_a2bc
+    by d h s e =
+        let t : b % 2 ^ 23 ≡ d % 2 ^ 23 = omega arith in
+        (λ i. usablePart (ofFields binary32 (s i) (e i / 2 ^ 23) (t i))) ∙ in-32 d h ∙ ap (λ (n : ℕ). leb n 0x5bb1_a2bc) (sym e)
+
+    go : (s : Bool) → leb (2 ^ 31) b ≡ s → usablePart (ofBits binary32 b) ≡ leb (b % 2 ^ 31) 0x5bb1_a2bc
+    go true s = by (b % 2 ^ 31 + 2 ^ 31) (omega arith) (s ∙ sym (le-leb (2 ^ 31) (b % 2 ^ 31 + 2 ^ 31) (omega arith))) (omega arith)
+    go false s = by (b % 2 ^ 31) (omega arith) (s ∙ sym (lt-leb (2 ^ 31) (b % 2 ^ 31) (omega arith))) (omega arith)
+
 -- A sample is usable exactly if the patterns of its parts, without their signs, are up to the limit's.
-pub usable-pattern : (w : ℕ) → w < 2 ^ 64 → usable w ≡ (leb (w % 2 ^ 31) 0x5bb1_a2bc && leb (w / 2 ^ 32 % 2 ^ 31) 0x5bb1_a2bc)
-unfolding usable sampleOf
-usable-pattern w h =
-    let re = part-pattern (w % 2 ^ 32) (omega arith) ∙ ap (λ (n : ℕ). leb n 0x5bb1_a2bc) (let q : w % 2 ^ 32 % 2 ^ 31 ≡ w % 2 ^ 31 = omega arith in q) in
-    let im = part-pattern (w / 2 ^ 32) (omega arith) in
-    λ i. re i && im i
+pub usable-pattern : (w : ℕ) → usable w ≡ under 0x5bb1_a2bc w
+unfolding usable sampleOf under
+usable-pattern w =
+    let re = part-pattern (w % 2 ^ 32) ∙ ap (λ (n : ℕ). leb n 0x5bb1_a2bc) (let q : w % 2 ^ 32 % 2 ^ 31 ≡ w % 2 ^ 31 = omega arith in q) in
+    λ i. re i && part-pattern (w / 2 ^ 32) i
 
 -- ---- a place
 
@@ -67,6 +83,18 @@ scan-stop xs k h u = rw (drop-cons xs k 0 h, u)
 pub scan-end : (xs : List ℕ) (k : ℕ) → length xs ≤ k → firstUnusableFrom k (drop k xs) ≡ k
 unfolding firstUnusableFrom
 scan-end xs k h = ap (firstUnusableFrom k) (drop-of-length-le xs h)
+
+-- among usable samples it finds nothing
+none-from : (k : ℕ) (xs : List ℕ) → T (allOf (under 0x5bb1_a2bc) xs) → firstUnusableFrom k xs ≡ k + length xs
+unfolding allOf firstUnusableFrom
+none-from k [] t = omega arith
+none-from k (x ∷ xs) t =
+    let a = under 0x5bb1_a2bc x in
+    let b = allOf (under 0x5bb1_a2bc) xs in
+    rw (usable-pattern x ∙ is-true a (and-l a b t)) (let e = none-from (suc k) xs (and-r a b t) in omega arith)
+
+pub none-found : (xs : List ℕ) → allOf (under 0x5bb1_a2bc) xs ≡ true → firstUnusableFrom 0 xs ≡ length xs
+none-found xs e = none-from 0 xs (subst T (sym e) tt) ∙ (let z : 0 + length xs ≡ length xs = omega arith in z)
 
 -- ---- guarding
 

@@ -2,9 +2,9 @@
 // sample is a word, the bits of re in its low half, of im in its high half.
 
 ghost use mathlib.Core.Path.{_≡_};
-ghost use mathlib.Core.Bool.{cond, not};
+ghost use mathlib.Core.Bool.{not};
 ghost use Prim.Native.Nat.{_<_};
-ghost use lib.ListN.{length, getD, set};
+ghost use lib.ListN.{length, set};
 ghost use Rattle.rules.specs.Constants.{usableLimit};
 ghost use Rattle.rules.specs.Guard.{usable, firstUnusableFrom, guarded, unusable};
 ghost use Rattle.rules.specs.Lists.{at, indicator};
@@ -39,10 +39,13 @@ pub fn is_usable(w: u64) -> bool
     w / 0x1_0000_0000 % 0x8000_0000 <= MAX_PATTERN
 }
 
-// The first sample that is not usable.
+// The first sample that is not usable. Nearly always there is none, which a test of all tells at once.
 pub fn first_unusable(samples: &[u64]) -> Found
     ensures { λ r. ⌜ r ≡ found (length (now (samples .entry))) (firstUnusableFrom 0 (now (samples .entry))) ⌝ }
 {
+    if part_limit::all_under(samples, MAX_PATTERN) {
+        return Found::Nothing;
+    }
     let mut place: usize = 0;
     while place < samples.len() {
         if !is_usable(samples[place]) {

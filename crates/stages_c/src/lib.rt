@@ -12,7 +12,7 @@ ghost use Rattle.rules.specs.Refusals.{validation};
 ghost use Rattle.part_limit.specs.Limit.{returned};
 ghost use Rattle.dc.specs.Undo.{undoReturned, undoWords};
 ghost use Rattle.iq.specs.View.{calibrationOf, modeOf, calibratedOf};
-ghost use Rattle.iq.specs.Undo as iqUndo;
+ghost use Rattle.correction.specs.Undo as iqUndo;
 ghost use Rattle.stages_c.specs.State.{blockerIn, kept, put, modeFrom, calibratedFrom, settledNumber, settledRho};
 use complex::Complex64;
 use dc::DcBlocker;
@@ -180,7 +180,7 @@ pub extern "C" fn iq_settle(
 pub extern "C" fn iq_process(re: f64, im: f64, samples: &mut [u64])
     ensures { λ r. ⌜ now (samples .exit) ≡ map (corrected (record { re = re; im = im })) (now (samples .entry)) ⌝ }
 {
-    iq::process(Iq::Correcting(Complex64 { re, im }), samples);
+    correction::process(Iq::Correcting(Complex64 { re, im }), samples);
 }
 
 #[no_mangle]
@@ -188,11 +188,11 @@ pub extern "C" fn iq_revert(samples: &mut [u64], re: f64, im: f64, place: &mut u
     ensures answer { λ r. ⌜ returned r (now (place .exit)) ≡ iqUndo.undoReturned (record { re = re; im = im }) (now (samples .entry)) ⌝ }
     ensures written { λ r. ⌜ now (samples .exit) ≡ iqUndo.undoWords (record { re = re; im = im }) (now (samples .entry)) ⌝ }
 {
-    let answer = iq::revert_iq(samples, Complex64 { re, im });
+    let answer = correction::revert_iq(samples, Complex64 { re, im });
     match answer {
-        iq::Reverted::Restored => 0,
-        iq::Reverted::Unfit => 10,
-        iq::Reverted::Beyond(k) => {
+        correction::Reverted::Restored => 0,
+        correction::Reverted::Unfit => 10,
+        correction::Reverted::Beyond(k) => {
             *place = k;
             7
         }

@@ -16,9 +16,9 @@ use Rattle.ieee.specs.Order.{lt-key, same-key, plain-equal}
 use Rattle.rules.specs.Constants.{zeroF}
 use Rattle.rules.specs.Sort.{insert, sort}
 use Rattle.rules.specs.SortLaws.{All, Ordered, is-not-below, insert-comm, sort-good}
-use Rattle.impulse.specs.Rising.{climbs, NotNegative, Held}
-use Rattle.impulse.proofs.Sizes.{abs, abs-plain, abs-key, clear, both-true, lt-size, no-size, equal-abs}
-use Rattle.impulse.proofs.Blends.{zero-held, zero-not-negative}
+use Rattle.ordered.specs.Rising.{climbs, NotNegative, Held}
+use Rattle.ordered.proofs.Sizes.{abs, abs-plain, abs-key, clear, both-true, lt-size, no-size, equal-abs}
+use Rattle.ordered.proofs.Blends.{zero-held, zero-not-negative}
 use Rattle.state.specs.Occurs.{occurs}
 
 -- ---- the test by places

@@ -13,7 +13,7 @@ ghost use Rattle.rules.specs.SortLaws.{All};
 ghost use Rattle.rules.specs.Refusals.{withinLimit};
 ghost use Rattle.part_limit.specs.Limit.{limited};
 ghost use Rattle.log.specs.Check.{allTo};
-ghost use Rattle.impulse.specs.Rising.{climbs, Held};
+ghost use Rattle.ordered.specs.Rising.{climbs, Held};
 ghost use Rattle.iq.specs.View.{settledOf};
 ghost use Rattle.state.specs.Occurs.{occurs};
 ghost use Rattle.state.specs.Fits.{counter, settingsFit, applies, heldBy, countsFit, endsAt, runFits, leftFits, gateFits, powerFits, sortedFits, suppressorFits, blockerFits, coefficientFits, begunFits, monitorFits, logsFit, stagesFit, frontFits, impulseFits, stateFits};
@@ -179,23 +179,20 @@ fn powers_fit(window: &[f32; 33]) -> bool
     requires { ⌜ length (now window) ≡ 33 ⌝ }
     ensures { λ r. ⌜ r ≡ allTo (λ k. powerFits (getD (now (window .entry)) k zeroF)) 33 ⌝ }
 {
-    for k in 0..33 {
-        if !power_fits(window[k]) {
-            return false;
-        }
+    let mut fit = true;
+    let mut k: usize = 0;
+    while k < 33 {
+        fit = fit & power_fits(window[k]);
+        k += 1;
     }
-    true
+    fit
 }
 
 fn pending_fits(pending: &[u64; 21]) -> bool
+    requires { ⌜ length (now pending) ≡ 21 ⌝ }
     ensures { λ r. ⌜ r ≡ allTo (λ k. withinLimit (getD (now (pending .entry)) k 0)) 21 ⌝ }
 {
-    for k in 0..21 {
-        if !part_limit::within(pending[k]) {
-            return false;
-        }
-    }
-    true
+    part_limit::first_beyond(pending) == 21
 }
 
 // The first n powers of the window, widened, over the first of these words.
@@ -231,7 +228,7 @@ fn sorts_to(n: usize, window: &[f32; 33], sorted: &[f32; 33]) -> bool
 {
     let mut wide = [0.0f64; 33];
     copy_powers(window, n, &mut wide);
-    image::sort_words(&mut wide[..n]);
+    floor::sort_words(&mut wide[..n]);
     same_powers(sorted, &wide)
 }
 

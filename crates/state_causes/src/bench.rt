@@ -1,36 +1,16 @@
-// A chain with its stores, a call and a hop on it, and a line that says how they were answered.
+// Chains of two spans, two repairs and 8 channels; a call and a hop on one, and how they were answered.
 
-use condition::Conditioned;
-use condition::HopSaid;
+use calls::Conditioned;
 use config::ConditioningConfig;
-use impulse::Gate;
-use impulse::Left;
-use impulse::Open;
+use hops::HopSaid;
 use iq::Calibration;
 use iq::StageMode;
 use libc::STDOUT_FILENO;
-use state::InputConditioner;
-
-// A state with capacities 2 and 8 channels, its stores, and the slice of the next call.
-pub struct Bench {
-    pub state: InputConditioner,
-    pub samples: [u64; 24],
-    pub spans: [u64; 48],
-    pub repairs: [u64; 12],
-    pub words: [f64; 32],
-}
-
-// What a call leaves, and how it was answered.
-struct CallTried {
-    bench: Bench,
-    answer: Conditioned,
-}
-
-// What a hop leaves, and how it was answered.
-struct HopTried {
-    bench: Bench,
-    answer: HopSaid,
-}
+use state_words::Lent;
+use state_words::WORDS;
+use state_words::bench::Bench;
+use state_words::bench::HopTried;
+use state_words::bench::same_bench;
 
 // ---- chains to begin with
 
@@ -68,241 +48,148 @@ fn config(impulse: StageMode) -> ConditioningConfig {
     }
 }
 
-fn fresh(impulse: StageMode) -> Bench {
-    let mut spans = [0u64; 48];
-    let mut repairs = [0u64; 12];
-    let mut words = [0.0f64; 32];
-    let made = condition::making::with_geometry(
-        config(impulse),
-        &mut spans,
-        &mut repairs,
-        &mut words,
-    );
-    let state = made.state;
-    Bench {
-        state,
-        samples: [0x3f80_0000u64; 24],
-        spans,
-        repairs,
-        words,
+// All that is asked for.
+fn lent() -> Lent {
+    Lent {
+        spans: 48,
+        repairs: 12,
+        monitor: 32,
     }
-}
-
-// The chain after 60 samples.
-fn after_sixty(b: Bench) -> Bench {
-    let mut samples = [0u64; 60];
-    let mut spans = b.spans;
-    let mut repairs = b.repairs;
-    let state = b.state;
-    fill(&mut samples);
-    let called = condition::calls::condition(state, &mut samples, &mut spans, &mut repairs);
-    let after = called.state;
-    let mut out = b;
-    out.state = after;
-    out.spans = spans;
-    out.repairs = repairs;
-    out
-}
-
-// The chain after 5 samples.
-fn after_five(b: Bench) -> Bench {
-    let mut samples = [0u64; 5];
-    let mut spans = b.spans;
-    let mut repairs = b.repairs;
-    let state = b.state;
-    fill(&mut samples);
-    let called = condition::calls::condition(state, &mut samples, &mut spans, &mut repairs);
-    let after = called.state;
-    let mut out = b;
-    out.state = after;
-    out.spans = spans;
-    out.repairs = repairs;
-    out
 }
 
 // A hop of 8 channels (1, 0).
 fn hop(b: Bench, start: u64) -> HopTried {
     let x = [0x3f80_0000u64; 8];
-    let mut spans = b.spans;
-    let mut words = b.words;
-    let state = b.state;
-    let called = condition::hops::observe_hop(state, &x, start, &mut spans, &mut words);
-    let after = called.state;
-    let answer = called.answer;
-    let mut out = b;
-    out.state = after;
-    out.spans = spans;
-    out.words = words;
-    HopTried { bench: out, answer }
+    state_words::bench::hop(b, &x, 8, start, lent())
 }
 
-// The same chain after a hop.
-fn after_hop(b: Bench) -> Bench {
-    let tried = hop(b, 0);
-    tried.bench
+// A chain of this impulse mode with DC applying and IQ observing, after so many samples and a hop.
+fn after(impulse: StageMode, count: usize) -> Bench {
+    let made = state_words::bench::make(state_words::bench::empty(), config(impulse), lent());
+    let fresh = made.bench;
+    let mut samples = [0u64; 60];
+    fill(&mut samples);
+    let called = state_words::bench::call(fresh, &mut samples, count, lent());
+    let fed = called.bench;
+    let hopped = hop(fed, 0);
+    hopped.bench
 }
 
-// A chain of this impulse mode with DC applying and IQ observing, after 60 samples and a hop.
-pub fn settled(impulse: StageMode) -> Bench {
-    after_hop(after_sixty(fresh(impulse)))
-}
-
-// An applying chain after 5 samples and a hop.
-pub fn young() -> Bench {
-    after_hop(after_five(fresh(StageMode::Apply)))
-}
-
-// ---- the gate of a chain
-
-pub fn gate_of(b: Bench) -> Gate {
-    let state = b.state;
-    let suppressor = state.suppressor;
-    suppressor.gate
-}
-
-// The gate with another run and left neighbour.
-pub fn gate_with(g: Gate, run: Open, left: Left) -> Gate {
-    Gate {
-        apply: g.apply,
-        blocklen: g.blocklen,
-        received: g.received,
-        run,
-        left,
-        block: g.block,
-        flagged: g.flagged,
-        paused: g.paused,
+// The chain of a letter, after 60 samples but for the applying `y`, which has 5.
+pub fn chain(letter: u8) -> Bench {
+    if letter == b'y' {
+        return after(StageMode::Apply, 5);
     }
+    if letter == b'o' {
+        return after(StageMode::Observe, 60);
+    }
+    if letter == b'-' {
+        return after(StageMode::Off, 60);
+    }
+    after(StageMode::Apply, 60)
 }
 
-pub fn with_gate(b: Bench, gate: Gate) -> Bench {
-    let mut state = b.state;
-    let mut suppressor = state.suppressor;
-    suppressor.gate = gate;
-    state.suppressor = suppressor;
+// The chain with another word: of the state, of the span store behind it or of the monitor's words.
+pub fn with(b: Bench, place: usize, word: u64) -> Bench {
     let mut out = b;
-    out.state = state;
+    if place < WORDS {
+        out.state[place] = word;
+        return out;
+    }
+    if place < 218 {
+        out.spans[place - 170] = word;
+        return out;
+    }
+    if place < 250 {
+        out.monitor[place - 218] = ieee::from_bits64(word);
+    }
     out
 }
 
 // ---- whether all is as it was
 
-fn same_samples(a: Bench, b: Bench) -> bool {
-    let given = a.samples;
-    let left = b.samples;
-    state_same::same_words(&given, &left)
-}
-
-fn same_spans(a: Bench, b: Bench) -> bool {
-    let given = a.spans;
-    let left = b.spans;
-    state_same::same_words(&given, &left)
-}
-
-fn same_repairs(a: Bench, b: Bench) -> bool {
-    let given = a.repairs;
-    let left = b.repairs;
-    state_same::same_words(&given, &left)
-}
-
-fn same_floats(given: [f64; 32], left: [f64; 32]) -> bool {
-    state_same::same_floats(&given, &left)
-}
-
-fn same_bench(a: Bench, b: Bench) -> bool {
-    let given = a.state;
-    let left = b.state;
-    if !state_same::same_state(given, left) {
-        return false;
-    }
-    if !same_samples(a, b) {
-        return false;
-    }
-    if !same_spans(a, b) {
-        return false;
-    }
-    if !same_repairs(a, b) {
-        return false;
-    }
-    let words = a.words;
-    let after = b.words;
-    same_floats(words, after)
-}
-
-fn say_changed(is_same: bool) {
-    if !is_same {
+fn say_changed(same_chain: bool, same_samples: bool) {
+    if !(same_chain & same_samples) {
         io::write_all(STDOUT_FILENO, b" changed");
     }
 }
 
 // ---- a call
 
-fn call(b: Bench) -> CallTried {
-    let mut samples = b.samples;
-    let mut spans = b.spans;
-    let mut repairs = b.repairs;
-    let state = b.state;
-    let called = condition::calls::condition(state, &mut samples, &mut spans, &mut repairs);
-    let after = called.state;
-    let answer = called.answer;
-    let mut out = b;
-    out.state = after;
-    out.samples = samples;
-    out.spans = spans;
-    out.repairs = repairs;
-    CallTried { bench: out, answer }
-}
-
-fn say(text: &[u8]) -> bool {
-    io::write_all(STDOUT_FILENO, text);
-    false
-}
-
-fn say_ready(ready: usize) -> bool {
+fn say_ready(ready: usize) {
     io::write_all(STDOUT_FILENO, b"ready ");
     io::print_decimal(STDOUT_FILENO, ready as u64);
-    true
+}
+
+// The number of a call's refusal, 0 of an accepted one.
+fn refused(answer: Conditioned) -> u64 {
+    match answer {
+        Conditioned::Ready(_) => 0,
+        Conditioned::BadLength => 4,
+        Conditioned::BadState => 5,
+        Conditioned::Short => 6,
+        Conditioned::Unusable(_) => 7,
+        Conditioned::TooMany => 8,
+    }
 }
 
 // Writes how a call was answered, and tells whether it was accepted.
 fn say_call(answer: Conditioned) -> bool {
-    match answer {
-        Conditioned::Ready(ready) => say_ready(ready),
-        Conditioned::BadState => say(b"5"),
-        Conditioned::BadLength => say(b"4"),
-        Conditioned::Short => say(b"6"),
-        Conditioned::TooMany => say(b"8"),
-        Conditioned::Unusable(_) => say(b"7"),
-    }
+    let Conditioned::Ready(ready) = answer else {
+        io::print_decimal(STDOUT_FILENO, refused(answer));
+        return false;
+    };
+    say_ready(ready);
+    true
 }
 
+// With 24 samples (1, 0).
 fn show_call(b: Bench) {
-    let tried = call(b);
+    let given = [0x3f80_0000u64; 24];
+    let mut samples = given;
+    let tried = state_words::bench::call(b, &mut samples, 24, lent());
     let left = tried.bench;
     let answer = tried.answer;
     io::write_all(STDOUT_FILENO, b": call ");
     if !say_call(answer) {
-        say_changed(same_bench(b, left));
+        say_changed(
+            same_bench(b, left),
+            state_words::same_words(&given, &samples),
+        );
     }
 }
 
 // ---- a hop
 
-fn say_taken(text: &[u8]) -> bool {
-    io::write_all(STDOUT_FILENO, text);
-    true
+// The number of a hop's refusal; 0 where it was added, 1 with a report, 2 where there was nothing to do.
+fn number(answer: HopSaid) -> u64 {
+    match answer {
+        HopSaid::NoReport => 0,
+        HopSaid::Report(_) => 1,
+        HopSaid::Nothing => 2,
+        HopSaid::BadLength => 4,
+        HopSaid::BadState => 5,
+        HopSaid::Beyond(_) => 7,
+        HopSaid::Early => 9,
+    }
 }
 
-// Writes how a hop was answered, and tells whether it was accepted.
-fn say_hop(answer: HopSaid) -> bool {
-    match answer {
-        HopSaid::Nothing => say(b"nothing"),
-        HopSaid::NoReport => say_taken(b"no report"),
-        HopSaid::Report(_) => say_taken(b"report"),
-        HopSaid::BadState => say(b"5"),
-        HopSaid::BadLength => say(b"4"),
-        HopSaid::Early => say(b"9"),
-        HopSaid::Beyond(_) => say(b"7"),
+// Writes how a hop was answered, and tells whether it was added.
+fn say_hop(n: u64) -> bool {
+    if n == 0 {
+        io::write_all(STDOUT_FILENO, b"no report");
+        return true;
     }
+    if n == 1 {
+        io::write_all(STDOUT_FILENO, b"report");
+        return true;
+    }
+    if n == 2 {
+        io::write_all(STDOUT_FILENO, b"nothing");
+        return false;
+    }
+    io::print_decimal(STDOUT_FILENO, n);
+    false
 }
 
 fn show_hop(b: Bench) {
@@ -310,15 +197,15 @@ fn show_hop(b: Bench) {
     let left = tried.bench;
     let answer = tried.answer;
     io::write_all(STDOUT_FILENO, b", hop ");
-    if !say_hop(answer) {
-        say_changed(same_bench(b, left));
+    if !say_hop(number(answer)) {
+        say_changed(same_bench(b, left), true);
     }
 }
 
-// One line: the name, and how a call and a hop on this chain are answered.
-pub fn show(name: &[u8], b: Bench) {
-    io::write_all(STDOUT_FILENO, name);
-    show_call(b);
-    show_hop(b);
+// How a call and a hop on this chain are answered, and the line's end.
+pub fn show(b: Bench) {
+    let given = state_words::bench::settled(b);
+    show_call(given);
+    show_hop(given);
     io::write_all(STDOUT_FILENO, b"\n");
 }

@@ -1,7 +1,7 @@
 // Text put into a lent store of bytes, as much as there is room for: bytes, and numbers in decimal and in
 // hexadecimal. Each function answers the place behind what it put.
 
-ghost use mathlib.Core.List.{[], _∷_};
+ghost use mathlib.Core.List.{[], _∷_, _++_};
 ghost use Rattle.text.specs.Text.{decimal, hexadecimal, Written};
 
 fn put_byte(text: &mut [u8], place: usize, byte: u8) -> usize
@@ -43,4 +43,13 @@ pub fn put_hex(text: &mut [u8], place: usize, n: u64) -> usize
     let mut digits = [0u8; 16];
     let k = io::hex(n, 16, &mut digits);
     put(text, place, &digits[..k])
+}
+
+// A number in decimal, between two texts.
+pub fn put_number(text: &mut [u8], place: usize, label: &[u8], n: u64, ending: &[u8]) -> usize
+    ensures { λ r. ⌜ Written (now (text .entry)) place (now (label .entry) ++ (decimal n ++ now (ending .entry))) (now (text .exit)) r ⌝ }
+{
+    let named = put(text, place, label);
+    let numbered = put_decimal(text, named, n);
+    put(text, numbered, ending)
 }

@@ -1,20 +1,27 @@
 // A call: places in front, then new samples.
 
 use crate::Head;
+use crate::REPAIR_WORDS;
+use crate::SLICE_WORDS;
+use crate::SPAN_WORDS;
 use crate::words::Front;
 use crate::words::Told;
-use crate::words::at_most;
-use crate::words::part;
 use crate::words::plain;
 use crate::words::show_words;
 use crate::words::shown;
 use crate::words::word;
 use crate::words::write_front;
-use condition::Called;
-use condition::Conditioned;
-use impulse::Gate;
-use impulse::Open;
-use state::InputConditioner;
+use calls::Conditioned;
+use state_words::HELD;
+use state_words::Lent;
+use state_words::RECEIVED;
+use state_words::RELEASED;
+use state_words::RUN;
+use state_words::SEEN;
+use state_words::WORDS;
+use state_words::at_most;
+use state_words::part;
+
 // How many places stand in front: as many as are held, where the word is all ones.
 fn places(w: u64, held: usize) -> usize {
     if w == 0xffff_ffff_ffff_ffff {
@@ -29,6 +36,15 @@ pub fn fill(slice: &mut [u64]) {
     while k < slice.len() {
         slice[k] = std::num::wrapping_add_u64(0xffff_ffff_7fc0_0000, k as u64);
         k += 1;
+    }
+}
+
+// How much a call is lent.
+fn lent(head: Head) -> Lent {
+    Lent {
+        spans: head.a as usize,
+        repairs: head.b as usize,
+        monitor: 0,
     }
 }
 
@@ -50,51 +66,15 @@ fn lay_out(slice: &mut [u64], front: usize, input: &[u64], n: usize) -> usize {
     end
 }
 
-// The state, as if it had seen so many samples.
-fn moved(state: InputConditioner, seen: u64) -> InputConditioner {
-    let mut suppressor = state.suppressor;
-    let g = suppressor.gate;
-    let left = g.left;
-    let gate = Gate {
-        apply: g.apply,
-        blocklen: g.blocklen,
-        received: seen,
-        run: Open::Closed,
-        left,
-        block: g.block,
-        flagged: g.flagged,
-        paused: g.paused,
-    };
-    suppressor.gate = gate;
-    let mut out = state;
-    out.suppressor = suppressor;
-    out.seen = seen;
-    out.released = std::num::wrapping_sub_u64(seen, state.held as u64);
-    out
-}
-
-// The state that a call is handed.
-fn handed(state: InputConditioner, seen: u64) -> InputConditioner {
+// The state that a call is handed: as it is, or as if it had seen so many samples.
+fn hand(state: &mut [u64; WORDS], seen: u64) {
     if seen == 0 {
-        return state;
+        return;
     }
-    moved(state, seen)
-}
-
-// With so much of the slice and of each store.
-fn call_with(
-    state: InputConditioner,
-    slice: &mut [u64],
-    length: usize,
-    spans: &mut [u64],
-    a: usize,
-    repairs: &mut [u64],
-    b: usize,
-) -> Called {
-    let n = part(slice, length);
-    let s = part(spans, a);
-    let r = part(repairs, b);
-    condition::calls::condition(state, &mut slice[..n], &mut spans[..s], &mut repairs[..r])
+    state[RECEIVED] = seen;
+    state[RUN] = 0;
+    state[SEEN] = seen;
+    state[RELEASED] = std::num::wrapping_sub_u64(seen, state[HELD]);
 }
 
 fn told(answer: Conditioned) -> Told {
@@ -115,18 +95,16 @@ fn told(answer: Conditioned) -> Told {
 }
 
 // The answer, how much was seen, released and held, and the slice.
-fn write_call(called: Called, slice: &[u64], length: usize, how: u64) {
-    let state = called.state;
-    let answer = called.answer;
+fn write_call(answer: Conditioned, state: &[u64; WORDS], slice: &[u64], length: usize, how: u64) {
     let t = told(answer);
     let n = part(slice, length);
     write_front(Front {
         op: 3,
         number: t.number,
         value: t.value,
-        p: state.seen,
-        q: state.released,
-        r: state.held as u64,
+        p: state[SEEN],
+        q: state[RELEASED],
+        r: state[HELD],
         s: n as u64,
         m: shown(n, how),
     });
@@ -134,31 +112,21 @@ fn write_call(called: Called, slice: &[u64], length: usize, how: u64) {
 }
 
 // The state before stays where another one was handed over.
-fn kept(before: InputConditioner, called: Called, seen: u64) -> InputConditioner {
-    if seen == 0 {
-        return called.state;
-    }
-    before
-}
-
 pub fn call(
-    state: InputConditioner,
+    state: &mut [u64; WORDS],
     head: Head,
     input: &[u64],
-    slice: &mut [u64],
-    spans: &mut [u64],
-    repairs: &mut [u64],
-) -> InputConditioner {
-    let length = lay_out(slice, places(head.c, state.held), input, head.len as usize);
-    let called = call_with(
-        handed(state, head.d),
-        slice,
-        length,
-        spans,
-        head.a as usize,
-        repairs,
-        head.b as usize,
-    );
-    write_call(called, slice, length, head.how);
-    kept(state, called, head.d)
+    spans: &mut [u64; SPAN_WORDS],
+    repairs: &mut [u64; REPAIR_WORDS],
+) {
+    let mut handed = *state;
+    let mut slice = [0u64; SLICE_WORDS];
+    hand(&mut handed, head.d);
+    let front = places(head.c, handed[HELD] as usize);
+    let length = lay_out(&mut slice, front, input, head.len as usize);
+    let answer = state_words::call(&mut handed, &mut slice, length, spans, repairs, lent(head));
+    write_call(answer, &handed, &slice, length, head.how);
+    if head.d == 0 {
+        *state = handed;
+    }
 }

@@ -1,33 +1,17 @@
 // A hop.
 
 use crate::Head;
+use crate::MONITOR_WORDS;
+use crate::SPAN_WORDS;
 use crate::words::Front;
 use crate::words::Told;
-use crate::words::part;
-use crate::words::part_of_floats;
 use crate::words::plain;
 use crate::words::write_front;
 use crate::words::write_words;
-use condition::HopCalled;
-use condition::HopSaid;
+use hops::HopSaid;
 use image::Evidence;
-use state::InputConditioner;
-// With so many channels and so much of each store.
-fn hop_with(
-    state: InputConditioner,
-    input: &[u64],
-    channels: usize,
-    start: u64,
-    spans: &mut [u64],
-    a: usize,
-    words: &mut [f64],
-    b: usize,
-) -> HopCalled {
-    let n = part(input, channels);
-    let s = part(spans, a);
-    let w = part_of_floats(words, b);
-    condition::hops::observe_hop(state, &input[..n], start, &mut spans[..s], &mut words[..w])
-}
+use state_words::Lent;
+use state_words::WORDS;
 
 fn told(answer: HopSaid) -> Told {
     match answer {
@@ -89,24 +73,29 @@ fn write_hop(answer: HopSaid) {
     write_report(answer);
 }
 
+fn lent(head: Head) -> Lent {
+    Lent {
+        spans: head.b as usize,
+        repairs: 0,
+        monitor: head.c as usize,
+    }
+}
+
 pub fn hop(
-    state: InputConditioner,
+    state: &mut [u64; WORDS],
     head: Head,
     input: &[u64],
-    spans: &mut [u64],
-    words: &mut [f64],
-) -> InputConditioner {
-    let called = hop_with(
+    spans: &mut [u64; SPAN_WORDS],
+    monitor: &mut [f64; MONITOR_WORDS],
+) {
+    let answer = state_words::hop(
         state,
         input,
         head.len as usize,
         head.a,
         spans,
-        head.b as usize,
-        words,
-        head.c as usize,
+        monitor,
+        lent(head),
     );
-    let answer = called.answer;
     write_hop(answer);
-    called.state
 }

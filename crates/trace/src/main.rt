@@ -4,18 +4,28 @@
 ghost use Prim.Native.Nat.{_<_};
 
 mod call;
+mod chain;
 mod hop;
-mod making;
-mod reading;
+mod shown;
 mod undoing;
 mod words;
 
-use making::Lent;
-use state::InputConditioner;
+use state_words::WORDS;
+use state_words::part;
 use words::answer_plain;
-use words::part;
 use words::plain;
 use words::read_words;
+
+// The words behind an operation; a call's slice; the stores, each longer than the longest that is lent.
+const INPUT_WORDS: usize = 4096;
+
+pub const SLICE_WORDS: usize = 4608;
+
+pub const SPAN_WORDS: usize = 6148;
+
+pub const REPAIR_WORDS: usize = 24580;
+
+pub const MONITOR_WORDS: usize = 8196;
 
 // The words in front of an operation.
 pub struct Head {
@@ -46,14 +56,6 @@ fn read_head() -> Head {
 
 // ---- operations that change a state or a store
 
-fn lent(head: Head) -> Lent {
-    Lent {
-        spans: head.a as usize,
-        repairs: head.b as usize,
-        words: head.c as usize,
-    }
-}
-
 fn put(words: &mut [u64], place: usize, w: u64) {
     if place < words.len() {
         words[place] = w;
@@ -67,7 +69,12 @@ fn put_float(words: &mut [f64], place: usize, w: u64) {
 }
 
 // A word of a store.
-fn write(head: Head, spans: &mut [u64], repairs: &mut [u64], words: &mut [f64]) {
+fn write(
+    head: Head,
+    spans: &mut [u64; SPAN_WORDS],
+    repairs: &mut [u64; REPAIR_WORDS],
+    monitor: &mut [f64; MONITOR_WORDS],
+) {
     let place = head.b as usize;
     answer_plain(14, plain(0), 0, 0);
     if head.a == 0 {
@@ -79,69 +86,70 @@ fn write(head: Head, spans: &mut [u64], repairs: &mut [u64], words: &mut [f64]) 
         return;
     }
     if head.a == 2 {
-        put_float(words, place, head.c);
+        put_float(monitor, place, head.c);
     }
 }
 
 fn change(
-    state: InputConditioner,
+    state: &mut [u64; WORDS],
     head: Head,
     input: &[u64],
-    slice: &mut [u64],
-    spans: &mut [u64],
-    repairs: &mut [u64],
-    words: &mut [f64],
-) -> InputConditioner {
+    spans: &mut [u64; SPAN_WORDS],
+    repairs: &mut [u64; REPAIR_WORDS],
+    monitor: &mut [f64; MONITOR_WORDS],
+) {
     if head.op == 1 {
-        return making::make(state, input, spans, repairs, words, lent(head));
+        chain::make(state, head, input, spans, repairs, monitor);
+        return;
     }
     if head.op == 3 {
-        return call::call(state, head, input, slice, spans, repairs);
+        call::call(state, head, input, spans, repairs);
+        return;
     }
     if head.op == 4 {
-        return hop::hop(state, head, input, spans, words);
+        hop::hop(state, head, input, spans, monitor);
+        return;
     }
     if head.op == 14 {
-        write(head, spans, repairs, words);
+        write(head, spans, repairs, monitor);
     }
-    state
 }
 
 // ---- operations that read
 
-fn read(state: InputConditioner, head: Head, spans: &[u64], repairs: &[u64], words: &[f64]) {
+fn read(
+    state: &[u64; WORDS],
+    head: Head,
+    spans: &[u64; SPAN_WORDS],
+    repairs: &[u64; REPAIR_WORDS],
+    monitor: &[f64; MONITOR_WORDS],
+) {
     if head.op == 5 {
-        reading::log(state);
+        shown::log(state);
         return;
     }
     if head.op == 6 {
-        reading::state(state);
+        shown::state(state);
         return;
     }
     if head.op == 7 {
-        reading::stores(head, spans, repairs, words);
+        shown::stores(head, spans, repairs, monitor);
         return;
     }
     if head.op == 8 {
-        reading::span(state, head, spans);
+        shown::span(state, head, spans);
     }
 }
 
 // ---- operations on slices
 
-fn undo(
-    state: InputConditioner,
-    head: Head,
-    input: &mut [u64],
-    slice: &mut [u64],
-    repairs: &[u64],
-) {
+fn undo(state: &[u64; WORDS], head: Head, input: &mut [u64], repairs: &[u64; REPAIR_WORDS]) {
     if head.op == 9 {
         undoing::repairs(state, head, input, repairs);
         return;
     }
     if head.op == 10 {
-        undoing::level(head, input, slice);
+        undoing::level(head, input);
         return;
     }
     if head.op == 11 {
@@ -157,7 +165,7 @@ fn undo(
 
 fn settings(head: Head, input: &[u64]) {
     if head.op == 2 {
-        making::config(input);
+        chain::config(input);
         return;
     }
     if head.op == 13 {
@@ -180,70 +188,46 @@ fn read_input(head: Head, input: &mut [u64]) -> bool {
 }
 
 fn answer(
-    state: InputConditioner,
+    state: &mut [u64; WORDS],
     head: Head,
-    input: &mut [u64],
-    slice: &mut [u64],
-    spans: &mut [u64],
-    repairs: &mut [u64],
-    words: &mut [f64],
-) -> InputConditioner {
-    let after = change(state, head, input, slice, spans, repairs, words);
-    read(after, head, spans, repairs, words);
-    undo(after, head, input, slice, repairs);
-    settings(head, input);
-    after
-}
-
-// The state after one operation, and how many more may follow: none at the end of the input.
-struct After {
-    state: InputConditioner,
-    left: u64,
-}
-
-fn turn(
-    state: InputConditioner,
-    left: u64,
-    input: &mut [u64],
-    slice: &mut [u64],
-    spans: &mut [u64],
-    repairs: &mut [u64],
-    words: &mut [f64],
-) -> After
-    requires { ⌜ 0 < left ⌝ }
-    ensures { λ r. ⌜ r .left < left ⌝ }
-{
-    let head = read_head();
-    if !read_input(head, input) {
-        return After { state, left: 0 };
-    }
-    After {
-        state: answer(state, head, input, slice, spans, repairs, words),
-        left: left - 1,
-    }
-}
-
-fn run(
-    input: &mut [u64],
-    slice: &mut [u64],
-    spans: &mut [u64],
-    repairs: &mut [u64],
-    words: &mut [f64],
+    input: &mut [u64; INPUT_WORDS],
+    spans: &mut [u64; SPAN_WORDS],
+    repairs: &mut [u64; REPAIR_WORDS],
+    monitor: &mut [f64; MONITOR_WORDS],
 ) {
-    let mut state = making::first(spans, repairs, words);
-    let mut left: u64 = 0xffff_ffff_ffff_ffff;
-    while 0 < left {
-        let t = turn(state, left, input, slice, spans, repairs, words);
-        state = t.state;
-        left = t.left;
+    change(state, head, input, spans, repairs, monitor);
+    read(state, head, spans, repairs, monitor);
+    undo(state, head, input, repairs);
+    settings(head, input);
+}
+
+// One operation, and how many more may follow: none at the end of the input.
+fn turn(
+    left: u64,
+    state: &mut [u64; WORDS],
+    spans: &mut [u64; SPAN_WORDS],
+    repairs: &mut [u64; REPAIR_WORDS],
+    monitor: &mut [f64; MONITOR_WORDS],
+) -> u64
+    requires { ⌜ 0 < left ⌝ }
+    ensures { λ r. ⌜ r < left ⌝ }
+{
+    let mut input = [0u64; INPUT_WORDS];
+    let head = read_head();
+    if !read_input(head, &mut input) {
+        return 0;
     }
+    answer(state, head, &mut input, spans, repairs, monitor);
+    left - 1
 }
 
 fn main() {
-    let mut input = [0u64; 4096];
-    let mut slice = [0u64; 4608];
-    let mut spans = [0u64; 6148];
-    let mut repairs = [0u64; 24580];
-    let mut words = [0.0f64; 8196];
-    run(&mut input, &mut slice, &mut spans, &mut repairs, &mut words);
+    let mut state = chain::first();
+    let mut spans = [0u64; SPAN_WORDS];
+    let mut repairs = [0u64; REPAIR_WORDS];
+    let mut monitor = [0.0f64; MONITOR_WORDS];
+    let mut left: u64 = 0xffff_ffff_ffff_ffff;
+    while 0 < left {
+        left = turn(left, &mut state, &mut spans, &mut repairs, &mut monitor);
+    }
 }

@@ -1,16 +1,17 @@
 // The undos, the guard and validation.
 
 use crate::Head;
+use crate::SLICE_WORDS;
 use crate::call::fill;
 use crate::words::Told;
 use crate::words::answer_plain;
 use crate::words::answer_slice;
-use crate::words::part;
 use crate::words::plain;
 use complex::Complex64;
 use iq::IqCalibration;
 use iq::Validated;
-use state::InputConditioner;
+use state_words::WORDS;
+use state_words::part;
 use undo::Undone;
 
 fn beyond(place: usize) -> Told {
@@ -30,10 +31,15 @@ fn told_undone(answer: Undone) -> Told {
     }
 }
 
-pub fn repairs(state: InputConditioner, head: Head, input: &mut [u64], repairs: &[u64]) {
+pub fn repairs(state: &[u64; WORDS], head: Head, input: &mut [u64], repairs: &[u64]) {
     let n = part(input, head.len as usize);
     let b = part(repairs, head.b as usize);
-    let answer = undo::revert_repairs(state, &repairs[..b], &mut input[..n], head.a);
+    let answer = undo::revert_repairs(
+        state_words::read_state(state),
+        &repairs[..b],
+        &mut input[..n],
+        head.a,
+    );
     answer_slice(9, told_undone(answer), input, n, head.how);
 }
 
@@ -48,8 +54,7 @@ fn told_dc(answer: dc::Reverted) -> Told {
     }
 }
 
-pub fn level(head: Head, input: &[u64], slice: &mut [u64]) {
-    fill(slice);
+fn level_over(head: Head, input: &[u64], slice: &mut [u64]) {
     let n = part(input, head.len as usize);
     let out = part(slice, head.b as usize);
     let fs = ieee::from_bits64(head.a);
@@ -57,13 +62,19 @@ pub fn level(head: Head, input: &[u64], slice: &mut [u64]) {
     answer_slice(10, told_dc(answer), slice, out, head.how);
 }
 
+pub fn level(head: Head, input: &[u64]) {
+    let mut slice = [0u64; SLICE_WORDS];
+    fill(&mut slice);
+    level_over(head, input, &mut slice);
+}
+
 // ---- IQ
 
-fn told_iq(answer: iq::Reverted) -> Told {
+fn told_iq(answer: correction::Reverted) -> Told {
     match answer {
-        iq::Reverted::Restored => plain(0),
-        iq::Reverted::Unfit => plain(10),
-        iq::Reverted::Beyond(place) => beyond(place),
+        correction::Reverted::Restored => plain(0),
+        correction::Reverted::Unfit => plain(10),
+        correction::Reverted::Beyond(place) => beyond(place),
     }
 }
 
@@ -73,7 +84,7 @@ pub fn correction(head: Head, input: &mut [u64]) {
         re: ieee::from_bits64(head.a),
         im: ieee::from_bits64(head.b),
     };
-    let answer = iq::revert_iq(&mut input[..n], rho);
+    let answer = correction::revert_iq(&mut input[..n], rho);
     answer_slice(11, told_iq(answer), input, n, head.how);
 }
 

@@ -2,9 +2,10 @@
 
 ghost use mathlib.Core.Path.{_≡_};
 ghost use Prim.Native.Nat.{_+_, _≤_, _<_};
-ghost use lib.ListN.{length, take};
+ghost use lib.ListN.{length};
 use libc::STDIN_FILENO;
 use libc::STDOUT_FILENO;
+use state_words::part;
 
 // The words in front of an answer: the operation, its number and value, what belongs to it, and how
 // many words follow.
@@ -30,16 +31,6 @@ pub fn plain(number: u64) -> Told {
     Told { number, value: 0 }
 }
 
-// The number, or the most if it is more.
-pub fn at_most(n: usize, most: usize) -> usize
-    ensures { λ r. ⌜ (r ≤ n) × (r ≤ most) ⌝ }
-{
-    if most < n {
-        return most;
-    }
-    n
-}
-
 // How many words go at once, of so many.
 fn at_once(left: usize) -> usize
     requires { ⌜ 0 < left ⌝ }
@@ -49,20 +40,6 @@ fn at_once(left: usize) -> usize
         return 512;
     }
     left
-}
-
-// So many of the words, or all if there are fewer.
-pub fn part(words: &[u64], n: usize) -> usize
-    ensures { λ r. ⌜ (r ≤ length (now (words .entry))) × (r ≡ length (take r (now (words .entry)))) ⌝ }
-{
-    at_most(n, words.len())
-}
-
-// The same of floats.
-pub fn part_of_floats(words: &[f64], n: usize) -> usize
-    ensures { λ r. ⌜ (r ≤ length (now (words .entry))) × (r ≡ length (take r (now (words .entry)))) ⌝ }
-{
-    at_most(n, words.len())
 }
 
 // A word of a slice, 0 behind its end.
@@ -83,15 +60,11 @@ fn wide(b: u8) -> u64 {
 fn word_at(bytes: &[u8; 4096], at: usize) -> u64
     requires { ⌜ at + 8 ≤ 4096 ⌝ }
 {
-    let low = wide(bytes[at])
-        | wide(bytes[at + 1]) << 8
-        | wide(bytes[at + 2]) << 16
-        | wide(bytes[at + 3]) << 24;
-    let high = wide(bytes[at + 4])
-        | wide(bytes[at + 5]) << 8
-        | wide(bytes[at + 6]) << 16
-        | wide(bytes[at + 7]) << 24;
-    low | high << 32
+    let mut w: u64 = 0;
+    for i in 0..8 {
+        w = w << 8 | wide(bytes[at + 7 - i]);
+    }
+    w
 }
 
 fn decode(bytes: &[u8; 4096], words: &mut [u64])
@@ -142,14 +115,11 @@ fn put_word(bytes: &mut [u8; 4096], at: usize, w: u64)
     requires { ⌜ at + 8 ≤ 4096 ⌝ ∗ ⌜ 4096 ≡ length (now bytes) ⌝ }
     ensures { λ _. ⌜ 4096 ≡ length (now (bytes .exit)) ⌝ }
 {
-    bytes[at] = low(w);
-    bytes[at + 1] = low(w >> 8);
-    bytes[at + 2] = low(w >> 16);
-    bytes[at + 3] = low(w >> 24);
-    bytes[at + 4] = low(w >> 32);
-    bytes[at + 5] = low(w >> 40);
-    bytes[at + 6] = low(w >> 48);
-    bytes[at + 7] = low(w >> 56);
+    let mut rest = w;
+    for i in 0..8 {
+        bytes[at + i] = low(rest);
+        rest = rest >> 8;
+    }
 }
 
 fn encode(words: &[u64], bytes: &mut [u8; 4096])

@@ -3,7 +3,7 @@ use mathlib.Core.Path.{ap, _∙_}
 use denote.Ref.{now}
 use Rattle.rules.specs.Constants.{zeroF}
 use Rattle.config.specs.declared.ConditioningConfig.{ConditioningConfig}
-use Rattle.condition.specs.Making.{madeWords}
+use Rattle.making.specs.Making.{madeWords}
 use Rattle.chain_c.specs.Chains.{saidOf, madeNumber}
 use Rattle.chain_c.specs.Streams.{Stream}
 use Rattle.chain_c.specs.MadeLaws.{run-is}

@@ -4,7 +4,7 @@ use native.Mathlib.Omega.{arith}
 use Prim.Native.Nat.{_-_}
 use lib.ListN.{length}
 use Rattle.rules.specs.Constants.{zeroF}
-use Rattle.image.proofs.Lists.{Cleared, cleared-next, cleared-all}
+use Rattle.image.proofs.Turns.{Cleared, cleared-next, cleared-all}
 use Rattle.image.proofs.clear.Statement.{statement}
 use Rattle.image.proofs.clear.Tie as tie
 

@@ -9,7 +9,8 @@ use Rattle.image.specs.Observe.{powerAt, crossIn}
 use Rattle.rules.specs.Monitor.{coherenceOf}
 use Rattle.rules.specs.Constants.{zeroF}
 use lib.Seq.{getD-take}
-use Rattle.image.proofs.Lists.{read-any, mirror-lt}
+use Rattle.rules.specs.ListLaws.{read-any}
+use Rattle.image.proofs.Turns.{mirror-lt}
 use borrow.Author.Needs.{needs}
 use Rattle.image.proofs.pair_at.Statement.{statement}
 use Rattle.image.proofs.pair_at.Tie as tie

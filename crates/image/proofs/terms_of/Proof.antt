@@ -7,7 +7,7 @@ use Rattle.complex.specs.Complex.{Complex, power, product, sampleOf}
 use Rattle.complex.specs.View.{view64}
 use Rattle.rules.specs.Lists.{at}
 use Rattle.image.proofs.Limit.{within-number}
-use Rattle.image.proofs.Lists.{mirror-lt}
+use Rattle.image.proofs.Turns.{mirror-lt}
 use borrow.Author.Needs.{needs}
 use Rattle.image.proofs.terms_of.Statement.{statement}
 use Rattle.image.proofs.terms_of.Tie as tie

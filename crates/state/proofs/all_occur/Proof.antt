@@ -12,7 +12,7 @@ use Rattle.rules.specs.Constants.{zeroF}
 use Rattle.rules.specs.SortLaws.{All}
 use Rattle.log.specs.Check.{allTo}
 use Rattle.log.specs.CheckLaws.{all-next, all-not}
-use Rattle.impulse.specs.Rising.{Held}
+use Rattle.ordered.specs.Rising.{Held}
 use Rattle.impulse.specs.CircleLaws.{any-default}
 use Rattle.state.specs.Occurs.{occurs}
 use borrow.Author.Needs.{needs}

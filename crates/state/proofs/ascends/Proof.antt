@@ -8,8 +8,8 @@ use lib.Seq.{take-all}
 use borrow.Author.Needs.{needs}
 use Rattle.rules.specs.Constants.{zeroF}
 use Rattle.rules.specs.SortLaws.{All}
-use Rattle.impulse.specs.Rising.{climbs, Held}
-use Rattle.impulse.proofs.Blends.{climbs-one, held-more, further}
+use Rattle.ordered.specs.Rising.{climbs, Held}
+use Rattle.ordered.proofs.Blends.{climbs-one, held-more, further}
 use Rattle.state.proofs.ascends.Statement.{statement}
 use Rattle.state.proofs.ascends.Tie as tie
 

@@ -9,8 +9,8 @@ use lib.Seq.{take-all}
 use lib.Ieee.{Float, nan, eq}
 use borrow.Author.Needs.{needs}
 use Rattle.rules.specs.SortLaws.{All}
-use Rattle.impulse.specs.Rising.{Held}
-use Rattle.impulse.proofs.Blends.{held-more}
+use Rattle.ordered.specs.Rising.{Held}
+use Rattle.ordered.proofs.Blends.{held-more}
 use Rattle.state.specs.Occurs.{occurs}
 use Rattle.state.proofs.Arranged.{occurs-none, occurs-more}
 use Rattle.state.proofs.occurs.Statement.{statement}

@@ -3,7 +3,7 @@ use mathlib.Core.Path.{sym, ap, _∙_, subst}
 use lib.Dec.{T}
 use lib.Ieee.{Float, binary32, fits, le}
 use Prim.Native.Nat.{ℕ, _≤_, _<_, _^_}
-use Rattle.image.proofs.Signs.{bit-set, bit-clear}
+use Rattle.floor.proofs.Signs.{bit-set, bit-clear}
 use Rattle.state.specs.Fits.{powerLimit, powerFits}
 use borrow.Author.Needs.{needs}
 use Rattle.state.proofs.power_fits.Statement.{statement}

@@ -1,16 +1,14 @@
--- `state::powers_fit` meets its contract: each before number k fits. Assumes nothing.
-use mathlib.Core.Path.{_≡_, refl, sym, ap, _∙_}
-use mathlib.Core.Bool.{Bool, true, false}
+-- `state::powers_fit` meets its contract: the answer so far is that of the powers before k. Assumes nothing.
+use mathlib.Core.Path.{_≡_, refl, ap, _∙_}
+use mathlib.Core.Bool.{Bool, _&&_}
 use mathlib.Core.List.{List}
 use Prim.Native.Nat.{ℕ, _-_, _≤_}
 use native.Mathlib.Numerals.{add-one}
 use native.Mathlib.Omega.{arith}
 use lib.ListN.{getD}
 use lib.Ieee.{Float, nan}
-use borrow.Author.Tests.{not-true, not-false}
 use Rattle.rules.specs.Constants.{zeroF}
 use Rattle.log.specs.Check.{allTo}
-use Rattle.log.specs.CheckLaws.{all-next, all-not}
 use Rattle.state.specs.Fits.{powerFits}
 use Rattle.impulse.specs.CircleLaws.{any-default}
 use borrow.Author.Needs.{needs}
@@ -21,10 +19,10 @@ abbrev test : List Float → ℕ → Bool
 test xs k = powerFits (getD xs k zeroF)
 
 abbrev Inv-loop : tie.InvT-loop
-Inv-loop window k₀ k = (k ≤ 33) × (allTo (test window) k ≡ true)
+Inv-loop window fit₀ k₀ fit k = (k ≤ 33) × (fit ≡ allTo (test window) k)
 
 abbrev μ-loop : tie.MeasureT-loop
-μ-loop window k₀ k = 33 - k
+μ-loop window fit₀ k₀ fit k = 33 - k
 
 loop-holds : tie.Need-loop-holds Inv-loop μ-loop
 unfolding allTo
@@ -39,19 +37,6 @@ element-copy-out-power-fits c = search needs
 power-fits-requires : tie.Need-power-fits-requires Inv-loop μ-loop
 power-fits-requires c κs = search needs
 
--- power k by the answer t
-here : (c : tie.After-power-fits Inv-loop μ-loop) (t : Bool) → c .power-fits .result ≡ t → test (c .before .before .before .before .args .window .now) (c .before .before .before .loop .k) ≡ t
-here c t e =
-    let xs = c .before .before .before .before .args .window .now in
-    let k = c .before .before .before .loop .k in
-    sym (c .power-fits .ensures ∙ ap powerFits (any-default xs k nan zeroF (omega (arith, c .before .before .before .before .pre, c .before .before .loop-test .taken)))) ∙ e
-
-returns : tie.Need-returns Inv-loop μ-loop
-returns c =
-    let xs = c .before .before .before .before .before .args .window .now in
-    let k = c .before .before .before .before .loop .k in
-    sym (all-not (test xs) 33 k (c .before .before .before .loop-test .taken) (here (c .before) false (not-true _ (c .if1 .taken))))
-
 add-k : tie.Need-add-k Inv-loop μ-loop
 add-k c = search needs
 
@@ -59,16 +44,18 @@ loop-less : tie.Need-loop-less Inv-loop μ-loop
 loop-less c = search needs
 
 loop-again : tie.Need-loop-again Inv-loop μ-loop
+unfolding allTo
 loop-again c =
-    let xs = c .before .before .before .before .before .args .window .now in
-    let l = c .before .before .before .before .loop in
-    (search needs, rw (add-one (l .k)) (all-next (test xs) (l .k) (l .inv .1) (here (c .before) true (not-false _ (c .if1 .left)))))
+    let xs = c .before .before .before .before .args .window .now in
+    let l = c .before .before .before .loop in
+    let here = c .power-fits .ensures ∙ ap powerFits (any-default xs (l .k) nan zeroF (omega (arith, c .before .before .before .before .pre, c .before .before .loop-test .taken))) in
+    (search needs, rw (add-one (l .k)) (λ i. l .inv .1 i && here i))
 
-returns-2 : tie.Need-returns-2 Inv-loop μ-loop
-returns-2 c =
+returns : tie.Need-returns Inv-loop μ-loop
+returns c =
     let l = c .before .loop in
     let e : l .k ≡ 33 = omega (arith, c .loop-test .left, l .inv .0) in
-    sym (rw e at (l .inv .1))
+    rw e at (l .inv .1)
 
 pub powers-fit-spec : {M : Type 1} → statement M
 powers-fit-spec =
@@ -80,8 +67,7 @@ powers-fit-spec =
     mul-power-fits
     element-copy-out-power-fits
     power-fits-requires
-    returns
     add-k
     loop-less
     loop-again
-    returns-2)
+    returns)

@@ -1,14 +1,14 @@
--- `spoil` counts to the times. Assumes nothing.
+-- `spoil` ends when its replacements are made. Assumes nothing.
 use Prim.Native.Nat.{_-_, _≤_}
 use borrow.Author.Needs.{needs}
 use Rattle.bad_input.proofs.spoil.spoil.Statement.{statement}
 use Rattle.bad_input.proofs.spoil.spoil.Tie as tie
 
 abbrev Inv-loop : tie.InvT-loop
-Inv-loop seed times out₀ k₀ out k = k ≤ times
+Inv-loop state₀ seed times k₀ state k = 0 ≤ k
 
 abbrev μ-loop : tie.MeasureT-loop
-μ-loop seed times out₀ k₀ out k = times - k
+μ-loop state₀ seed times k₀ state k = times - k
 
 loop-holds : tie.Need-loop-holds Inv-loop μ-loop
 loop-holds c = search needs

@@ -1,0 +1,6 @@
+-- definitions
+pub mod Calls
+-- laws
+pub mod CallLaws
+pub mod Accepting
+pub mod CallTests

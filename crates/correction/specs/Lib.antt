@@ -1,0 +1,11 @@
+-- definitions
+pub mod Groups
+pub mod Undo
+pub mod Calls
+-- laws
+pub mod Steps
+pub mod Maps
+pub mod Cutting
+pub mod UndoLaws
+pub mod GroupLaws
+pub mod GroupRuns

@@ -1,0 +1,4 @@
+-- definitions
+pub mod Feeding
+-- laws
+pub mod FeedingLaws

@@ -1,0 +1,28 @@
+-- `making::fresh_suppressor`: the setting is that of the configuration. Assumes nothing.
+use mathlib.Core.Path.{_∙_}
+use borrow.Author.Needs.{needs}
+use Rattle.rules.specs.Impulse.{standard}
+use Rattle.rules.specs.Chain.{blockLength}
+use Rattle.impulse.specs.Machine.{fresh}
+use Rattle.making.proofs.fresh_suppressor.Statement.{statement}
+use Rattle.making.proofs.fresh_suppressor.Tie as tie
+
+round-half-away-requires : tie.Need-round-half-away-requires
+round-half-away-requires c κs = search needs
+
+is-apply-requires : tie.Need-is-apply-requires
+is-apply-requires c κs = search needs
+
+fresh-requires : tie.Need-fresh-requires
+fresh-requires c κs = search needs
+
+returns : tie.Need-returns
+unfolding blockLength
+returns c =
+    let b = c .before .before .round-half-away .ensures in
+    let p = c .before .is-apply .ensures in
+    c .fresh .ensures ∙ (λ i. fresh (standard (b i) (p i)))
+
+pub fresh-suppressor-spec : {M : Type 1} → statement M
+fresh-suppressor-spec =
+    tie.close (tie.spec round-half-away-requires is-apply-requires fresh-requires returns)

@@ -1,0 +1,4 @@
+-- definitions
+pub mod Making
+-- laws
+pub mod MakingLaws

@@ -1,0 +1,34 @@
+-- What the chain settles stands in the code's type as in the rules'; making's answer and words by its tests. Assumes nothing.
+use mathlib.Core.Path.{_≡_, refl, ap}
+use mathlib.Core.Bool.{Bool, cond}
+use mathlib.Core.List.{List}
+use Prim.Native.Nat.{ℕ}
+use lib.ListN.{length, replicate}
+use Rattle.rules.specs.Iq.{Settled, isOff, observing, withheld, correcting}
+use Rattle.rules.specs.Chain.{Config}
+use Rattle.iq.specs.declared.Iq.{Iq}
+use Rattle.iq.specs.declared.Iq.the-variants.{Off, Observing, Correcting, Withheld}
+use Rattle.iq.specs.View.{settledOf}
+use Rattle.config.specs.Config.{allOff, refusal}
+use Rattle.making.specs.Making.{iqOf, Said, nothing, numbered, makingSaid, isMade, madeWords}
+
+pub iq-again : (i : Iq) → iqOf (settledOf i) ≡ i
+iq-again Off = refl
+iq-again Observing = refl
+iq-again (Correcting r) = refl
+iq-again Withheld = refl
+
+pub settled-again : (s : Settled) → settledOf (iqOf s) ≡ s
+settled-again isOff = refl
+settled-again observing = refl
+settled-again (correcting r) = refl
+settled-again withheld = refl
+
+-- the answer by whether all is off
+pub said-by : (c : Config) (spans repairs words : ℕ) (t : Bool) → allOff c ≡ t → makingSaid c spans repairs words ≡ cond t nothing (numbered (refusal c spans repairs words))
+unfolding makingSaid
+said-by c spans repairs words t e = ap (λ (b : Bool). cond b nothing (numbered (refusal c spans repairs words))) e
+
+-- the lent words by whether a chain is made
+pub words-by : {A : Type 0} (z : A) (s : Said) (ws : List A) (t : Bool) → isMade s ≡ t → madeWords z s ws ≡ cond t (replicate (length ws) z) ws
+words-by {A = A} z s ws t e = ap (λ (b : Bool). cond b (replicate (length ws) z) ws) e

@@ -1,0 +1,4 @@
+-- definitions
+pub mod Ordered
+pub mod Ordering
+pub mod Rising

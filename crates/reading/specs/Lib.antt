@@ -1,0 +1,4 @@
+-- definitions
+pub mod Reading
+-- laws
+pub mod ReadingLaws

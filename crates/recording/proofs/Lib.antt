@@ -1,2 +1,0 @@
--- What several proofs of `recording` cite.
-pub mod Parts

@@ -1,0 +1,4 @@
+-- definitions
+pub mod Starting
+-- laws
+pub mod StartingLaws

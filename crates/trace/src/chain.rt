@@ -1,0 +1,170 @@
+// Making a chain, and what a configuration says of itself.
+
+use crate::Head;
+use crate::MONITOR_WORDS;
+use crate::REPAIR_WORDS;
+use crate::SPAN_WORDS;
+use crate::words::Front;
+use crate::words::answer_plain;
+use crate::words::plain;
+use crate::words::word;
+use crate::words::write_front;
+use crate::words::write_words;
+use config::ConditioningConfig;
+use iq::Calibration;
+use iq::IqCalibration;
+use iq::StageMode;
+use making::MakingAnswer;
+use state_words::Lent;
+use state_words::WORDS;
+use state_words::mode_word;
+
+// ---- a configuration of twelve words
+
+fn mode(w: u64) -> StageMode {
+    if w == 0 {
+        return StageMode::Off;
+    }
+    if w == 1 {
+        return StageMode::Observe;
+    }
+    StageMode::Apply
+}
+
+fn calibration(present: u64, gain: u64, phase: u64, centre: u64) -> Calibration {
+    if present == 0 {
+        return Calibration::Absent;
+    }
+    Calibration::Present(IqCalibration {
+        gain: ieee::from_bits64(gain),
+        phase: ieee::from_bits64(phase),
+        centre: ieee::from_bits64(centre),
+    })
+}
+
+fn configuration(w: &[u64]) -> ConditioningConfig {
+    ConditioningConfig {
+        impulse: mode(word(w, 0)),
+        dc: mode(word(w, 1)),
+        iq: mode(word(w, 2)),
+        fs: ieee::from_bits64(word(w, 3)),
+        centre: ieee::from_bits64(word(w, 4)),
+        n: word(w, 5) as usize,
+        calibration: calibration(word(w, 6), word(w, 7), word(w, 8), word(w, 9)),
+        spans: word(w, 10) as usize,
+        repairs: word(w, 11) as usize,
+    }
+}
+
+fn calibration_words(c: Calibration) -> [u64; 4] {
+    let Calibration::Present(x) = c else {
+        return [0, 0, 0, 0];
+    };
+    [
+        1,
+        ieee::to_bits64(x.gain),
+        ieee::to_bits64(x.phase),
+        ieee::to_bits64(x.centre),
+    ]
+}
+
+fn write_configuration(c: ConditioningConfig) {
+    let impulse = c.impulse;
+    let dc = c.dc;
+    let iq = c.iq;
+    let calibration = c.calibration;
+    let front = [
+        mode_word(impulse),
+        mode_word(dc),
+        mode_word(iq),
+        ieee::to_bits64(c.fs),
+        ieee::to_bits64(c.centre),
+        c.n as u64,
+    ];
+    let middle = calibration_words(calibration);
+    let back = [c.spans as u64, c.repairs as u64];
+    write_words(&front);
+    write_words(&middle);
+    write_words(&back);
+}
+
+fn number_of(off: bool) -> u64 {
+    if off {
+        return 1;
+    }
+    0
+}
+
+// Whether all is off, and `observing`.
+pub fn config(input: &[u64]) {
+    let c = configuration(input);
+    write_front(Front {
+        op: 2,
+        number: number_of(c.is_off()),
+        value: 0,
+        p: 0,
+        q: 0,
+        r: 0,
+        s: 0,
+        m: 12,
+    });
+    write_configuration(c.observing());
+}
+
+// ---- making
+
+fn number(answer: MakingAnswer) -> u64 {
+    match answer {
+        MakingAnswer::Off => 20,
+        MakingAnswer::BadRate => 1,
+        MakingAnswer::BadSize => 2,
+        MakingAnswer::BadCapacity => 3,
+        MakingAnswer::BadLength => 4,
+        MakingAnswer::Made => 0,
+    }
+}
+
+fn lent(head: Head) -> Lent {
+    Lent {
+        spans: head.a as usize,
+        repairs: head.b as usize,
+        monitor: head.c as usize,
+    }
+}
+
+// The new chain, or the one before where none was made.
+pub fn make(
+    state: &mut [u64; WORDS],
+    head: Head,
+    input: &[u64],
+    spans: &mut [u64; SPAN_WORDS],
+    repairs: &mut [u64; REPAIR_WORDS],
+    monitor: &mut [f64; MONITOR_WORDS],
+) {
+    let c = configuration(input);
+    let answer = state_words::make(c, state, spans, repairs, monitor, lent(head));
+    answer_plain(1, plain(number(answer)), 0, 0);
+}
+
+// The words of the chain before the first making.
+pub fn first() -> [u64; WORDS] {
+    let config = ConditioningConfig {
+        impulse: StageMode::Apply,
+        dc: StageMode::Apply,
+        iq: StageMode::Observe,
+        fs: 48000.0,
+        centre: 0.0,
+        n: 8,
+        calibration: Calibration::Absent,
+        spans: 2,
+        repairs: 2,
+    };
+    let lent = Lent {
+        spans: 48,
+        repairs: 12,
+        monitor: 32,
+    };
+    let made = state_words::bench::make(state_words::bench::empty(), config, lent);
+    let b = made.bench;
+    b.state
+}

@@ -1,0 +1,187 @@
+// What a state and the stores hold, as words.
+
+use crate::Head;
+use crate::words::Front;
+use crate::words::answer_plain;
+use crate::words::plain;
+use crate::words::show_floats;
+use crate::words::show_words;
+use crate::words::write_front;
+use crate::words::write_words;
+use complex::Complex64;
+use iq::Iq;
+use log::Mark;
+use log::Ring;
+use log::Stage;
+use reading::ConditioningLog;
+use reading::DcLevel;
+use reading::SpanRead;
+use state_words::STAGES;
+use state_words::WORDS;
+use state_words::iq_word;
+use state_words::part;
+use state_words::part_of_floats;
+
+// An answer of so many words.
+fn front(op: u64, m: u64) -> Front {
+    Front {
+        op,
+        number: 0,
+        value: 0,
+        p: 0,
+        q: 0,
+        r: 0,
+        s: 0,
+        m,
+    }
+}
+
+// ---- the log
+
+fn write_ring(count: u64, ring: Ring) {
+    let words = [count, ring.head as u64, ring.len as u64, ring.dropped];
+    write_words(&words);
+}
+
+fn write_rings(log: ConditioningLog) {
+    for k in 0..12 {
+        let count = log.counts[k];
+        let ring = log.rings[k];
+        write_ring(count, ring);
+    }
+}
+
+fn write_complex(there: u64, z: Complex64) {
+    let words = [there, ieee::to_bits64(z.re), ieee::to_bits64(z.im)];
+    write_words(&words);
+}
+
+fn write_level(level: DcLevel) {
+    let DcLevel::Level(dc) = level else {
+        write_complex(0, Complex64 { re: 0.0, im: 0.0 });
+        return;
+    };
+    write_complex(1, dc);
+}
+
+fn write_iq(iq: Iq) {
+    let Iq::Correcting(rho) = iq else {
+        write_complex(iq_word(iq), Complex64 { re: 0.0, im: 0.0 });
+        return;
+    };
+    write_complex(2, rho);
+}
+
+fn write_counts(log: ConditioningLog) {
+    let ring = log.repairs;
+    let words = [
+        log.dropped,
+        ring.head as u64,
+        ring.len as u64,
+        ring.dropped,
+        log.longruns,
+    ];
+    write_words(&words);
+}
+
+fn write_log(log: ConditioningLog) {
+    let samples = [log.seen, log.released, log.held as u64];
+    let level = log.dclevel;
+    let iq = log.iq;
+    write_words(&samples);
+    write_rings(log);
+    write_counts(log);
+    write_level(level);
+    write_iq(iq);
+}
+
+pub fn log(state: &[u64; WORDS]) {
+    write_front(front(5, 62));
+    write_log(reading::log(state_words::read_state(state)));
+}
+
+// ---- the state
+
+fn write_first(words: &[u64], n: usize) {
+    let m = part(words, n);
+    write_words(&words[..m]);
+}
+
+// The settings, but for the coefficient, and the stages.
+pub fn state(state: &[u64; WORDS]) {
+    write_front(front(6, 113));
+    write_first(state, STAGES);
+}
+
+// ---- the stores
+
+fn shown_in_all(a: usize, b: usize, c: usize, how: u64) -> u64 {
+    if how == 1 {
+        return 3;
+    }
+    std::num::wrapping_add_u64(std::num::wrapping_add_u64(a as u64, b as u64), c as u64)
+}
+
+pub fn stores(head: Head, spans: &[u64], repairs: &[u64], words: &[f64]) {
+    let a = part(spans, head.a as usize);
+    let b = part(repairs, head.b as usize);
+    let c = part_of_floats(words, head.c as usize);
+    write_front(Front {
+        op: 7,
+        number: 0,
+        value: 0,
+        p: a as u64,
+        q: b as u64,
+        r: c as u64,
+        s: 0,
+        m: shown_in_all(a, b, c, head.how),
+    });
+    show_words(&spans[..a], head.how);
+    show_words(&repairs[..b], head.how);
+    show_floats(&words[..c], head.how);
+}
+
+// ---- a span
+
+fn stage(w: u64) -> Stage {
+    if w == 0 {
+        return Stage::Impulse;
+    }
+    if w == 1 {
+        return Stage::Dc;
+    }
+    Stage::Iq
+}
+
+fn kind(w: u64) -> Mark {
+    if w == 0 {
+        return Mark::Repaired;
+    }
+    if w == 1 {
+        return Mark::Flagged;
+    }
+    if w == 2 {
+        return Mark::Corrected;
+    }
+    Mark::Uncertain
+}
+
+fn write_span(read: SpanRead) {
+    let SpanRead::Held(s) = read else {
+        answer_plain(8, plain(20), 0, 0);
+        return;
+    };
+    answer_plain(8, plain(0), s.start, s.len);
+}
+
+pub fn span(state: &[u64; WORDS], head: Head, spans: &[u64]) {
+    let a = part(spans, head.d as usize);
+    let read = reading::span(
+        state_words::read_state(state),
+        &spans[..a],
+        stage(head.a),
+        kind(head.b),
+        head.c as usize,
+    );
+    write_span(read);
+}
