@@ -1,1 +1,2 @@
+-- the theorem
 pub mod BenchMarks

@@ -1,3 +1,4 @@
+-- laws that several functions' proofs cite
 pub mod Lists
 pub mod Selecting
 pub mod Signs

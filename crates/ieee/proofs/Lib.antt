@@ -1,3 +1,4 @@
+-- laws that several functions' proofs cite
 pub mod Narrowing
 pub mod Rooting
 pub mod HalfRoots

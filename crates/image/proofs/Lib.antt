@@ -1,3 +1,4 @@
+-- laws that several functions' proofs cite
 pub mod Turns
 pub mod Limit
 pub mod Products

@@ -1,1 +1,2 @@
+-- definitions
 pub mod Notices

@@ -1,3 +1,4 @@
+-- laws that several functions' proofs cite
 pub mod Places
 pub mod Sizes
 pub mod Blends
