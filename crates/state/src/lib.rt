@@ -283,12 +283,13 @@ fn all_occur(window: &[f32; 33], sorted: &[f32; 33]) -> bool
     ensures result { λ r. ⌜ r ≡ allTo (λ k. occurs (getD (now (sorted .entry)) k zeroF) (now (window .entry))) 33 ⌝ }
     ensures values { λ r. ⌜ All Held (now (window .entry)) ⌝ }
 {
-    for k in 0..33 {
-        if !occurs(window, sorted[k]) {
-            return false;
-        }
+    let mut all = true;
+    let mut k: usize = 0;
+    while k < 33 {
+        all = all & occurs(window, sorted[k]);
+        k += 1;
     }
-    true
+    all
 }
 
 // Whether it is known without sorting that the sorted list is the window sorted: as many different
