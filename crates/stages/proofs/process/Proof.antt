@@ -1,14 +1,13 @@
--- `calls::accept` runs the stages one after another. Assumes nothing.
-use mathlib.Core.Path.{ap, _∙_}
+-- `stages::process` runs the stages one after another. Assumes nothing.
+use mathlib.Core.Path.{_∙_}
 use native.Mathlib.Omega.{arith}
 use denote.Ref.{now}
 use Rattle.state.specs.FitsLaws.{state-fit}
-use Rattle.calls.specs.Calls.{ready}
-use Rattle.calls.specs.CallLaws.{new-few, new-length}
-use Rattle.calls.specs.Accepting.{ready-few, ready-inside, ran-bounded, ran-length, accepted-said, accepted-written, accepted-chain}
+use Rattle.stages.specs.SliceLaws.{new-few, new-length}
+use Rattle.stages.specs.Processing.{ready-few, ready-inside, ran-bounded, ran-length, ready-count, processed-written, processed-chain}
 use borrow.Author.Needs.{needs}
-use Rattle.calls.proofs.accept.Statement.{statement}
-use Rattle.calls.proofs.accept.Tie as tie
+use Rattle.stages.proofs.process.Statement.{statement}
+use Rattle.stages.proofs.process.Tie as tie
 
 sub-new : tie.Need-sub-new
 sub-new c = search needs
@@ -77,15 +76,15 @@ returns c =
     let r = c .before .before .before .before .before .before .before .before .before .before .before .before .before .before .before .before .before .before .before .before .before .before .before .suppress .ensures in
     let ran = c .before .before .before .before .before .before .before .before .before .before .before .before .before .before .before .before .before .before .before .before .before .before .before .suppress .result in
     let dc = c .before .before .before .before .before .before .before .before .before .before .before .before .before .filter .ensures in (
-      ap ready (accepted-said (a .state) (now (a .samples)) (now (a .spans)) (now (a .repairs)) (s .pre) ran _ _ _ (r .1 .0) (r .1 .1 .0) (r .1 .1 .1)),
+      ready-count (a .state) (now (a .samples)) (now (a .spans)) (now (a .repairs)) (s .pre) ran _ _ _ (r .1 .0) (r .1 .1 .0) (r .1 .1 .1),
       (
-        accepted-chain (a .state) (now (a .samples)) (now (a .spans)) (now (a .repairs)) (s .pre) ran _ _ _ (r .1 .0) (r .1 .1 .0) (r .1 .1 .1) (r .0) _ (dc .0) _ _ (c .before .before .before .before .before .before .before .mark-released .ensures),
-        accepted-written (a .state) (now (a .samples)) (now (a .spans)) (now (a .repairs)) (s .pre) ran _ _ _ (r .1 .0) (r .1 .1 .0) (r .1 .1 .1) _ (dc .1),
+        processed-chain (a .state) (now (a .samples)) (now (a .spans)) (now (a .repairs)) (s .pre) ran _ _ _ (r .1 .0) (r .1 .1 .0) (r .1 .1 .1) (r .0) _ (dc .0) _ _ (c .before .before .before .before .before .before .before .mark-released .ensures),
+        processed-written (a .state) (now (a .samples)) (now (a .spans)) (now (a .repairs)) (s .pre) ran _ _ _ (r .1 .0) (r .1 .1 .0) (r .1 .1 .1) _ (dc .1),
       ),
     )
 
-pub accept-spec : {M : Type 1} → statement M
-accept-spec =
+pub process-spec : {M : Type 1} → statement M
+process-spec =
     tie.close
     (tie.spec
     sub-new

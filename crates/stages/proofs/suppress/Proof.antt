@@ -1,4 +1,4 @@
--- `calls::suppress` runs the impulse stage, if it runs. Assumes nothing.
+-- `stages::suppress` runs the impulse stage, if it runs. Assumes nothing.
 use mathlib.Core.Path.{_≡_, ap, _∙_}
 use mathlib.Core.List.{List}
 use Prim.Native.Nat.{ℕ}
@@ -6,11 +6,11 @@ use lib.ListN.{length}
 use borrow.Author.Tests.{not-true, not-false}
 use denote.Ref.{now}
 use Rattle.impulse_run.specs.Noted.{noteAll, over}
-use Rattle.calls.specs.Calls.{machineOf, notesIn}
-use Rattle.calls.specs.CallLaws.{call-roomy, call-room, off-after, off-told, off-out, off-written, on-after, on-told, on-out}
+use Rattle.stages.specs.Stages.{machineOf, notesIn}
+use Rattle.stages.specs.SliceLaws.{call-roomy, call-room, off-after, off-told, off-out, off-written, on-after, on-told, on-out}
 use borrow.Author.Needs.{needs}
-use Rattle.calls.proofs.suppress.Statement.{statement}
-use Rattle.calls.proofs.suppress.Tie as tie
+use Rattle.stages.proofs.suppress.Statement.{statement}
+use Rattle.stages.proofs.suppress.Tie as tie
 
 returns : tie.Need-returns
 unfolding noteAll
