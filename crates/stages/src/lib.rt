@@ -8,10 +8,12 @@ ghost use Rattle.rules.specs.Log.{spanOf};
 ghost use Rattle.rules.specs.Iq.{correctedBy};
 ghost use Rattle.log.specs.View.{Logged};
 ghost use Rattle.log.specs.CheckLaws.{Bounded};
+ghost use Rattle.impulse.specs.View.{suppressorOf};
 ghost use Rattle.iq.specs.View.{modeOf, settledOf};
 ghost use Rattle.impulse_run.specs.Noted.{notedOf, noteAll, over};
 ghost use Rattle.stages.specs.Stages.{machineOf, notesIn, newPart, impulseAfter, impulseOut, impulseTold, blockerAfterBy, blockedBy, notedDc, notedIq, handsOn, process, Acceptable};
 use dc::DcBlocker;
+use impulse::ImpulseSuppressor;
 use impulse_run::Notes;
 use impulse_run::Ran;
 use iq::Iq;
@@ -27,21 +29,26 @@ pub struct Processed {
     pub ready: usize,
 }
 
-// The impulse stage over the samples behind the held ones.
+// The impulse stage over the samples behind the held ones. The arrays are the suppressor's.
 fn suppress(
     state: InputConditioner,
     samples: &mut [u64],
+    window: &mut [f32; ImpulseSuppressor::WINDOW],
+    sorted: &mut [f32; ImpulseSuppressor::WINDOW],
+    pending: &mut [u64; ImpulseSuppressor::LOOKAHEAD],
     spans: &mut [u64],
     repairs: &mut [u64],
 ) -> Ran
     requires { ⌜ Acceptable state (now samples) (now spans) (now repairs) ⌝ }
-    ensures suppressor { λ r. ⌜ r .suppressor ≡ impulseAfter state (drop (state .held) (now (samples .entry))) ⌝ }
+    requires { ⌜ suppressorOf (state .suppressor .gate) (now window) (now sorted) (now pending) ≡ state .suppressor ⌝ }
+    requires { ⌜ length (now sorted) ≡ 33 ⌝ }
+    ensures suppressor { λ r. ⌜ suppressorOf (r .gate) (now (window .exit)) (now (sorted .exit)) (now (pending .exit)) ≡ impulseAfter state (drop (state .held) (now (samples .entry))) ⌝ }
     ensures noted { λ r. ⌜ notedOf (r .notes) (now (spans .exit)) (now (repairs .exit)) ≡ noteAll (state .settings .spans) (state .settings .repairs) (notesIn (machineOf state (now (spans .entry)) (now (repairs .entry)))) (impulseTold state (drop (state .held) (now (samples .entry)))) ⌝ }
     ensures ready { λ r. ⌜ r .ready ≡ length (impulseOut state (drop (state .held) (now (samples .entry)))) ⌝ }
     ensures written { λ r. ⌜ now (samples .exit) ≡ over (impulseOut state (drop (state .held) (now (samples .entry)))) (now (samples .entry)) ⌝ }
 {
     let set = state.settings;
-    let suppressor = state.suppressor;
+    let gate = state.suppressor.gate;
     let log = state.log;
     let ring = state.repairs;
     let notes = Notes {
@@ -51,7 +58,7 @@ fn suppress(
     };
     if !set.impulse {
         return Ran {
-            suppressor,
+            gate,
             notes,
             ready: samples.len(),
         };
@@ -59,7 +66,10 @@ fn suppress(
     impulse_run::run(
         samples,
         state.held,
-        suppressor,
+        gate,
+        window,
+        sorted,
+        pending,
         notes,
         spans,
         set.spans,
@@ -174,7 +184,18 @@ pub fn process(
 {
     let len = samples.len();
     let new = len - state.held;
-    let ran = suppress(state, samples, spans, repairs);
+    let mut window = state.suppressor.window;
+    let mut sorted = state.suppressor.sorted;
+    let mut pending = state.suppressor.pending;
+    let ran = suppress(
+        state,
+        samples,
+        &mut window,
+        &mut sorted,
+        &mut pending,
+        spans,
+        repairs,
+    );
     let ready = ran.ready;
     let set = state.settings;
     let mode = set.dc;
@@ -192,7 +213,13 @@ pub fn process(
         state.released,
         ready as u64,
     );
-    let suppressor = ran.suppressor;
+    let gate = ran.gate;
+    let suppressor = ImpulseSuppressor {
+        gate,
+        window,
+        sorted,
+        pending,
+    };
     let monitor = state.monitor;
     let ring = notes.repairs;
     Processed {

@@ -5,8 +5,9 @@ use Prim.Native.Nat.{ℕ}
 use lib.ListN.{length}
 use borrow.Author.Tests.{not-true, not-false}
 use denote.Ref.{now}
-use Rattle.impulse_run.specs.Noted.{noteAll, over}
-use Rattle.stages.specs.Stages.{machineOf, notesIn}
+use Rattle.impulse.specs.declared.ImpulseSuppressor.{ImpulseSuppressor}
+use Rattle.impulse_run.specs.Noted.{noteAll, stateAfter, handed, told, over}
+use Rattle.stages.specs.Stages.{settingIn, newPart, machineOf, notesIn}
 use Rattle.stages.specs.SliceLaws.{call-roomy, call-room, off-after, off-told, off-out, off-written, on-after, on-told, on-out}
 use borrow.Author.Needs.{needs}
 use Rattle.stages.proofs.suppress.Statement.{statement}
@@ -18,23 +19,23 @@ returns c =
     let s = c .before .before .before .before .before .before .before .before .before in
     let a = s .args in
     let off = not-true _ (c .if1 .taken) in
-    let told : _ ≡ _ = ap (noteAll (a .state .settings .spans) (a .state .settings .repairs) (notesIn (machineOf (a .state) (now (a .spans)) (now (a .repairs))))) (off-told (a .state) (now (a .samples)) (now (a .spans)) (now (a .repairs)) (s .pre) off) in (
-      off-after (a .state) (now (a .samples)) (now (a .spans)) (now (a .repairs)) (s .pre) off,
+    let told : _ ≡ _ = ap (noteAll (a .state .settings .spans) (a .state .settings .repairs) (notesIn (machineOf (a .state) (now (a .spans)) (now (a .repairs))))) (off-told (a .state) (now (a .samples)) (now (a .spans)) (now (a .repairs)) (s .pre .0) off) in (
+      s .pre .1 .0 ∙ off-after (a .state) (now (a .samples)) (now (a .spans)) (now (a .repairs)) (s .pre .0) off,
       (
         told,
         (
-          ap length (off-out (a .state) (now (a .samples)) (now (a .spans)) (now (a .repairs)) (s .pre) off),
-          off-written (a .state) (now (a .samples)) (now (a .spans)) (now (a .repairs)) (s .pre) off,
+          ap length (off-out (a .state) (now (a .samples)) (now (a .spans)) (now (a .repairs)) (s .pre .0) off),
+          off-written (a .state) (now (a .samples)) (now (a .spans)) (now (a .repairs)) (s .pre .0) off,
         ),
       ),
     )
 
 run-requires : tie.Need-run-requires
 run-requires c κs =
-    let s = c .before .before .before .before .before .before .before .before .before .before .before .before in
+    let s = c .before .before .before .before .before .before .before .before .before .before .before .before .before .before .before in
     let a = s .args in
-    let on = not-false _ (c .before .before .before .if1 .left) in
-    (s .pre .held-in, (call-room (a .state) (now (a .samples)) (now (a .spans)) (now (a .repairs)) (s .pre) on, call-roomy (a .state) (now (a .samples)) (now (a .spans)) (now (a .repairs)) (s .pre)))
+    let on = not-false _ (c .before .before .before .before .before .before .if1 .left) in
+    (s .pre .0 .held-in, (call-room (a .state) (now (a .samples)) (now (a .spans)) (now (a .repairs)) (s .pre .0) on, (s .pre .1 .1, call-roomy (a .state) (now (a .samples)) (now (a .spans)) (now (a .repairs)) (s .pre .0))))
 
 same-length : tie.Need-same-length
 same-length c = search needs
@@ -47,14 +48,19 @@ same-length-3 c = search needs
 
 returns-2 : tie.Need-returns-2
 returns-2 c =
-    let s = c .before .before .before .before .before .before .before .before .before .before .before .before .before .before .before .before .before .before .before in
+    let s = c .before .before .before .before .before .before .before .before .before .before .before .before .before .before .before .before .before .before .before .before .before .before in
     let a = s .args in
-    let on = not-false _ (c .before .before .before .before .before .before .before .before .before .before .if1 .left) in
+    let on = not-false _ (c .before .before .before .before .before .before .before .before .before .before .before .before .before .if1 .left) in
     let r = c .before .before .before .before .before .before .run .ensures in
-    let out = on-out (a .state) (now (a .samples)) (now (a .spans)) (now (a .repairs)) (s .pre) on in (
-      r .0 ∙ on-after (a .state) (now (a .samples)) (now (a .spans)) (now (a .repairs)) (s .pre) on,
+    let set = settingIn (a .state) in
+    let new = newPart (a .state) (now (a .samples)) in
+    let note = noteAll (a .state .settings .spans) (a .state .settings .repairs) (notesIn (machineOf (a .state) (now (a .spans)) (now (a .repairs)))) in
+    -- the lent arrays are the suppressor's
+    let lent = s .pre .1 .0 in
+    let out = ap (λ (m : ImpulseSuppressor). handed set m new) lent ∙ on-out (a .state) (now (a .samples)) (now (a .spans)) (now (a .repairs)) (s .pre .0) on in (
+      r .0 ∙ ap (λ (m : ImpulseSuppressor). stateAfter set m new) lent ∙ on-after (a .state) (now (a .samples)) (now (a .spans)) (now (a .repairs)) (s .pre .0) on,
       (
-        r .1 .0 ∙ ap (noteAll (a .state .settings .spans) (a .state .settings .repairs) (notesIn (machineOf (a .state) (now (a .spans)) (now (a .repairs))))) (on-told (a .state) (now (a .samples)) (now (a .spans)) (now (a .repairs)) (s .pre) on),
+        r .1 .0 ∙ ap note (ap (λ (m : ImpulseSuppressor). told set m new) lent ∙ on-told (a .state) (now (a .samples)) (now (a .spans)) (now (a .repairs)) (s .pre .0) on),
         (
           r .1 .1 .0 ∙ ap length out,
           r .1 .1 .1 ∙ ap (λ (l : List ℕ). over l (now (a .samples))) out,
