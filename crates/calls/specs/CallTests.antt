@@ -16,7 +16,8 @@ use Rattle.sample_guard.specs.declared.Found.the-variants.{At, Nothing}
 use Rattle.sample_guard.specs.Found.{found, placeIn}
 use Rattle.state.specs.declared.InputConditioner.{InputConditioner}
 use Rattle.state.specs.Fits.{stateFits}
-use Rattle.calls.specs.Calls.{callRefusal, newPart, Machine, machineOf, Said, refused, Outcome, taken, declined, called, Stored, Acceptable}
+use Rattle.stages.specs.Stages.{newPart, Machine, machineOf, Stored, Acceptable}
+use Rattle.calls.specs.Calls.{callRefusal, Said, refused, Outcome, taken, declined, called}
 
 -- a call's number by the answers of its tests
 abbrev pub callNumber : Bool → Bool → Bool → Bool → Bool → Bool → Bool → ℕ

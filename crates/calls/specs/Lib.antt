@@ -1,6 +1,4 @@
 -- definitions
 pub mod Calls
 -- laws
-pub mod CallLaws
-pub mod Accepting
 pub mod CallTests

@@ -37,7 +37,7 @@ pub struct Turned {
 
 // All of them: `ready` were released.
 pub struct Ran {
-    pub suppressor: ImpulseSuppressor,
+    pub gate: Gate,
     pub notes: Notes,
     pub ready: usize,
 }
@@ -221,7 +221,10 @@ fn take(
 pub fn run(
     samples: &mut [u64],
     held: usize,
-    s: ImpulseSuppressor,
+    first: Gate,
+    window: &mut [f32; ImpulseSuppressor::WINDOW],
+    sorted: &mut [f32; ImpulseSuppressor::WINDOW],
+    pending: &mut [u64; ImpulseSuppressor::LOOKAHEAD],
     notes: Notes,
     spans: &mut [u64],
     cap: usize,
@@ -229,17 +232,15 @@ pub fn run(
     room: usize,
 ) -> Ran
     requires { ⌜ held ≤ length (now samples) ⌝ }
-    requires { ⌜ (held < length (now samples) → Room (s .gate) × (s .gate .received + (length (now samples) - held) ≤ 2 ^ 50)) ⌝ }
+    requires { ⌜ (held < length (now samples) → Room first × (first .received + (length (now samples) - held) ≤ 2 ^ 50)) ⌝ }
+    requires { ⌜ length (now sorted) ≡ 33 ⌝ }
     requires { ⌜ Roomy cap room (2 ^ 52) (notedOf notes (now spans) (now repairs)) ⌝ }
-    ensures suppressor { λ r. ⌜ r .suppressor ≡ stateAfter (settingOf (s .gate)) s (drop held (now (samples .entry))) ⌝ }
-    ensures noted { λ r. ⌜ notedOf (r .notes) (now (spans .exit)) (now (repairs .exit)) ≡ noteAll cap room (notedOf notes (now (spans .entry)) (now (repairs .entry))) (told (settingOf (s .gate)) s (drop held (now (samples .entry)))) ⌝ }
-    ensures ready { λ r. ⌜ r .ready ≡ length (handed (settingOf (s .gate)) s (drop held (now (samples .entry)))) ⌝ }
-    ensures written { λ r. ⌜ now (samples .exit) ≡ over (handed (settingOf (s .gate)) s (drop held (now (samples .entry)))) (now (samples .entry)) ⌝ }
+    ensures suppressor { λ r. ⌜ suppressorOf (r .gate) (now (window .exit)) (now (sorted .exit)) (now (pending .exit)) ≡ stateAfter (settingOf first) (suppressorOf first (now (window .entry)) (now (sorted .entry)) (now (pending .entry))) (drop held (now (samples .entry))) ⌝ }
+    ensures noted { λ r. ⌜ notedOf (r .notes) (now (spans .exit)) (now (repairs .exit)) ≡ noteAll cap room (notedOf notes (now (spans .entry)) (now (repairs .entry))) (told (settingOf first) (suppressorOf first (now (window .entry)) (now (sorted .entry)) (now (pending .entry))) (drop held (now (samples .entry)))) ⌝ }
+    ensures ready { λ r. ⌜ r .ready ≡ length (handed (settingOf first) (suppressorOf first (now (window .entry)) (now (sorted .entry)) (now (pending .entry))) (drop held (now (samples .entry)))) ⌝ }
+    ensures written { λ r. ⌜ now (samples .exit) ≡ over (handed (settingOf first) (suppressorOf first (now (window .entry)) (now (sorted .entry)) (now (pending .entry))) (drop held (now (samples .entry)))) (now (samples .entry)) ⌝ }
 {
-    let mut gate = s.gate;
-    let mut window = s.window;
-    let mut sorted = s.sorted;
-    let mut pending = s.pending;
+    let mut gate = first;
     let mut said = notes;
     let mut out: usize = 0;
     let mut k = held;
@@ -249,9 +250,9 @@ pub fn run(
             k,
             out,
             gate,
-            &mut window,
-            &mut sorted,
-            &mut pending,
+            window,
+            sorted,
+            pending,
             said,
             spans,
             cap,
@@ -263,14 +264,8 @@ pub fn run(
         out = t.out;
         k = k + 1;
     }
-    let suppressor = ImpulseSuppressor {
-        gate,
-        window,
-        sorted,
-        pending,
-    };
     Ran {
-        suppressor,
+        gate,
         notes: said,
         ready: out,
     }

@@ -31,10 +31,11 @@ use Rattle.config.specs.Config.{configOf}
 use Rattle.state.specs.declared.InputConditioner.{InputConditioner}
 use Rattle.state.specs.Fits.{heldBy}
 use Rattle.making.specs.Making.{freshState, freshSettings, Said, made, makingSaid}
+use Rattle.stages.specs.Stages.{newPart, handsOn, loggedAfter, process}
+use Rattle.stages.specs.Processing.{hands-length}
 use Rattle.calls.specs.Calls as call
-use Rattle.calls.specs.Calls.{newPart, callRefusal, refused, ready, Outcome, taken, declined, called, process, handsOn}
+use Rattle.calls.specs.Calls.{callRefusal, refused, ready, Outcome, taken, declined, called}
 use Rattle.calls.specs.CallTests.{callNumber, refusal-by, taken-by}
-use Rattle.calls.specs.Accepting.{hands-length}
 use Rattle.hops.specs.Hops as hop
 use Rattle.image.specs.declared.HopAnswer.{HopAnswer}
 use Rattle.image.specs.declared.HopAnswer.the-variants as answer
@@ -100,7 +101,7 @@ module _ (g : ConditioningConfig) (f : Fit g) (xs : List ℕ) (hs : List Hop) (r
   pub spans-long : length (chainAt g xs hs .machine .spans) ≡ 24 * chainAt g xs hs .machine .state .settings .spans
   unfolding chainAt withHops core process freshState freshSettings
   spans-long =
-      let t = uncertain-rings (g .spans) (call.loggedAfter (freshMachine g) xs) (hopMarks g hs) (call-rings (freshMachine g) xs (fresh-rings g (f .limits .some-spans))) .twelve .store in
+      let t = uncertain-rings (g .spans) (loggedAfter (freshMachine g) xs) (hopMarks g hs) (call-rings (freshMachine g) xs (fresh-rings g (f .limits .some-spans))) .twelve .store in
       omega (arith, t)
 
   same-repairs : chainAt g xs hs .machine .state .settings .repairs ≡ g .repairs

@@ -29,7 +29,8 @@ use Rattle.state.specs.declared.Settings.{Settings}
 use Rattle.state.specs.declared.InputConditioner.{InputConditioner}
 use Rattle.making.specs.Making.{freshState, freshSettings}
 use Rattle.making.specs.MakingLaws.{settled-again}
-use Rattle.calls.specs.Calls.{Machine, machineOf, notesIn, newPart, callRefusal, Said, refused, ready, Outcome, taken, called, process, handsOn}
+use Rattle.stages.specs.Stages.{Machine, machineOf, notesIn, newPart, process, handsOn}
+use Rattle.calls.specs.Calls.{callRefusal, Said, refused, ready, Outcome, taken, called}
 use Rattle.hops.specs.Hops as hops
 use Rattle.hops.specs.Hops.{isObserving, isOffIq, uncertain, saidHop, Hopped}
 use Rattle.record.specs.Lists.{Given, own, other, handed, kept, Operation, call, hop, Chain, afterCall, callOn, afterHop, hopOn, next, run, IsOwn, isReady, Found, Proper}

@@ -29,7 +29,8 @@ use Rattle.config.specs.Config.{configOf, allOff, refusal}
 use Rattle.state.specs.FitsLaws.{state-groups}
 use Rattle.making.specs.Making as making
 use Rattle.making.specs.Making.{freshState, freshSettings, nothing, made, makingSaid, madeWords, numbered}
-use Rattle.calls.specs.Calls.{Machine, machineOf, Said, newPart, Outcome, process, taken, called, refused, ready}
+use Rattle.stages.specs.Stages.{Machine, machineOf, newPart, process}
+use Rattle.calls.specs.Calls.{Said, Outcome, taken, called, refused, ready}
 use Rattle.calls.specs.CallTests.{taken-by, declined-by}
 use Rattle.reading.specs.Reading.{storeFits, readable, spansIn, stateLevel}
 use Rattle.part_limit.specs.Limit.{returned}

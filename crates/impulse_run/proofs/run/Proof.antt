@@ -1,9 +1,9 @@
 -- `impulse_run::run` meets its contract. Assumes nothing.
-use mathlib.Core.Path.{_≡_, refl, sym, ap, _∙_}
+use mathlib.Core.Path.{_≡_, refl, ap, _∙_}
 use mathlib.Core.List.{List}
 use Prim.Native.Nat.{ℕ, _-_, _<_}
 use native.Mathlib.Omega.{arith}
-use lib.ListN.{length, length-map}
+use lib.ListN.{length}
 use Rattle.impulse.specs.Machine.{settingOf}
 use Rattle.impulse.specs.View.{suppressorOf}
 use Rattle.impulse_run.specs.Noted.{notedOf, noteAll, stateAfter, handed, told, over}
@@ -12,79 +12,81 @@ use Rattle.impulse_run.proofs.run.Statement.{statement}
 use Rattle.impulse_run.proofs.run.Tie as tie
 
 abbrev Inv-loop : tie.InvT-loop
-Inv-loop samples₀ held spans₀ cap repairs₀ room gate₀ window₀ sorted₀ pending₀ said₀ out₀ k₀ samples spans repairs gate window sorted pending said out k =
+Inv-loop samples₀ held window₀ sorted₀ pending₀ spans₀ cap repairs₀ room gate₀ said₀ out₀ k₀ samples window sorted pending spans repairs gate said out k =
     Going cap room held (suppressorOf gate₀ window₀ sorted₀ pending₀) (notedOf said₀ spans₀ repairs₀) samples₀ (suppressorOf gate window sorted pending) (notedOf said spans repairs) samples out k
     × (length spans ≡ length spans₀)
     × (length repairs ≡ length repairs₀)
 
 abbrev μ-loop : tie.MeasureT-loop
-μ-loop samples₀ held spans₀ cap repairs₀ room gate₀ window₀ sorted₀ pending₀ said₀ out₀ k₀ samples spans repairs gate window sorted pending said out k = length samples₀ - k
+μ-loop samples₀ held window₀ sorted₀ pending₀ spans₀ cap repairs₀ room gate₀ said₀ out₀ k₀ samples window sorted pending spans repairs gate said out k = length samples₀ - k
 
 loop-holds : tie.Need-loop-holds Inv-loop μ-loop
 loop-holds c =
-    let st = c .before .before .before .before .before .before .before in
+    let st = c .before .before .before in
     let a = st .args in
-    (going-first (a .cap) (a .room) (a .held) (a .s) (notedOf (a .notes) (a .spans .now) (a .repairs .now)) (a .samples .now) (st .pre .0), refl, refl)
+    (going-first (a .cap) (a .room) (a .held) (suppressorOf (a .first) (a .window .now) (a .sorted .now) (a .pending .now)) (notedOf (a .notes) (a .spans .now) (a .repairs .now)) (a .samples .now) (st .pre .0), refl, refl)
 
 take-requires : tie.Need-take-requires Inv-loop μ-loop
 take-requires c κs =
-    let st = c .before .before .before .before .before .before .before .before .before .before .before .before .before .before .before in
+    let st = c .before .before .before .before .before .before .before .before .before .before .before in
     let a = st .args in
     let l = c .before .before .before .before .before .before .before .loop in
+    let m₀ = suppressorOf (a .first) (a .window .now) (a .sorted .now) (a .pending .now) in
     let n₀ = notedOf (a .notes) (a .spans .now) (a .repairs .now) in
     let m = suppressorOf (l .gate) (l .window) (l .sorted) (l .pending) in
     let n = notedOf (l .said) (l .spans) (l .repairs) in
     let g = l .inv .0 in
-    let same = length-same (a .cap) (a .room) (a .held) (a .s) n₀ (a .samples .now) m n (l .samples) (l .out) (l .k) g in
-    let few = out-few (a .cap) (a .room) (a .held) (a .s) n₀ (a .samples .now) m n (l .samples) (l .out) (l .k) g in
-    let h : l .k < length (a .samples .now) = omega (arith, same) in
-    -- an array field has its length
-    let full : length (a .s .sorted) ≡ 33 = sym (length-map (a .s .sorted) _) ∙ st .good .1 .1 .0 .1 .1 .1 .1 .0 .1 .0 .1 in (
+    let same = length-same (a .cap) (a .room) (a .held) m₀ n₀ (a .samples .now) m n (l .samples) (l .out) (l .k) g in
+    let few = out-few (a .cap) (a .room) (a .held) m₀ n₀ (a .samples .now) m n (l .samples) (l .out) (l .k) g in
+    let h : l .k < length (a .samples .now) = omega (arith, same) in (
       (omega arith, few),
       (
-        going-room (a .cap) (a .room) (a .held) (a .s) n₀ (a .samples .now) m n (l .samples) (l .out) (l .k) g h (st .pre .1 .0),
+        going-room (a .cap) (a .room) (a .held) m₀ n₀ (a .samples .now) m n (l .samples) (l .out) (l .k) g h (st .pre .1 .0),
         (
-          going-full (a .cap) (a .room) (a .held) (a .s) n₀ (a .samples .now) m n (l .samples) (l .out) (l .k) g full,
-          going-roomy (a .cap) (a .room) (a .held) (a .s) n₀ (a .samples .now) m n (l .samples) (l .out) (l .k) g h (st .pre .1 .0) (st .pre .1 .1),
+          going-full (a .cap) (a .room) (a .held) m₀ n₀ (a .samples .now) m n (l .samples) (l .out) (l .k) g (st .pre .1 .1 .0),
+          going-roomy (a .cap) (a .room) (a .held) m₀ n₀ (a .samples .now) m n (l .samples) (l .out) (l .k) g h (st .pre .1 .0) (st .pre .1 .1 .1),
         ),
       ),
     )
 
 add-k : tie.Need-add-k Inv-loop μ-loop
 add-k c =
-    let st = c .before .before .before .before .before .before .before .before .before .before .before .before .before .before .before .before .before .before .before .before .before .before .before .before in
+    let st = c .before .before .before .before .before .before .before .before .before .before .before .before .before .before .before .before .before .before .before .before in
     let a = st .args in
     let l = c .before .before .before .before .before .before .before .before .before .before .before .before .before .before .before .before .loop in
+    let m₀ = suppressorOf (a .first) (a .window .now) (a .sorted .now) (a .pending .now) in
     let n₀ = notedOf (a .notes) (a .spans .now) (a .repairs .now) in
     let m = suppressorOf (l .gate) (l .window) (l .sorted) (l .pending) in
     let n = notedOf (l .said) (l .spans) (l .repairs) in
-    let same = length-same (a .cap) (a .room) (a .held) (a .s) n₀ (a .samples .now) m n (l .samples) (l .out) (l .k) (l .inv .0) in
+    let same = length-same (a .cap) (a .room) (a .held) m₀ n₀ (a .samples .now) m n (l .samples) (l .out) (l .k) (l .inv .0) in
     omega (arith, same, st .good .0, c .before .before .before .before .before .before .before .before .before .before .before .before .before .before .before .loop-test .taken)
 
 loop-less : tie.Need-loop-less Inv-loop μ-loop
 loop-less c =
-    let st = c .before .before .before .before .before .before .before .before .before .before .before .before .before .before .before .before .before .before .before .before .before .before .before .before in
+    let st = c .before .before .before .before .before .before .before .before .before .before .before .before .before .before .before .before .before .before .before .before in
     let a = st .args in
     let l = c .before .before .before .before .before .before .before .before .before .before .before .before .before .before .before .before .loop in
+    let m₀ = suppressorOf (a .first) (a .window .now) (a .sorted .now) (a .pending .now) in
     let n₀ = notedOf (a .notes) (a .spans .now) (a .repairs .now) in
     let m = suppressorOf (l .gate) (l .window) (l .sorted) (l .pending) in
     let n = notedOf (l .said) (l .spans) (l .repairs) in
-    let same = length-same (a .cap) (a .room) (a .held) (a .s) n₀ (a .samples .now) m n (l .samples) (l .out) (l .k) (l .inv .0) in
+    let same = length-same (a .cap) (a .room) (a .held) m₀ n₀ (a .samples .now) m n (l .samples) (l .out) (l .k) (l .inv .0) in
     omega (arith, same, c .before .before .before .before .before .before .before .before .before .before .before .before .before .before .before .loop-test .taken)
 
 loop-again : tie.Need-loop-again Inv-loop μ-loop
 loop-again c =
-    let st = c .before .before .before .before .before .before .before .before .before .before .before .before .before .before .before .before .before .before .before .before .before .before .before .before in
+    let st = c .before .before .before .before .before .before .before .before .before .before .before .before .before .before .before .before .before .before .before .before in
     let a = st .args in
     let l = c .before .before .before .before .before .before .before .before .before .before .before .before .before .before .before .before .loop in
-    let t = c .before .before .before .before .before .before .before .before .take in
+    let m₀ = suppressorOf (a .first) (a .window .now) (a .sorted .now) (a .pending .now) in
     let n₀ = notedOf (a .notes) (a .spans .now) (a .repairs .now) in
     let m = suppressorOf (l .gate) (l .window) (l .sorted) (l .pending) in
     let n = notedOf (l .said) (l .spans) (l .repairs) in
+    let t = c .before .before .before .before .before .before .before .before .take in
     let g = l .inv .0 in
-    let same = length-same (a .cap) (a .room) (a .held) (a .s) n₀ (a .samples .now) m n (l .samples) (l .out) (l .k) g in
+    let same = length-same (a .cap) (a .room) (a .held) m₀ n₀ (a .samples .now) m n (l .samples) (l .out) (l .k) g in
     let h : l .k < length (a .samples .now) = omega (arith, same, c .before .before .before .before .before .before .before .before .before .before .before .before .before .before .before .loop-test .taken) in (
-      going-next (a .cap) (a .room) (a .held) (a .s) n₀ (a .samples .now) m n (l .samples) (l .out) (l .k) g
+      going-next (a .cap) (a .room) (a .held) m₀ n₀ (a .samples .now) m n (l .samples) (l .out) (l .k) g
           (suppressorOf (t .result .gate) (t .last .1 .1 .1 .1 .0) (t .last .1 .1 .1 .1 .1 .0) (t .last .1 .1 .1 .1 .1 .1 .0))
           (notedOf (t .result .notes) (t .last .1 .1 .1 .1 .1 .1 .1 .1 .0) (t .last .1 .1 .1 .1 .1 .1 .1 .1 .1 .1 .0))
           (t .last .0) (t .result .out) h (t .ensures .0) (t .ensures .1 .0) (t .ensures .1 .1 .0) (t .ensures .1 .1 .1),
@@ -94,9 +96,14 @@ loop-again c =
 
 same-length : tie.Need-same-length Inv-loop μ-loop
 same-length c =
-    let a = c .before .before .before .before .before .before .before .before .before .args in
+    let st = c .before .before .before .before .before in
+    let a = st .args in
     let l = c .before .loop in
-    length-same (a .cap) (a .room) (a .held) (a .s) (notedOf (a .notes) (a .spans .now) (a .repairs .now)) (a .samples .now) (suppressorOf (l .gate) (l .window) (l .sorted) (l .pending)) (notedOf (l .said) (l .spans) (l .repairs)) (l .samples) (l .out) (l .k) (l .inv .0)
+    let m₀ = suppressorOf (a .first) (a .window .now) (a .sorted .now) (a .pending .now) in
+    let n₀ = notedOf (a .notes) (a .spans .now) (a .repairs .now) in
+    let m = suppressorOf (l .gate) (l .window) (l .sorted) (l .pending) in
+    let n = notedOf (l .said) (l .spans) (l .repairs) in
+    length-same (a .cap) (a .room) (a .held) m₀ n₀ (a .samples .now) m n (l .samples) (l .out) (l .k) (l .inv .0)
 
 same-length-2 : tie.Need-same-length-2 Inv-loop μ-loop
 same-length-2 c = c .before .loop .inv .1
@@ -106,21 +113,23 @@ same-length-3 c = c .before .loop .inv .2
 
 returns : tie.Need-returns Inv-loop μ-loop
 returns c =
-    let a = c .before .before .before .before .before .before .before .before .before .args in
+    let st = c .before .before .before .before .before in
+    let a = st .args in
     let l = c .before .loop in
+    let m₀ = suppressorOf (a .first) (a .window .now) (a .sorted .now) (a .pending .now) in
     let n₀ = notedOf (a .notes) (a .spans .now) (a .repairs .now) in
     let m = suppressorOf (l .gate) (l .window) (l .sorted) (l .pending) in
     let n = notedOf (l .said) (l .spans) (l .repairs) in
     let g = l .inv .0 in
-    let s = settingOf (a .s .gate) in
-    let same = length-same (a .cap) (a .room) (a .held) (a .s) n₀ (a .samples .now) m n (l .samples) (l .out) (l .k) g in
-    let all = going-last (a .cap) (a .room) (a .held) (a .s) n₀ (a .samples .now) m n (l .samples) (l .out) (l .k) g (omega (arith, same)) in (
-      g .state ∙ ap (stateAfter s (a .s)) all,
+    let s = settingOf (a .first) in
+    let same = length-same (a .cap) (a .room) (a .held) m₀ n₀ (a .samples .now) m n (l .samples) (l .out) (l .k) g in
+    let all = going-last (a .cap) (a .room) (a .held) m₀ n₀ (a .samples .now) m n (l .samples) (l .out) (l .k) g (omega (arith, same)) in (
+      g .state ∙ ap (stateAfter s m₀) all,
       (
-        g .notes ∙ ap (λ (xs : List ℕ). noteAll (a .cap) (a .room) n₀ (told s (a .s) xs)) all,
+        g .notes ∙ ap (λ (xs : List ℕ). noteAll (a .cap) (a .room) n₀ (told s m₀ xs)) all,
         (
-          g .ready ∙ ap (λ (xs : List ℕ). length (handed s (a .s) xs)) all,
-          g .written ∙ ap (λ (xs : List ℕ). over (handed s (a .s) xs) (a .samples .now)) all,
+          g .ready ∙ ap (λ (xs : List ℕ). length (handed s m₀ xs)) all,
+          g .written ∙ ap (λ (xs : List ℕ). over (handed s m₀ xs) (a .samples .now)) all,
         ),
       ),
     )

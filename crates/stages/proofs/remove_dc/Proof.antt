@@ -1,4 +1,4 @@
--- `calls::remove_dc` runs the blocker over what is ready, as its mode has it. Assumes nothing.
+-- `stages::remove_dc` runs the blocker over what is ready, as its mode has it. Assumes nothing.
 use mathlib.Core.Path.{_≡_, sym, ap, _∙_}
 use mathlib.Core.List.{List, _++_}
 use Prim.Native.Nat.{ℕ, _+_, _^_, _<_, _≤_}
@@ -8,10 +8,10 @@ use lib.Seq.{length-take-le}
 use Rattle.rules.specs.Iq.{Mode, observe}
 use Rattle.dc.specs.declared.DcBlocker.{DcBlocker}
 use Rattle.iq.specs.View.{modeOf}
-use Rattle.calls.specs.Calls.{blockerAfterBy, blockedBy}
+use Rattle.stages.specs.Stages.{blockerAfterBy, blockedBy}
 use borrow.Author.Needs.{needs}
-use Rattle.calls.proofs.remove_dc.Statement.{statement}
-use Rattle.calls.proofs.remove_dc.Tie as tie
+use Rattle.stages.proofs.remove_dc.Statement.{statement}
+use Rattle.stages.proofs.remove_dc.Tie as tie
 
 -- the samples that are ready leave the count of updates room
 room : (n ready : ℕ) (xs : List ℕ) → ready ≤ length xs → n + ready < 2 ^ 64 → n + length (take ready xs) < 2 ^ 64

@@ -13,6 +13,7 @@ use Rattle.rules.specs.Log.{Span, spanOf}
 use Rattle.log.specs.declared.Log.{Log}
 use Rattle.log.specs.View.{Logged, bare}
 use Rattle.log.specs.CheckLaws.{Bounded}
+use Rattle.impulse.specs.declared.ImpulseSuppressor.{ImpulseSuppressor}
 use Rattle.impulse_run.specs.declared.Ran.{Ran}
 use Rattle.impulse_run.specs.Noted.{Noted, notedOf, noteAll, handed, over, Roomy}
 use Rattle.impulse_run.specs.NotesLaws.{note-none, bounded-up, roomy-up}
@@ -20,8 +21,8 @@ use Rattle.impulse_run.specs.StageLaws.{handed-most, roomy-run}
 use Rattle.dc.specs.declared.DcBlocker.{DcBlocker}
 use Rattle.iq.specs.View.{modeOf, settledOf}
 use Rattle.state.specs.declared.InputConditioner.{InputConditioner}
-use Rattle.calls.specs.Calls.{settingIn, newPart, machineOf, notesIn, impulseAfter, impulseOut, impulseTold, blockerAfterBy, blockedBy, notedDc, notedIq, dcOut, handsOn, notesAfter, loggedAfter, process, Acceptable}
-use Rattle.calls.specs.CallLaws.{call-roomy, call-room, new-length, new-few, off-told, on-told, blocked-by-length}
+use Rattle.stages.specs.Stages.{settingIn, newPart, machineOf, notesIn, impulseAfter, impulseOut, impulseTold, blockerAfterBy, blockedBy, notedDc, notedIq, dcOut, handsOn, notesAfter, loggedAfter, process, Acceptable}
+use Rattle.stages.specs.SliceLaws.{call-roomy, call-room, new-length, new-few, off-told, on-told, blocked-by-length}
 
 -- ---- how many samples are handed on
 
@@ -97,18 +98,18 @@ module _ (c : InputConditioner) (samples spans repairs : List ℕ) (a : Acceptab
 
     -- ---- and the others
 
-    pub accepted-said : ran .ready ≡ length (handsOn c (newPart c samples))
-    accepted-said = count ∙ sym (hands-length c (newPart c samples))
+    pub ready-count : ran .ready ≡ length (handsOn c (newPart c samples))
+    ready-count = count ∙ sym (hands-length c (newPart c samples))
 
-    pub accepted-written : (samples₂ : List ℕ) → samples₂ ≡ map (correctedBy (settledOf (c .settings .iq))) (blockedBy (modeOf (c .settings .dc)) (c .blocker) (take (ran .ready) samples₁)) ++ drop (ran .ready) samples₁
+    pub processed-written : (samples₂ : List ℕ) → samples₂ ≡ map (correctedBy (settledOf (c .settings .iq))) (blockedBy (modeOf (c .settings .dc)) (c .blocker) (take (ran .ready) samples₁)) ++ drop (ran .ready) samples₁
         → samples₂ ≡ over (handsOn c (newPart c samples)) samples
     unfolding handsOn
-    accepted-written samples₂ e =
+    processed-written samples₂ e =
         e
         ∙ (λ i. map (correctedBy (settledOf (c .settings .iq))) (blockedBy (modeOf (c .settings .dc)) (c .blocker) (front i)) ++ rest i)
         ∙ ap (λ (n : ℕ). handsOn c (newPart c samples) ++ drop n samples) (sym (hands-length c (newPart c samples)))
 
-    pub accepted-chain : ran .suppressor ≡ impulseAfter c (newPart c samples)
+    pub processed-chain : (suppressor : ImpulseSuppressor) → suppressor ≡ impulseAfter c (newPart c samples)
         → (blocker : DcBlocker) → blocker ≡ blockerAfterBy (modeOf (c .settings .dc)) (c .blocker) (take (ran .ready) samples₁)
         → (log : Log) (spans₂ : List ℕ)
         → _≡_ {A = Logged} (record { log = log; spans = spans₂ })
@@ -121,7 +122,7 @@ module _ (c : InputConditioner) (samples spans repairs : List ℕ) (a : Acceptab
           seen = c .seen + (length samples - c .held);
           released = c .released + ran .ready;
           held = length samples - ran .ready;
-          suppressor = ran .suppressor;
+          suppressor = suppressor;
           blocker = blocker;
           monitor = c .monitor;
           log = log;
@@ -132,7 +133,7 @@ module _ (c : InputConditioner) (samples spans repairs : List ℕ) (a : Acceptab
         repairs₁
         ≡ process (machineOf c spans repairs) (newPart c samples)
     unfolding process notesAfter loggedAfter
-    accepted-chain after blocker level log spans₂ logged =
+    processed-chain suppressor after blocker level log spans₂ logged =
         let cap = c .settings .spans in
         let marks : Logged → Span → Logged = λ x m. notedIq cap (settledOf (c .settings .iq)) (notedDc cap (modeOf (c .settings .dc)) x m) m in
         let n = new-length c samples spans repairs a in

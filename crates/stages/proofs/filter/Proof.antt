@@ -1,14 +1,14 @@
--- `calls::filter` runs DC and then IQ over what is ready. Assumes nothing.
+-- `stages::filter` runs DC and then IQ over what is ready. Assumes nothing.
 use mathlib.Core.Path.{_∙_}
 use lib.ListN.{take, drop}
 use lib.Seq.{length-take-le}
 use Rattle.rules.specs.Iq.{correctedBy}
 use Rattle.iq.specs.View.{modeOf, settledOf}
-use Rattle.calls.specs.Calls.{blockedBy}
-use Rattle.calls.specs.CallLaws.{blocked-by-length, filtered}
+use Rattle.stages.specs.Stages.{blockedBy}
+use Rattle.stages.specs.SliceLaws.{blocked-by-length, filtered}
 use borrow.Author.Needs.{needs}
-use Rattle.calls.proofs.filter.Statement.{statement}
-use Rattle.calls.proofs.filter.Tie as tie
+use Rattle.stages.proofs.filter.Statement.{statement}
+use Rattle.stages.proofs.filter.Tie as tie
 
 remove-dc-requires : tie.Need-remove-dc-requires
 remove-dc-requires c κs = search needs

@@ -1,4 +1,4 @@
--- What a call that is not refused leaves room for, and its impulse stage on and off. Assumes nothing.
+-- What an acceptable slice leaves room for, the impulse stage on and off, and DC and IQ over what is ready. Assumes nothing.
 use mathlib.Core.Path.{_≡_, refl, sym, ap, _∙_}
 use mathlib.Core.Bool.{Bool, true, false, cond, _&&_}
 use mathlib.Core.List.{List, [], _++_, map, append-nil}
@@ -22,7 +22,7 @@ use Rattle.impulse_run.specs.Noted.{stateAfter, handed, told, over, Roomy}
 use Rattle.state.specs.declared.InputConditioner.{InputConditioner}
 use Rattle.state.specs.Fits.{heldBy}
 use Rattle.state.specs.FitsLaws.{Fit, state-fit}
-use Rattle.calls.specs.Calls.{settingIn, newPart, machineOf, notesIn, impulseAfter, impulseOut, impulseTold, blockedBy, notedDc, Acceptable}
+use Rattle.stages.specs.Stages.{settingIn, newPart, machineOf, notesIn, impulseAfter, impulseOut, impulseTold, blockedBy, notedDc, Acceptable}
 
 -- ---- the log
 

@@ -1,4 +1,4 @@
--- `calls::mark_dc` notes what is released, as the mode has it. Assumes nothing.
+-- `stages::mark_dc` notes what is released, as the mode has it. Assumes nothing.
 use mathlib.Core.Path.{_≡_, refl, sym, ap, _∙_}
 use Prim.Native.Nat.{ℕ, _^_, _<_, _≤_}
 use native.Mathlib.Omega.{arith}
@@ -10,10 +10,10 @@ use Rattle.log.specs.View.{Logged}
 use Rattle.log.specs.Ready.{Fits}
 use Rattle.log.specs.CheckLaws.{Bounded, bounded-fits}
 use Rattle.iq.specs.View.{modeOf}
-use Rattle.calls.specs.Calls.{notedDc}
+use Rattle.stages.specs.Stages.{notedDc}
 use borrow.Author.Needs.{needs}
-use Rattle.calls.proofs.mark_dc.Statement.{statement}
-use Rattle.calls.proofs.mark_dc.Tie as tie
+use Rattle.stages.proofs.mark_dc.Statement.{statement}
+use Rattle.stages.proofs.mark_dc.Tie as tie
 
 -- room for the mark
 room : (cap : ℕ) (x : Logged) (k start ready : ℕ) → k < 12 → Bounded cap (2 ^ 54) x → (start ≤ 2 ^ 52) × (ready ≤ 2 ^ 48) → Fits cap x k (spanOf start ready)

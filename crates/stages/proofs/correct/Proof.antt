@@ -1,12 +1,12 @@
--- `calls::correct` maps the correction over what is ready. Assumes nothing.
+-- `stages::correct` maps the correction over what is ready. Assumes nothing.
 use mathlib.Core.Path.{sym, ap}
 use mathlib.Core.List.{List, _++_}
 use Prim.Native.Nat.{ℕ}
 use lib.ListN.{drop}
 use lib.Seq.{length-take-le}
 use borrow.Author.Needs.{needs}
-use Rattle.calls.proofs.correct.Statement.{statement}
-use Rattle.calls.proofs.correct.Tie as tie
+use Rattle.stages.proofs.correct.Statement.{statement}
+use Rattle.stages.proofs.correct.Tie as tie
 
 slice-relend-prefix-process : tie.Need-slice-relend-prefix-process
 slice-relend-prefix-process c = search needs

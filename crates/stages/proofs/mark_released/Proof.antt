@@ -1,4 +1,4 @@
--- `calls::mark_released` marks for DC and then for IQ. Assumes nothing.
+-- `stages::mark_released` marks for DC and then for IQ. Assumes nothing.
 use mathlib.Core.Path.{sym, ap, _∙_, subst}
 use Prim.Native.Nat.{_^_}
 use native.Mathlib.Omega.{arith}
@@ -7,11 +7,11 @@ use Rattle.rules.specs.Log.{spanOf}
 use Rattle.log.specs.View.{Logged}
 use Rattle.log.specs.CheckLaws.{Bounded}
 use Rattle.iq.specs.View.{modeOf, settledOf}
-use Rattle.calls.specs.Calls.{notedIq}
-use Rattle.calls.specs.CallLaws.{noted-dc-bounded}
+use Rattle.stages.specs.Stages.{notedIq}
+use Rattle.stages.specs.SliceLaws.{noted-dc-bounded}
 use borrow.Author.Needs.{needs}
-use Rattle.calls.proofs.mark_released.Statement.{statement}
-use Rattle.calls.proofs.mark_released.Tie as tie
+use Rattle.stages.proofs.mark_released.Statement.{statement}
+use Rattle.stages.proofs.mark_released.Tie as tie
 
 mark-dc-requires : tie.Need-mark-dc-requires
 mark-dc-requires c κs = search needs

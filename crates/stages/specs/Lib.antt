@@ -1,0 +1,5 @@
+-- definitions
+pub mod Stages
+-- laws
+pub mod SliceLaws
+pub mod Processing
