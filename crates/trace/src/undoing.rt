@@ -3,15 +3,15 @@
 use crate::Head;
 use crate::SLICE_WORDS;
 use crate::call::fill;
-use crate::words::Told;
 use crate::words::answer_plain;
 use crate::words::answer_slice;
-use crate::words::plain;
 use complex::Complex64;
 use iq::IqCalibration;
 use iq::Validated;
+use state_words::Told;
 use state_words::WORDS;
 use state_words::part;
+use state_words::plain;
 use undo::Undone;
 
 fn beyond(place: usize) -> Told {
@@ -64,7 +64,7 @@ fn level_over(head: Head, input: &[u64], slice: &mut [u64]) {
 
 pub fn level(head: Head, input: &[u64]) {
     let mut slice = [0u64; SLICE_WORDS];
-    fill(&mut slice);
+    fill(&mut slice, SLICE_WORDS, input);
     level_over(head, input, &mut slice);
 }
 

@@ -5,7 +5,6 @@ use lib.ListN.{length}
 use borrow.Author.Needs.{needs}
 use Rattle.bad_input.proofs.causes.samples.Statement.{statement}
 use Rattle.bad_input.proofs.causes.samples.Tie as tie
-use Rattle.bad_input.proofs.causes.sample.Reads as sample-reads
 
 abbrev Inv-loop : tie.InvT-loop
 Inv-loop out₀ k₀ out k = (k ≤ 64) × (length out ≡ 64)

@@ -4,9 +4,6 @@ use lib.ListN.{length}
 use borrow.Author.Needs.{needs}
 use Rattle.bad_input.proofs.random.print.Statement.{statement}
 use Rattle.bad_input.proofs.random.print.Tie as tie
-use Rattle.bad_input.proofs.random.line_after.Reads as line-after-reads
-use Rattle.bad_input.proofs.random.place.Reads as place-reads
-use Rattle.bad_input.proofs.random.print_byte.Reads as print-byte-reads
 
 abbrev Inv-loop : tie.InvT-loop
 Inv-loop names counts from line₀ k₀ line k = 0 ≤ k

@@ -3,8 +3,6 @@ use Prim.Native.Nat.{_-_, _≤_}
 use borrow.Author.Needs.{needs}
 use Rattle.bad_input.proofs.usable.first_beyond.Statement.{statement}
 use Rattle.bad_input.proofs.usable.first_beyond.Tie as tie
-use Rattle.bad_input.proofs.usable.is_within.Reads as is-within-reads
-use Rattle.complex.proofs.Complex32.unpack.Reads as unpack-reads
 
 abbrev Inv-loop : tie.InvT-loop
 Inv-loop from to limit words k₀ k = 0 ≤ k
