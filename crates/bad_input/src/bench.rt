@@ -105,22 +105,23 @@ fn same_floats(a: &[f64], b: &[f64]) -> bool {
     true
 }
 
-fn same_words(a: Bench, b: Bench) -> bool {
-    let states = a.state;
-    let state = b.state;
-    let spans = a.spans;
-    let span = b.spans;
-    let repairs = a.repairs;
-    let repair = b.repairs;
-    same_behind(&states, &state, 0)
-        & same_behind(&spans, &span, 0)
-        & same_behind(&repairs, &repair, 0)
+// Whether the states, the spans and the repairs are the same.
+fn same_words(given: Bench, left: Bench) -> bool {
+    let state = given.state;
+    let spans = given.spans;
+    let repairs = given.repairs;
+    let left_state = left.state;
+    let left_spans = left.spans;
+    let left_repairs = left.repairs;
+    same_behind(&state, &left_state, 0)
+        & same_behind(&spans, &left_spans, 0)
+        & same_behind(&repairs, &left_repairs, 0)
 }
 
-fn same_monitors(a: Bench, b: Bench) -> bool {
-    let given = a.monitor;
-    let left = b.monitor;
-    same_floats(&given, &left)
+fn same_monitors(given: Bench, left: Bench) -> bool {
+    let monitor = given.monitor;
+    let left_monitor = left.monitor;
+    same_floats(&monitor, &left_monitor)
 }
 
 // Whether an operation with this number left what it must: all, where it was not accepted.

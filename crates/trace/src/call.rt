@@ -45,9 +45,9 @@ pub fn fill(slice: &mut [u64], front: usize, input: &[u64]) {
     }
 }
 
-// A slice of the places in front and the first n words; how long it is.
-fn lay_out(slice: &mut [u64], front: usize, input: &[u64], n: usize) -> usize {
-    let length = part(slice, std::num::wrapping_add_usize(front, n));
+// A slice of the places in front and the words; how long it is.
+fn lay_out(slice: &mut [u64], front: usize, input: &[u64]) -> usize {
+    let length = part(slice, std::num::wrapping_add_usize(front, input.len()));
     fill(&mut slice[..length], front, input);
     length
 }
@@ -91,7 +91,7 @@ pub fn call(
     let mut slice = [0u64; SLICE_WORDS];
     hand(&mut handed, head.d);
     let front = places(head.c, handed[HELD] as usize);
-    let length = lay_out(&mut slice, front, input, head.len as usize);
+    let length = lay_out(&mut slice, front, input);
     let lent = lent(head.a, head.b, 0);
     let told = state_words::call(&mut handed, &mut slice, length, spans, repairs, lent);
     write_call(told, &handed, &slice, length, head.how);

@@ -58,7 +58,7 @@ pub fn hop(
     let answer = state_words::hop(
         state,
         input,
-        head.len as usize,
+        input.len(),
         head.a,
         spans,
         monitor,

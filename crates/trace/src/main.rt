@@ -17,7 +17,7 @@ use words::answer_plain;
 use words::read_words;
 
 // The words behind an operation; a call's slice; the stores, each longer than the longest that is lent.
-pub const INPUT_WORDS: usize = 4096;
+const INPUT_WORDS: usize = 4096;
 
 pub const SLICE_WORDS: usize = 4608;
 
@@ -103,7 +103,7 @@ fn read_input(head: Head, input: &mut [u64]) -> bool {
 fn answer(
     state: &mut [u64; WORDS],
     head: Head,
-    input: &mut [u64; INPUT_WORDS],
+    input: &mut [u64],
     spans: &mut [u64; SPAN_WORDS],
     repairs: &mut [u64; REPAIR_WORDS],
     monitor: &mut [f64; MONITOR_WORDS],
@@ -144,7 +144,8 @@ fn turn(
     if !read_input(head, &mut input) {
         return 0;
     }
-    answer(state, head, &mut input, spans, repairs, monitor);
+    let n = part(&input, head.len as usize);
+    answer(state, head, &mut input[..n], spans, repairs, monitor);
     left - 1
 }
 

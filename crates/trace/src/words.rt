@@ -7,7 +7,6 @@ use crate::MONITOR_WORDS;
 use libc::STDIN_FILENO;
 use libc::STDOUT_FILENO;
 use state_words::Told;
-use state_words::part;
 
 // The words in front of an answer: the operation, its number and value, what belongs to it, and how
 // many words follow.
@@ -180,9 +179,9 @@ pub fn shown(n: usize, how: u64) -> u64 {
     n as u64
 }
 
-// The answer to an operation, with the n words of the slice that it left.
-pub fn answer_slice(op: u64, told: Told, slice: &[u64], length: usize, how: u64) {
-    let n = part(slice, length);
+// The answer to an operation, with the slice that it left.
+pub fn answer_slice(op: u64, told: Told, slice: &[u64], how: u64) {
+    let n = slice.len();
     write_front(Front {
         op,
         number: told.number,
@@ -193,7 +192,7 @@ pub fn answer_slice(op: u64, told: Told, slice: &[u64], length: usize, how: u64)
         s: n as u64,
         m: shown(n, how),
     });
-    show_words(&slice[..n], how);
+    show_words(slice, how);
 }
 
 // The answer to an operation, with two words.
