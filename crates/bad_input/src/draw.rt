@@ -1,6 +1,8 @@
 // Random words: each turn has a seed, and number k of a turn's words is drawn from it. The same seed gives
 // the same words.
 
+use state_words::Lent;
+
 // Xorshift: the seed of the next turn.
 pub fn shifted(x: u64) -> u64 {
     let a = x ^ (x << 13);
@@ -66,19 +68,14 @@ fn limit(k: u64) -> u64 {
 pub fn odd_word(seed: u64, k: u64) -> u64 {
     let w = drawn(seed, k);
     let near = limit(w / 8);
-    if w % 8 < 3 {
-        return near;
+    let f = w % 8;
+    match f {
+        0..=2 => near,
+        3 => std::num::wrapping_add_u64(near, 1),
+        4 => std::num::wrapping_sub_u64(near, 1),
+        5 => w / 8 % 64,
+        _ => shifted(w),
     }
-    if w % 8 == 3 {
-        return std::num::wrapping_add_u64(near, 1);
-    }
-    if w % 8 == 4 {
-        return std::num::wrapping_sub_u64(near, 1);
-    }
-    if w % 8 == 5 {
-        return w / 8 % 64;
-    }
-    shifted(w)
 }
 
 pub fn odd_size(seed: u64, k: u64) -> usize {
@@ -105,4 +102,23 @@ pub fn samples(seed: u64) -> [u64; 64] {
         out[k] = sample(seed, k as u64 + 1000);
     }
     out
+}
+
+// The length, mostly, or one more, one less or 0.
+fn off_by(length: usize, w: u64) -> usize {
+    match w {
+        0 => std::num::wrapping_add_usize(length, 1),
+        1 => std::num::wrapping_sub_usize(length, (length != 0) as usize),
+        2 => 0,
+        _ => length,
+    }
+}
+
+// What is lent, and now and then something else.
+pub fn odd_lengths(lent: Lent, seed: u64) -> Lent {
+    Lent {
+        spans: off_by(lent.spans, below(seed, 100, 30)),
+        repairs: off_by(lent.repairs, below(seed, 101, 30)),
+        monitor: off_by(lent.monitor, below(seed, 102, 30)),
+    }
 }

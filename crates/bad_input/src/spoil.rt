@@ -1,5 +1,7 @@
 // A chain with some of its words replaced by odd ones.
 
+use crate::bench::Bench;
+use crate::bench::settled;
 use crate::draw::below;
 use crate::draw::drawn;
 use crate::draw::odd_float;
@@ -10,7 +12,6 @@ use state_words::RELEASED;
 use state_words::RUN;
 use state_words::SEEN;
 use state_words::WORDS;
-use state_words::bench::Bench;
 
 // A place of a state's words: of the settings, the gate, the blocker and the monitor, the suppressor's lists,
 // the counts, or the log.
@@ -35,34 +36,25 @@ fn spoil(state: &mut [u64; WORDS], seed: u64, times: u64) {
     }
 }
 
-// As if a state that has seen 33 samples or more had seen about 2^48.
-fn fill_up(state: &mut [u64; WORDS], seed: u64) {
-    let seen = 0x1_0000_0000_0020 - drawn(seed, 93) % 64;
-    state[RECEIVED] = seen;
-    state[RUN] = 0;
-    state[SEEN] = seen;
-    state[RELEASED] = std::num::wrapping_sub_u64(seen, state[HELD]);
-}
-
-// A fit chain that has seen 33 samples or more, with about 2^48 of them.
+// A fit chain that has seen 33 samples or more, as if it had seen about 2^48.
 pub fn nearly_full(b: Bench, seed: u64) -> Bench {
-    let mut state = b.state;
-    fill_up(&mut state, seed);
+    let seen = 0x1_0000_0000_0020 - drawn(seed, 93) % 64;
     let mut out = b;
-    out.state = state;
-    state_words::bench::settled(out)
+    out.state[RECEIVED] = seen;
+    out.state[RUN] = 0;
+    out.state[SEEN] = seen;
+    out.state[RELEASED] = std::num::wrapping_sub_u64(seen, b.state[HELD]);
+    settled(out)
 }
 
 // Nothing, a few words or most of them.
 fn times(seed: u64) -> u64 {
     let f = below(seed, 160, 14);
-    if f < 4 {
-        return 0;
+    match f {
+        0..=3 => 0,
+        4..=11 => f % 3 + 1,
+        _ => 200,
     }
-    if f < 12 {
-        return f % 3 + 1;
-    }
-    200
 }
 
 // A word of the span store, a word of the monitor's or none replaced.
@@ -71,13 +63,10 @@ fn with_odd_stores(b: Bench, seed: u64) -> Bench {
     let f = below(seed, 110, 8);
     let place = below(seed, 111, 50) as usize;
     let word = below(seed, 112, 34) as usize;
-    if f < 2 {
-        out.spans[place % 50] = odd_word(seed, 113);
-        return out;
-    }
-    if f < 4 {
-        out.monitor[word % 34] = odd_float(seed, 114);
-        return out;
+    match f {
+        0 | 1 => out.spans[place % 50] = odd_word(seed, 113),
+        2 | 3 => out.monitor[word % 34] = odd_float(seed, 114),
+        _ => {}
     }
     out
 }
@@ -91,5 +80,5 @@ pub fn spoilt(b: Bench, seed: u64) -> Bench {
     spoil(&mut state, seed, times(seed));
     let mut out = stores;
     out.state = state;
-    state_words::bench::settled(out)
+    settled(out)
 }

@@ -4,9 +4,6 @@
 ghost use mathlib.Core.Path.{_≡_};
 ghost use Prim.Native.Nat.{_≤_};
 ghost use lib.ListN.{length, take};
-
-pub mod bench;
-
 use calls::Conditioned;
 use complex::Complex64;
 use config::ConditioningConfig;
@@ -97,11 +94,69 @@ pub const REPAIR_RING: usize = 155;
 
 pub const COUNTS: usize = 158;
 
-fn one_if(b: bool) -> u64 {
-    if b {
-        return 1;
+// ---- an answer as two numbers
+
+// Document 01's number of a refusal, or one of the three below, and how many samples or which place it names.
+pub struct Told {
+    pub number: u64,
+    pub value: u64,
+}
+
+// A state was made, samples are ready, or a hop was added with no report.
+pub const ACCEPTED: u64 = 0;
+
+// There was nothing to do.
+pub const NOTHING: u64 = 20;
+
+// A hop was added, and there is a report.
+pub const REPORTED: u64 = 21;
+
+// An answer that names nothing.
+pub fn plain(number: u64) -> Told {
+    Told { number, value: 0 }
+}
+
+fn making_number(answer: MakingAnswer) -> u64 {
+    match answer {
+        MakingAnswer::Off => NOTHING,
+        MakingAnswer::BadRate => 1,
+        MakingAnswer::BadSize => 2,
+        MakingAnswer::BadCapacity => 3,
+        MakingAnswer::BadLength => 4,
+        MakingAnswer::Made => ACCEPTED,
     }
-    0
+}
+
+fn told_call(answer: Conditioned) -> Told {
+    match answer {
+        Conditioned::Ready(ready) => Told {
+            number: ACCEPTED,
+            value: ready as u64,
+        },
+        Conditioned::BadLength => plain(4),
+        Conditioned::BadState => plain(5),
+        Conditioned::Short => plain(6),
+        Conditioned::Unusable(place) => Told {
+            number: 7,
+            value: place as u64,
+        },
+        Conditioned::TooMany => plain(8),
+    }
+}
+
+pub fn told_hop(answer: HopSaid) -> Told {
+    match answer {
+        HopSaid::Nothing => plain(NOTHING),
+        HopSaid::NoReport => plain(ACCEPTED),
+        HopSaid::Report(_) => plain(REPORTED),
+        HopSaid::BadLength => plain(4),
+        HopSaid::BadState => plain(5),
+        HopSaid::Beyond(place) => Told {
+            number: 7,
+            value: place as u64,
+        },
+        HopSaid::Early => plain(9),
+    }
 }
 
 // ---- writing
@@ -123,39 +178,26 @@ pub fn iq_word(iq: Iq) -> u64 {
     }
 }
 
-fn write_complex(z: Complex64, words: &mut [u64; WORDS], at: usize)
-    requires { ⌜ at ≤ 168 ⌝ }
-{
-    words[at] = ieee::to_bits64(z.re);
-    words[at + 1] = ieee::to_bits64(z.im);
+// The coefficient of a correction, or zeros.
+pub fn coefficient(iq: Iq) -> Complex64 {
+    match iq {
+        Iq::Correcting(rho) => rho,
+        _ => Complex64 { re: 0.0, im: 0.0 },
+    }
 }
 
-fn coefficient(iq: Iq) -> Complex64 {
-    let Iq::Correcting(rho) = iq else {
-        return Complex64 { re: 0.0, im: 0.0 };
-    };
-    rho
-}
-
-fn write_settings(s: Settings, words: &mut [u64; WORDS]) {
+fn settings_words(s: Settings) -> [u64; 7] {
     let dc = s.dc;
     let iq = s.iq;
-    words[RATE] = ieee::to_bits64(s.fs);
-    words[CHANNELS] = s.n as u64;
-    words[SPANS] = s.spans as u64;
-    words[REPAIRS] = s.repairs as u64;
-    words[IMPULSE] = one_if(s.impulse);
-    words[DC] = mode_word(dc);
-    words[IQ] = iq_word(iq);
-    write_complex(coefficient(iq), words, COEFFICIENT);
-}
-
-fn write_run(run: Open, words: &mut [u64; WORDS]) {
-    let r = run_of(run);
-    words[RUN] = one_if(is_running(run));
-    words[RUN + 1] = r.start;
-    words[RUN + 2] = r.len;
-    words[RUN + 3] = one_if(r.paused);
+    [
+        ieee::to_bits64(s.fs),
+        s.n as u64,
+        s.spans as u64,
+        s.repairs as u64,
+        s.impulse as u64,
+        mode_word(dc),
+        iq_word(iq),
+    ]
 }
 
 fn is_running(run: Open) -> bool {
@@ -166,62 +208,90 @@ fn is_running(run: Open) -> bool {
 }
 
 fn run_of(run: Open) -> Run {
-    let Open::Running(r) = run else {
-        return Run {
+    match run {
+        Open::Running(r) => r,
+        Open::Closed => Run {
             start: 0,
             len: 0,
             paused: false,
-        };
-    };
-    r
+        },
+    }
 }
 
-fn left_words(left: Left) -> [u64; 2] {
-    let Left::Neighbour(x) = left else {
-        return [0, 0];
-    };
-    [1, x]
+fn is_there(left: Left) -> bool {
+    match left {
+        Left::Neighbour(_) => true,
+        Left::Missing => false,
+    }
 }
 
-fn write_left(left: Left, words: &mut [u64; WORDS]) {
-    let w = left_words(left);
-    words[LEFT] = w[0];
-    words[LEFT + 1] = w[1];
+fn neighbour(left: Left) -> u64 {
+    match left {
+        Left::Neighbour(x) => x,
+        Left::Missing => 0,
+    }
 }
 
-fn write_gate(g: Gate, words: &mut [u64; WORDS]) {
+fn gate_words(g: Gate) -> [u64; 12] {
     let run = g.run;
     let left = g.left;
-    words[APPLY] = one_if(g.apply);
-    words[BLOCK_LENGTH] = g.blocklen;
-    words[RECEIVED] = g.received;
-    write_run(run, words);
-    write_left(left, words);
-    words[BLOCK] = g.block;
-    words[FLAGGED] = g.flagged;
-    words[PAUSED] = one_if(g.paused);
+    let r = run_of(run);
+    [
+        g.apply as u64,
+        g.blocklen,
+        g.received,
+        is_running(run) as u64,
+        r.start,
+        r.len,
+        r.paused as u64,
+        is_there(left) as u64,
+        neighbour(left),
+        g.block,
+        g.flagged,
+        g.paused as u64,
+    ]
 }
 
-fn write_blocker(b: DcBlocker, words: &mut [u64; WORDS]) {
+fn has_begun(first: Begun) -> bool {
+    match first {
+        Begun::At(_) => true,
+        Begun::Never => false,
+    }
+}
+
+fn beginning(first: Begun) -> u64 {
+    match first {
+        Begun::At(start) => start,
+        Begun::Never => 0,
+    }
+}
+
+// The DC blocker and the image monitor.
+fn level_words(b: DcBlocker, m: ImageMonitor) -> [u64; 7] {
     let level = b.dc;
-    words[FACTOR] = ieee::to_bits64(b.a);
-    words[UPDATES] = b.n;
-    write_complex(level, words, LEVEL);
-}
-
-fn begun_words(first: Begun) -> [u64; 2] {
-    let Begun::At(start) = first else {
-        return [0, 0];
-    };
-    [1, start]
-}
-
-fn write_monitor(m: ImageMonitor, words: &mut [u64; WORDS]) {
     let first = m.first;
-    let w = begun_words(first);
-    words[BEGUN] = w[0];
-    words[BEGUN + 1] = w[1];
-    words[END] = m.end;
+    [
+        ieee::to_bits64(b.a),
+        b.n,
+        ieee::to_bits64(level.re),
+        ieee::to_bits64(level.im),
+        has_begun(first) as u64,
+        beginning(first),
+        m.end,
+    ]
+}
+
+// Words from a place on, as far as the state's reach.
+fn put(part: &[u64], words: &mut [u64; WORDS], at: usize) {
+    let mut k: usize = 0;
+    let mut place = at;
+    while k < part.len() {
+        if place < WORDS {
+            words[place] = part[k];
+            place += 1;
+        }
+        k += 1;
+    }
 }
 
 fn write_powers(powers: &[f32; 33], words: &mut [u64; WORDS], at: usize)
@@ -236,15 +306,6 @@ fn write_pending(pending: &[u64; 21], words: &mut [u64; WORDS]) {
     for k in 0..21 {
         words[PENDING + k] = pending[k];
     }
-}
-
-fn write_suppressor(m: ImpulseSuppressor, words: &mut [u64; WORDS]) {
-    let window = m.window;
-    let sorted = m.sorted;
-    let pending = m.pending;
-    write_powers(&window, words, WINDOW);
-    write_powers(&sorted, words, SORTED);
-    write_pending(&pending, words);
 }
 
 fn write_ring(ring: Ring, words: &mut [u64; WORDS], at: usize)
@@ -263,89 +324,99 @@ fn write_log(log: Log, words: &mut [u64; WORDS]) {
     }
 }
 
+// The settings, but for the coefficient, and the stages.
+fn write_stages(
+    settings: Settings,
+    m: ImpulseSuppressor,
+    levels: [u64; 7],
+    words: &mut [u64; WORDS],
+) {
+    let gate = m.gate;
+    let window = m.window;
+    let sorted = m.sorted;
+    let pending = m.pending;
+    put(&settings_words(settings), words, RATE);
+    put(&gate_words(gate), words, APPLY);
+    put(&levels, words, FACTOR);
+    write_powers(&window, words, WINDOW);
+    write_powers(&sorted, words, SORTED);
+    write_pending(&pending, words);
+}
+
 pub fn write_state(state: InputConditioner, words: &mut [u64; WORDS]) {
     let settings = state.settings;
     let suppressor = state.suppressor;
-    let gate = suppressor.gate;
     let blocker = state.blocker;
     let monitor = state.monitor;
     let log = state.log;
     let repairs = state.repairs;
-    write_settings(settings, words);
-    write_gate(gate, words);
-    write_blocker(blocker, words);
-    write_monitor(monitor, words);
-    write_suppressor(suppressor, words);
+    let iq = settings.iq;
+    let rho = coefficient(iq);
+    let counts = [
+        ieee::to_bits64(rho.re),
+        ieee::to_bits64(rho.im),
+        state.seen,
+        state.released,
+        state.held as u64,
+        state.longruns,
+    ];
+    write_stages(settings, suppressor, level_words(blocker, monitor), words);
+    put(&counts, words, COEFFICIENT);
     write_log(log, words);
     write_ring(repairs, words, REPAIR_RING);
-    words[SEEN] = state.seen;
-    words[RELEASED] = state.released;
-    words[HELD] = state.held as u64;
-    words[LONG_RUNS] = state.longruns;
 }
 
 // ---- reading
 
-fn read_mode(w: u64) -> StageMode {
-    if w == 0 {
-        return StageMode::Off;
+pub fn mode(w: u64) -> StageMode {
+    match w {
+        0 => StageMode::Off,
+        1 => StageMode::Observe,
+        _ => StageMode::Apply,
     }
-    if w == 1 {
-        return StageMode::Observe;
-    }
-    StageMode::Apply
 }
 
-fn read_complex(words: &[u64; WORDS], at: usize) -> Complex64
-    requires { ⌜ at ≤ 168 ⌝ }
-{
+fn complex(re: u64, im: u64) -> Complex64 {
     Complex64 {
-        re: ieee::from_bits64(words[at]),
-        im: ieee::from_bits64(words[at + 1]),
+        re: ieee::from_bits64(re),
+        im: ieee::from_bits64(im),
     }
 }
 
-fn read_iq(w: u64, rho: Complex64) -> Iq {
-    if w == 0 {
-        return Iq::Off;
+fn iq_of(w: u64, rho: Complex64) -> Iq {
+    match w {
+        0 => Iq::Off,
+        1 => Iq::Observing,
+        2 => Iq::Correcting(rho),
+        _ => Iq::Withheld,
     }
-    if w == 1 {
-        return Iq::Observing;
-    }
-    if w == 2 {
-        return Iq::Correcting(rho);
-    }
-    Iq::Withheld
 }
 
 fn read_settings(words: &[u64; WORDS]) -> Settings {
+    let rho = complex(words[COEFFICIENT], words[COEFFICIENT + 1]);
     Settings {
         fs: ieee::from_bits64(words[RATE]),
         n: words[CHANNELS] as usize,
         spans: words[SPANS] as usize,
         repairs: words[REPAIRS] as usize,
         impulse: words[IMPULSE] != 0,
-        dc: read_mode(words[DC]),
-        iq: read_iq(words[IQ], read_complex(words, COEFFICIENT)),
+        dc: mode(words[DC]),
+        iq: iq_of(words[IQ], rho),
     }
 }
 
-fn read_run(words: &[u64; WORDS]) -> Open {
-    if words[RUN] == 0 {
-        return Open::Closed;
+fn open(there: u64, start: u64, len: u64, paused: bool) -> Open {
+    match there {
+        0 => Open::Closed,
+        _ => Open::Running(Run { start, len, paused }),
     }
-    Open::Running(Run {
-        start: words[RUN + 1],
-        len: words[RUN + 2],
-        paused: words[RUN + 3] != 0,
-    })
 }
 
-fn read_left(words: &[u64; WORDS]) -> Left {
-    if words[LEFT] == 0 {
-        return Left::Missing;
+fn left_of(there: u64, word: u64) -> Left {
+    match there {
+        0 => Left::Missing,
+        _ => Left::Neighbour(word),
     }
-    Left::Neighbour(words[LEFT + 1])
 }
 
 fn read_gate(words: &[u64; WORDS]) -> Gate {
@@ -353,8 +424,13 @@ fn read_gate(words: &[u64; WORDS]) -> Gate {
         apply: words[APPLY] != 0,
         blocklen: words[BLOCK_LENGTH],
         received: words[RECEIVED],
-        run: read_run(words),
-        left: read_left(words),
+        run: open(
+            words[RUN],
+            words[RUN + 1],
+            words[RUN + 2],
+            words[RUN + 3] != 0,
+        ),
+        left: left_of(words[LEFT], words[LEFT + 1]),
         block: words[BLOCK],
         flagged: words[FLAGGED],
         paused: words[PAUSED] != 0,
@@ -365,20 +441,20 @@ fn read_blocker(words: &[u64; WORDS]) -> DcBlocker {
     DcBlocker {
         a: ieee::from_bits64(words[FACTOR]),
         n: words[UPDATES],
-        dc: read_complex(words, LEVEL),
+        dc: complex(words[LEVEL], words[LEVEL + 1]),
     }
 }
 
-fn read_begun(words: &[u64; WORDS]) -> Begun {
-    if words[BEGUN] == 0 {
-        return Begun::Never;
+fn begun(there: u64, start: u64) -> Begun {
+    match there {
+        0 => Begun::Never,
+        _ => Begun::At(start),
     }
-    Begun::At(words[BEGUN + 1])
 }
 
 fn read_monitor(words: &[u64; WORDS]) -> ImageMonitor {
     ImageMonitor {
-        first: read_begun(words),
+        first: begun(words[BEGUN], words[BEGUN + 1]),
         end: words[END],
     }
 }
@@ -491,18 +567,7 @@ pub fn part_of_floats(words: &[f64], n: usize) -> usize
 
 // ---- operations on a state's words
 
-fn is_made(answer: MakingAnswer) -> bool {
-    match answer {
-        MakingAnswer::Off => false,
-        MakingAnswer::BadRate => false,
-        MakingAnswer::BadSize => false,
-        MakingAnswer::BadCapacity => false,
-        MakingAnswer::BadLength => false,
-        MakingAnswer::Made => true,
-    }
-}
-
-// A new state over the words, where one is made.
+// A new state over the words, where one is made, and the number of the answer.
 pub fn make(
     config: ConditioningConfig,
     words: &mut [u64; WORDS],
@@ -510,7 +575,7 @@ pub fn make(
     repairs: &mut [u64],
     monitor: &mut [f64],
     lent: Lent,
-) -> MakingAnswer {
+) -> u64 {
     let s = part(spans, lent.spans);
     let r = part(repairs, lent.repairs);
     let m = part_of_floats(monitor, lent.monitor);
@@ -522,10 +587,11 @@ pub fn make(
     );
     let state = made.state;
     let answer = made.answer;
-    if is_made(answer) {
+    let number = making_number(answer);
+    if number == ACCEPTED {
         write_state(state, words);
     }
-    answer
+    number
 }
 
 // A call with so many of the samples.
@@ -536,7 +602,7 @@ pub fn call(
     spans: &mut [u64],
     repairs: &mut [u64],
     lent: Lent,
-) -> Conditioned {
+) -> Told {
     let n = part(samples, length);
     let s = part(spans, lent.spans);
     let r = part(repairs, lent.repairs);
@@ -549,7 +615,7 @@ pub fn call(
     let state = called.state;
     let answer = called.answer;
     write_state(state, words);
-    answer
+    told_call(answer)
 }
 
 // A hop with so many of the channels.
@@ -576,39 +642,4 @@ pub fn hop(
     let answer = called.answer;
     write_state(state, words);
     answer
-}
-
-// ---- whether all is as it was
-
-pub fn same_words(a: &[u64], b: &[u64]) -> bool {
-    same_behind(a, b, 0)
-}
-
-// Whether the words from `from` on are the same.
-pub fn same_behind(a: &[u64], b: &[u64], from: usize) -> bool {
-    if a.len() != b.len() {
-        return false;
-    }
-    let mut k: usize = from;
-    while k < a.len() {
-        if a[k] != b[k] {
-            return false;
-        }
-        k += 1;
-    }
-    true
-}
-
-pub fn same_floats(a: &[f64], b: &[f64]) -> bool {
-    if a.len() != b.len() {
-        return false;
-    }
-    let mut k: usize = 0;
-    while k < a.len() {
-        if ieee::to_bits64(a[k]) != ieee::to_bits64(b[k]) {
-            return false;
-        }
-        k += 1;
-    }
-    true
 }

@@ -4,20 +4,18 @@ use crate::Head;
 use crate::REPAIR_WORDS;
 use crate::SLICE_WORDS;
 use crate::SPAN_WORDS;
+use crate::chain::lent;
 use crate::words::Front;
-use crate::words::Told;
-use crate::words::plain;
 use crate::words::show_words;
 use crate::words::shown;
 use crate::words::word;
 use crate::words::write_front;
-use calls::Conditioned;
 use state_words::HELD;
-use state_words::Lent;
 use state_words::RECEIVED;
 use state_words::RELEASED;
 use state_words::RUN;
 use state_words::SEEN;
+use state_words::Told;
 use state_words::WORDS;
 use state_words::at_most;
 use state_words::part;
@@ -30,40 +28,28 @@ fn places(w: u64, held: usize) -> usize {
     at_most(w as usize, 512)
 }
 
-// A NaN in each place.
-pub fn fill(slice: &mut [u64]) {
+// Word k of a slice: a NaN in each of the places in front, then the words.
+fn laid(front: usize, input: &[u64], k: usize) -> u64 {
+    if k < front {
+        return std::num::wrapping_add_u64(0xffff_ffff_7fc0_0000, k as u64);
+    }
+    word(input, k - front)
+}
+
+// The places in front, and then the words.
+pub fn fill(slice: &mut [u64], front: usize, input: &[u64]) {
     let mut k: usize = 0;
     while k < slice.len() {
-        slice[k] = std::num::wrapping_add_u64(0xffff_ffff_7fc0_0000, k as u64);
+        slice[k] = laid(front, input, k);
         k += 1;
     }
 }
 
-// How much a call is lent.
-fn lent(head: Head) -> Lent {
-    Lent {
-        spans: head.a as usize,
-        repairs: head.b as usize,
-        monitor: 0,
-    }
-}
-
-// The words into the slice, as far as it reaches.
-fn copy(input: &[u64], slice: &mut [u64]) {
-    let mut k: usize = 0;
-    while k < slice.len() {
-        slice[k] = word(input, k);
-        k += 1;
-    }
-}
-
-// A slice of the places in front, and then the first n words.
-fn lay_out(slice: &mut [u64], front: usize, input: &[u64], n: usize) -> usize {
-    let f = part(slice, front);
-    let end = f + at_most(n, slice.len() - f);
-    fill(&mut slice[..f]);
-    copy(input, &mut slice[f..end]);
-    end
+// A slice of the places in front and the words; how long it is.
+fn lay_out(slice: &mut [u64], front: usize, input: &[u64]) -> usize {
+    let length = part(slice, std::num::wrapping_add_usize(front, input.len()));
+    fill(&mut slice[..length], front, input);
+    length
 }
 
 // The state that a call is handed: as it is, or as if it had seen so many samples.
@@ -77,31 +63,13 @@ fn hand(state: &mut [u64; WORDS], seen: u64) {
     state[RELEASED] = std::num::wrapping_sub_u64(seen, state[HELD]);
 }
 
-fn told(answer: Conditioned) -> Told {
-    match answer {
-        Conditioned::Ready(ready) => Told {
-            number: 0,
-            value: ready as u64,
-        },
-        Conditioned::BadLength => plain(4),
-        Conditioned::BadState => plain(5),
-        Conditioned::Short => plain(6),
-        Conditioned::Unusable(place) => Told {
-            number: 7,
-            value: place as u64,
-        },
-        Conditioned::TooMany => plain(8),
-    }
-}
-
 // The answer, how much was seen, released and held, and the slice.
-fn write_call(answer: Conditioned, state: &[u64; WORDS], slice: &[u64], length: usize, how: u64) {
-    let t = told(answer);
+fn write_call(told: Told, state: &[u64; WORDS], slice: &[u64], length: usize, how: u64) {
     let n = part(slice, length);
     write_front(Front {
         op: 3,
-        number: t.number,
-        value: t.value,
+        number: told.number,
+        value: told.value,
         p: state[SEEN],
         q: state[RELEASED],
         r: state[HELD],
@@ -123,9 +91,10 @@ pub fn call(
     let mut slice = [0u64; SLICE_WORDS];
     hand(&mut handed, head.d);
     let front = places(head.c, handed[HELD] as usize);
-    let length = lay_out(&mut slice, front, input, head.len as usize);
-    let answer = state_words::call(&mut handed, &mut slice, length, spans, repairs, lent(head));
-    write_call(answer, &handed, &slice, length, head.how);
+    let length = lay_out(&mut slice, front, input);
+    let lent = lent(head.a, head.b, 0);
+    let told = state_words::call(&mut handed, &mut slice, length, spans, repairs, lent);
+    write_call(told, &handed, &slice, length, head.how);
     if head.d == 0 {
         *state = handed;
     }

@@ -6,7 +6,6 @@ use crate::REPAIR_WORDS;
 use crate::SPAN_WORDS;
 use crate::words::Front;
 use crate::words::answer_plain;
-use crate::words::plain;
 use crate::words::word;
 use crate::words::write_front;
 use crate::words::write_words;
@@ -14,32 +13,23 @@ use config::ConditioningConfig;
 use iq::Calibration;
 use iq::IqCalibration;
 use iq::StageMode;
-use making::MakingAnswer;
 use state_words::Lent;
 use state_words::WORDS;
+use state_words::mode;
 use state_words::mode_word;
+use state_words::plain;
 
 // ---- a configuration of twelve words
 
-fn mode(w: u64) -> StageMode {
-    if w == 0 {
-        return StageMode::Off;
-    }
-    if w == 1 {
-        return StageMode::Observe;
-    }
-    StageMode::Apply
-}
-
 fn calibration(present: u64, gain: u64, phase: u64, centre: u64) -> Calibration {
-    if present == 0 {
-        return Calibration::Absent;
+    match present {
+        0 => Calibration::Absent,
+        _ => Calibration::Present(IqCalibration {
+            gain: ieee::from_bits64(gain),
+            phase: ieee::from_bits64(phase),
+            centre: ieee::from_bits64(centre),
+        }),
     }
-    Calibration::Present(IqCalibration {
-        gain: ieee::from_bits64(gain),
-        phase: ieee::from_bits64(phase),
-        centre: ieee::from_bits64(centre),
-    })
 }
 
 fn configuration(w: &[u64]) -> ConditioningConfig {
@@ -88,19 +78,12 @@ fn write_configuration(c: ConditioningConfig) {
     write_words(&back);
 }
 
-fn number_of(off: bool) -> u64 {
-    if off {
-        return 1;
-    }
-    0
-}
-
 // Whether all is off, and `observing`.
 pub fn config(input: &[u64]) {
     let c = configuration(input);
     write_front(Front {
         op: 2,
-        number: number_of(c.is_off()),
+        number: c.is_off() as u64,
         value: 0,
         p: 0,
         q: 0,
@@ -113,22 +96,12 @@ pub fn config(input: &[u64]) {
 
 // ---- making
 
-fn number(answer: MakingAnswer) -> u64 {
-    match answer {
-        MakingAnswer::Off => 20,
-        MakingAnswer::BadRate => 1,
-        MakingAnswer::BadSize => 2,
-        MakingAnswer::BadCapacity => 3,
-        MakingAnswer::BadLength => 4,
-        MakingAnswer::Made => 0,
-    }
-}
-
-fn lent(head: Head) -> Lent {
+// How much of each store is lent.
+pub fn lent(spans: u64, repairs: u64, monitor: u64) -> Lent {
     Lent {
-        spans: head.a as usize,
-        repairs: head.b as usize,
-        monitor: head.c as usize,
+        spans: spans as usize,
+        repairs: repairs as usize,
+        monitor: monitor as usize,
     }
 }
 
@@ -142,8 +115,9 @@ pub fn make(
     monitor: &mut [f64; MONITOR_WORDS],
 ) {
     let c = configuration(input);
-    let answer = state_words::make(c, state, spans, repairs, monitor, lent(head));
-    answer_plain(1, plain(number(answer)), 0, 0);
+    let lent = lent(head.a, head.b, head.c);
+    let number = state_words::make(c, state, spans, repairs, monitor, lent);
+    answer_plain(1, plain(number), 0, 0);
 }
 
 // The words of the chain before the first making.
@@ -159,12 +133,17 @@ pub fn first() -> [u64; WORDS] {
         spans: 2,
         repairs: 2,
     };
-    let lent = Lent {
-        spans: 48,
-        repairs: 12,
-        monitor: 32,
-    };
-    let made = state_words::bench::make(state_words::bench::empty(), config, lent);
-    let b = made.bench;
-    b.state
+    let mut state = [0u64; WORDS];
+    let mut spans = [0u64; 48];
+    let mut repairs = [0u64; 12];
+    let mut monitor = [0.0f64; 32];
+    state_words::make(
+        config,
+        &mut state,
+        &mut spans,
+        &mut repairs,
+        &mut monitor,
+        lent(48, 12, 32),
+    );
+    state
 }

@@ -12,8 +12,8 @@ mod words;
 
 use state_words::WORDS;
 use state_words::part;
+use state_words::plain;
 use words::answer_plain;
-use words::plain;
 use words::read_words;
 
 // The words behind an operation; a call's slice; the stores, each longer than the longest that is lent.
@@ -54,7 +54,7 @@ fn read_head() -> Head {
     }
 }
 
-// ---- operations that change a state or a store
+// ---- a word of a store
 
 fn put(words: &mut [u64], place: usize, w: u64) {
     if place < words.len() {
@@ -75,101 +75,14 @@ fn write(
     repairs: &mut [u64; REPAIR_WORDS],
     monitor: &mut [f64; MONITOR_WORDS],
 ) {
+    let store = head.a;
     let place = head.b as usize;
     answer_plain(14, plain(0), 0, 0);
-    if head.a == 0 {
-        put(spans, place, head.c);
-        return;
-    }
-    if head.a == 1 {
-        put(repairs, place, head.c);
-        return;
-    }
-    if head.a == 2 {
-        put_float(monitor, place, head.c);
-    }
-}
-
-fn change(
-    state: &mut [u64; WORDS],
-    head: Head,
-    input: &[u64],
-    spans: &mut [u64; SPAN_WORDS],
-    repairs: &mut [u64; REPAIR_WORDS],
-    monitor: &mut [f64; MONITOR_WORDS],
-) {
-    if head.op == 1 {
-        chain::make(state, head, input, spans, repairs, monitor);
-        return;
-    }
-    if head.op == 3 {
-        call::call(state, head, input, spans, repairs);
-        return;
-    }
-    if head.op == 4 {
-        hop::hop(state, head, input, spans, monitor);
-        return;
-    }
-    if head.op == 14 {
-        write(head, spans, repairs, monitor);
-    }
-}
-
-// ---- operations that read
-
-fn read(
-    state: &[u64; WORDS],
-    head: Head,
-    spans: &[u64; SPAN_WORDS],
-    repairs: &[u64; REPAIR_WORDS],
-    monitor: &[f64; MONITOR_WORDS],
-) {
-    if head.op == 5 {
-        shown::log(state);
-        return;
-    }
-    if head.op == 6 {
-        shown::state(state);
-        return;
-    }
-    if head.op == 7 {
-        shown::stores(head, spans, repairs, monitor);
-        return;
-    }
-    if head.op == 8 {
-        shown::span(state, head, spans);
-    }
-}
-
-// ---- operations on slices
-
-fn undo(state: &[u64; WORDS], head: Head, input: &mut [u64], repairs: &[u64; REPAIR_WORDS]) {
-    if head.op == 9 {
-        undoing::repairs(state, head, input, repairs);
-        return;
-    }
-    if head.op == 10 {
-        undoing::level(head, input);
-        return;
-    }
-    if head.op == 11 {
-        undoing::correction(head, input);
-        return;
-    }
-    if head.op == 12 {
-        undoing::guard(head, input);
-    }
-}
-
-// ---- operations on settings
-
-fn settings(head: Head, input: &[u64]) {
-    if head.op == 2 {
-        chain::config(input);
-        return;
-    }
-    if head.op == 13 {
-        undoing::validate(head);
+    match store {
+        0 => put(spans, place, head.c),
+        1 => put(repairs, place, head.c),
+        2 => put_float(monitor, place, head.c),
+        _ => {}
     }
 }
 
@@ -190,15 +103,29 @@ fn read_input(head: Head, input: &mut [u64]) -> bool {
 fn answer(
     state: &mut [u64; WORDS],
     head: Head,
-    input: &mut [u64; INPUT_WORDS],
+    input: &mut [u64],
     spans: &mut [u64; SPAN_WORDS],
     repairs: &mut [u64; REPAIR_WORDS],
     monitor: &mut [f64; MONITOR_WORDS],
 ) {
-    change(state, head, input, spans, repairs, monitor);
-    read(state, head, spans, repairs, monitor);
-    undo(state, head, input, repairs);
-    settings(head, input);
+    let op = head.op;
+    match op {
+        1 => chain::make(state, head, input, spans, repairs, monitor),
+        2 => chain::config(input),
+        3 => call::call(state, head, input, spans, repairs),
+        4 => hop::hop(state, head, input, spans, monitor),
+        5 => shown::log(state),
+        6 => shown::state(state),
+        7 => shown::stores(head, spans, repairs, monitor),
+        8 => shown::span(state, head, spans),
+        9 => undoing::repairs(state, head, input, repairs),
+        10 => undoing::level(head, input),
+        11 => undoing::correction(head, input),
+        12 => undoing::guard(head, input),
+        13 => undoing::validate(head),
+        14 => write(head, spans, repairs, monitor),
+        _ => {}
+    }
 }
 
 // One operation, and how many more may follow: none at the end of the input.
@@ -217,7 +144,8 @@ fn turn(
     if !read_input(head, &mut input) {
         return 0;
     }
-    answer(state, head, &mut input, spans, repairs, monitor);
+    let n = part(&input, head.len as usize);
+    answer(state, head, &mut input[..n], spans, repairs, monitor);
     left - 1
 }
 

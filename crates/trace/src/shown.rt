@@ -1,15 +1,14 @@
 // What a state and the stores hold, as words.
 
 use crate::Head;
+use crate::MONITOR_WORDS;
 use crate::words::Front;
 use crate::words::answer_plain;
-use crate::words::plain;
-use crate::words::show_floats;
+use crate::words::bits;
 use crate::words::show_words;
 use crate::words::write_front;
 use crate::words::write_words;
 use complex::Complex64;
-use iq::Iq;
 use log::Mark;
 use log::Ring;
 use log::Stage;
@@ -18,9 +17,10 @@ use reading::DcLevel;
 use reading::SpanRead;
 use state_words::STAGES;
 use state_words::WORDS;
+use state_words::coefficient;
 use state_words::iq_word;
 use state_words::part;
-use state_words::part_of_floats;
+use state_words::plain;
 
 // An answer of so many words.
 fn front(op: u64, m: u64) -> Front {
@@ -57,19 +57,10 @@ fn write_complex(there: u64, z: Complex64) {
 }
 
 fn write_level(level: DcLevel) {
-    let DcLevel::Level(dc) = level else {
-        write_complex(0, Complex64 { re: 0.0, im: 0.0 });
-        return;
-    };
-    write_complex(1, dc);
-}
-
-fn write_iq(iq: Iq) {
-    let Iq::Correcting(rho) = iq else {
-        write_complex(iq_word(iq), Complex64 { re: 0.0, im: 0.0 });
-        return;
-    };
-    write_complex(2, rho);
+    match level {
+        DcLevel::Level(dc) => write_complex(1, dc),
+        _ => write_complex(0, Complex64 { re: 0.0, im: 0.0 }),
+    }
 }
 
 fn write_counts(log: ConditioningLog) {
@@ -92,7 +83,7 @@ fn write_log(log: ConditioningLog) {
     write_rings(log);
     write_counts(log);
     write_level(level);
-    write_iq(iq);
+    write_complex(iq_word(iq), coefficient(iq));
 }
 
 pub fn log(state: &[u64; WORDS]) {
@@ -116,16 +107,17 @@ pub fn state(state: &[u64; WORDS]) {
 // ---- the stores
 
 fn shown_in_all(a: usize, b: usize, c: usize, how: u64) -> u64 {
-    if how == 1 {
-        return 3;
+    match how {
+        1 => 3,
+        _ => std::num::wrapping_add_u64(std::num::wrapping_add_u64(a as u64, b as u64), c as u64),
     }
-    std::num::wrapping_add_u64(std::num::wrapping_add_u64(a as u64, b as u64), c as u64)
 }
 
-pub fn stores(head: Head, spans: &[u64], repairs: &[u64], words: &[f64]) {
+pub fn stores(head: Head, spans: &[u64], repairs: &[u64], words: &[f64; MONITOR_WORDS]) {
     let a = part(spans, head.a as usize);
     let b = part(repairs, head.b as usize);
-    let c = part_of_floats(words, head.c as usize);
+    let monitor = bits(words);
+    let c = part(&monitor, head.c as usize);
     write_front(Front {
         op: 7,
         number: 0,
@@ -138,40 +130,33 @@ pub fn stores(head: Head, spans: &[u64], repairs: &[u64], words: &[f64]) {
     });
     show_words(&spans[..a], head.how);
     show_words(&repairs[..b], head.how);
-    show_floats(&words[..c], head.how);
+    show_words(&monitor[..c], head.how);
 }
 
 // ---- a span
 
 fn stage(w: u64) -> Stage {
-    if w == 0 {
-        return Stage::Impulse;
+    match w {
+        0 => Stage::Impulse,
+        1 => Stage::Dc,
+        _ => Stage::Iq,
     }
-    if w == 1 {
-        return Stage::Dc;
-    }
-    Stage::Iq
 }
 
 fn kind(w: u64) -> Mark {
-    if w == 0 {
-        return Mark::Repaired;
+    match w {
+        0 => Mark::Repaired,
+        1 => Mark::Flagged,
+        2 => Mark::Corrected,
+        _ => Mark::Uncertain,
     }
-    if w == 1 {
-        return Mark::Flagged;
-    }
-    if w == 2 {
-        return Mark::Corrected;
-    }
-    Mark::Uncertain
 }
 
 fn write_span(read: SpanRead) {
-    let SpanRead::Held(s) = read else {
-        answer_plain(8, plain(20), 0, 0);
-        return;
-    };
-    answer_plain(8, plain(0), s.start, s.len);
+    match read {
+        SpanRead::Held(s) => answer_plain(8, plain(0), s.start, s.len),
+        _ => answer_plain(8, plain(20), 0, 0),
+    }
 }
 
 pub fn span(state: &[u64; WORDS], head: Head, spans: &[u64]) {

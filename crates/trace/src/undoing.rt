@@ -3,15 +3,15 @@
 use crate::Head;
 use crate::SLICE_WORDS;
 use crate::call::fill;
-use crate::words::Told;
 use crate::words::answer_plain;
 use crate::words::answer_slice;
-use crate::words::plain;
 use complex::Complex64;
 use iq::IqCalibration;
 use iq::Validated;
+use state_words::Told;
 use state_words::WORDS;
 use state_words::part;
+use state_words::plain;
 use undo::Undone;
 
 fn beyond(place: usize) -> Told {
@@ -32,15 +32,9 @@ fn told_undone(answer: Undone) -> Told {
 }
 
 pub fn repairs(state: &[u64; WORDS], head: Head, input: &mut [u64], repairs: &[u64]) {
-    let n = part(input, head.len as usize);
     let b = part(repairs, head.b as usize);
-    let answer = undo::revert_repairs(
-        state_words::read_state(state),
-        &repairs[..b],
-        &mut input[..n],
-        head.a,
-    );
-    answer_slice(9, told_undone(answer), input, n, head.how);
+    let answer = undo::revert_repairs(state_words::read_state(state), &repairs[..b], input, head.a);
+    answer_slice(9, told_undone(answer), input, head.how);
 }
 
 // ---- DC
@@ -55,17 +49,15 @@ fn told_dc(answer: dc::Reverted) -> Told {
 }
 
 fn level_over(head: Head, input: &[u64], slice: &mut [u64]) {
-    let n = part(input, head.len as usize);
-    let out = part(slice, head.b as usize);
-    let fs = ieee::from_bits64(head.a);
-    let answer = dc::revert_dc(&input[..n], fs, &mut slice[..out]);
-    answer_slice(10, told_dc(answer), slice, out, head.how);
+    let answer = dc::revert_dc(input, ieee::from_bits64(head.a), slice);
+    answer_slice(10, told_dc(answer), slice, head.how);
 }
 
 pub fn level(head: Head, input: &[u64]) {
     let mut slice = [0u64; SLICE_WORDS];
-    fill(&mut slice);
-    level_over(head, input, &mut slice);
+    fill(&mut slice, SLICE_WORDS, input);
+    let n = part(&slice, head.b as usize);
+    level_over(head, input, &mut slice[..n]);
 }
 
 // ---- IQ
@@ -79,25 +71,23 @@ fn told_iq(answer: correction::Reverted) -> Told {
 }
 
 pub fn correction(head: Head, input: &mut [u64]) {
-    let n = part(input, head.len as usize);
     let rho = Complex64 {
         re: ieee::from_bits64(head.a),
         im: ieee::from_bits64(head.b),
     };
-    let answer = correction::revert_iq(&mut input[..n], rho);
-    answer_slice(11, told_iq(answer), input, n, head.how);
+    let answer = correction::revert_iq(input, rho);
+    answer_slice(11, told_iq(answer), input, head.how);
 }
 
 // ---- the guard
 
 pub fn guard(head: Head, input: &mut [u64]) {
-    let n = part(input, head.len as usize);
-    let replaced = sample_guard::replace_unusable(&mut input[..n]);
+    let replaced = sample_guard::replace_unusable(input);
     let told = Told {
         number: 0,
         value: replaced,
     };
-    answer_slice(12, told, input, n, head.how);
+    answer_slice(12, told, input, head.how);
 }
 
 // ---- a calibration

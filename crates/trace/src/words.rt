@@ -3,9 +3,10 @@
 ghost use mathlib.Core.Path.{_≡_};
 ghost use Prim.Native.Nat.{_+_, _≤_, _<_};
 ghost use lib.ListN.{length};
+use crate::MONITOR_WORDS;
 use libc::STDIN_FILENO;
 use libc::STDOUT_FILENO;
-use state_words::part;
+use state_words::Told;
 
 // The words in front of an answer: the operation, its number and value, what belongs to it, and how
 // many words follow.
@@ -18,17 +19,6 @@ pub struct Front {
     pub r: u64,
     pub s: u64,
     pub m: u64,
-}
-
-// An answer as two numbers: which it is, and how many samples or which place it names.
-pub struct Told {
-    pub number: u64,
-    pub value: u64,
-}
-
-// An answer that names nothing.
-pub fn plain(number: u64) -> Told {
-    Told { number, value: 0 }
 }
 
 // How many words go at once, of so many.
@@ -52,29 +42,10 @@ pub fn word(words: &[u64], k: usize) -> u64 {
 
 // ---- reading
 
-fn wide(b: u8) -> u64 {
-    b as u64
-}
-
-// The word of the eight bytes from a place on.
-fn word_at(bytes: &[u8; 4096], at: usize) -> u64
-    requires { ⌜ at + 8 ≤ 4096 ⌝ }
-{
-    let mut w: u64 = 0;
-    for i in 0..8 {
-        w = w << 8 | wide(bytes[at + 7 - i]);
-    }
-    w
-}
-
 fn decode(bytes: &[u8; 4096], words: &mut [u64])
     requires { ⌜ length (now words) ≤ 512 ⌝ }
 {
-    let mut k: usize = 0;
-    while k < words.len() {
-        words[k] = word_at(bytes, k * 8);
-        k += 1;
-    }
+    recording::words::read_words(bytes, words);
 }
 
 // Whether all of these words were there.
@@ -177,16 +148,6 @@ fn digest(words: &[u64]) -> u64 {
     h
 }
 
-fn digest_floats(words: &[f64]) -> u64 {
-    let mut h: u64 = 0;
-    let mut k: usize = 0;
-    while k < words.len() {
-        h = mixed(h, ieee::to_bits64(words[k]));
-        k += 1;
-    }
-    h
-}
-
 fn write_one(w: u64) {
     let words = [w];
     write_words(&words);
@@ -201,20 +162,13 @@ pub fn show_words(words: &[u64], how: u64) {
     write_words(words);
 }
 
-fn write_floats(words: &[f64]) {
-    let mut k: usize = 0;
-    while k < words.len() {
-        write_one(ieee::to_bits64(words[k]));
-        k += 1;
+// The bits of the monitor's words.
+pub fn bits(words: &[f64; MONITOR_WORDS]) -> [u64; MONITOR_WORDS] {
+    let mut out = [0u64; MONITOR_WORDS];
+    for k in 0..MONITOR_WORDS {
+        out[k] = ieee::to_bits64(words[k]);
     }
-}
-
-pub fn show_floats(words: &[f64], how: u64) {
-    if how == 1 {
-        write_one(digest_floats(words));
-        return;
-    }
-    write_floats(words);
+    out
 }
 
 // How many words are shown.
@@ -225,9 +179,9 @@ pub fn shown(n: usize, how: u64) -> u64 {
     n as u64
 }
 
-// The answer to an operation, with the n words of the slice that it left.
-pub fn answer_slice(op: u64, told: Told, slice: &[u64], length: usize, how: u64) {
-    let n = part(slice, length);
+// The answer to an operation, with the slice that it left.
+pub fn answer_slice(op: u64, told: Told, slice: &[u64], how: u64) {
+    let n = slice.len();
     write_front(Front {
         op,
         number: told.number,
@@ -238,7 +192,7 @@ pub fn answer_slice(op: u64, told: Told, slice: &[u64], length: usize, how: u64)
         s: n as u64,
         m: shown(n, how),
     });
-    show_words(&slice[..n], how);
+    show_words(slice, how);
 }
 
 // The answer to an operation, with two words.

@@ -7,16 +7,16 @@ use Rattle.trace.proofs.call.fill.Statement.{statement}
 use Rattle.trace.proofs.call.fill.Tie as tie
 
 abbrev Inv-loop : tie.InvT-loop
-Inv-loop slice₀ k₀ slice k = (k ≤ length slice₀) × (length slice ≡ length slice₀)
+Inv-loop slice₀ front input k₀ slice k = (k ≤ length slice₀) × (length slice ≡ length slice₀)
 
 abbrev μ-loop : tie.MeasureT-loop
-μ-loop slice₀ k₀ slice k = length slice₀ - k
+μ-loop slice₀ front input k₀ slice k = length slice₀ - k
 
 loop-holds : tie.Need-loop-holds Inv-loop μ-loop
 loop-holds c = search needs
 
-wrapping-add-u64-requires : tie.Need-wrapping-add-u64-requires Inv-loop μ-loop
-wrapping-add-u64-requires c κs = search needs
+laid-requires : tie.Need-laid-requires Inv-loop μ-loop
+laid-requires c κs = search needs
 
 mul-slice : tie.Need-mul-slice Inv-loop μ-loop
 mul-slice c = search needs
@@ -46,7 +46,7 @@ fill-spec =
     Inv-loop
     μ-loop
     loop-holds
-    wrapping-add-u64-requires
+    laid-requires
     mul-slice
     slice-write-slice
     add-k

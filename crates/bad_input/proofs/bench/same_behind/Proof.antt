@@ -2,8 +2,8 @@
 use Prim.Native.Nat.{_-_, _≤_}
 use lib.ListN.{length}
 use borrow.Author.Needs.{needs}
-use Rattle.state_words.proofs.same_behind.Statement.{statement}
-use Rattle.state_words.proofs.same_behind.Tie as tie
+use Rattle.bad_input.proofs.bench.same_behind.Statement.{statement}
+use Rattle.bad_input.proofs.bench.same_behind.Tie as tie
 
 abbrev Inv-loop : tie.InvT-loop
 Inv-loop a b from k₀ k = 0 ≤ k

@@ -2,8 +2,8 @@
 use Prim.Native.Nat.{_-_, _≤_}
 use lib.ListN.{length}
 use borrow.Author.Needs.{needs}
-use Rattle.bad_input.proofs.print.Statement.{statement}
-use Rattle.bad_input.proofs.print.Tie as tie
+use Rattle.bad_input.proofs.random.print.Statement.{statement}
+use Rattle.bad_input.proofs.random.print.Tie as tie
 
 abbrev Inv-loop : tie.InvT-loop
 Inv-loop names counts from line₀ k₀ line k = 0 ≤ k
@@ -16,6 +16,9 @@ loop-holds c = search needs
 
 shared-slice-read-print-byte : tie.Need-shared-slice-read-print-byte Inv-loop μ-loop
 shared-slice-read-print-byte c = search needs
+
+place-requires : tie.Need-place-requires Inv-loop μ-loop
+place-requires c κs = search needs
 
 mul-print-byte : tie.Need-mul-print-byte Inv-loop μ-loop
 mul-print-byte c = search needs
@@ -52,6 +55,7 @@ print-spec =
     μ-loop
     loop-holds
     shared-slice-read-print-byte
+    place-requires
     mul-print-byte
     element-copy-out-print-byte
     print-byte-requires

@@ -1,8 +1,8 @@
 -- `run` counts to the turns. Assumes nothing.
 use Prim.Native.Nat.{_-_, _≤_}
 use borrow.Author.Needs.{needs}
-use Rattle.bad_input.proofs.run.Statement.{statement}
-use Rattle.bad_input.proofs.run.Tie as tie
+use Rattle.bad_input.proofs.random.run.Statement.{statement}
+use Rattle.bad_input.proofs.random.run.Tie as tie
 
 abbrev Inv-loop : tie.InvT-loop
 Inv-loop turns w₀ k₀ w k = k ≤ turns

@@ -2,8 +2,8 @@
 use Prim.Native.Nat.{_-_, _≤_}
 use lib.ListN.{length}
 use borrow.Author.Needs.{needs}
-use Rattle.state_words.proofs.same_floats.Statement.{statement}
-use Rattle.state_words.proofs.same_floats.Tie as tie
+use Rattle.bad_input.proofs.bench.same_floats.Statement.{statement}
+use Rattle.bad_input.proofs.bench.same_floats.Tie as tie
 
 abbrev Inv-loop : tie.InvT-loop
 Inv-loop a b k₀ k = 0 ≤ k

@@ -1,15 +1,17 @@
--- `digest_floats` reads within the words. Assumes nothing.
+-- `bits` writes each word. Assumes nothing.
 use Prim.Native.Nat.{_-_, _≤_}
+use mathlib.Core.Path.{_≡_}
 use lib.ListN.{length}
 use borrow.Author.Needs.{needs}
-use Rattle.trace.proofs.words.digest_floats.Statement.{statement}
-use Rattle.trace.proofs.words.digest_floats.Tie as tie
+use Rattle.trace.proofs.words.bits.Statement.{statement}
+use Rattle.trace.proofs.words.bits.Tie as tie
+use Rattle.ieee.proofs.to_bits64.Reads as to-bits64-reads
 
 abbrev Inv-loop : tie.InvT-loop
-Inv-loop words h₀ k₀ h k = k ≤ length words
+Inv-loop words out₀ k₀ out k = (k ≤ 8196) × (length out ≡ 8196)
 
 abbrev μ-loop : tie.MeasureT-loop
-μ-loop words h₀ k₀ h k = length words - k
+μ-loop words out₀ k₀ out k = 8196 - k
 
 loop-holds : tie.Need-loop-holds Inv-loop μ-loop
 loop-holds c = search needs
@@ -17,14 +19,17 @@ loop-holds c = search needs
 mul-to-bits64 : tie.Need-mul-to-bits64 Inv-loop μ-loop
 mul-to-bits64 c = search needs
 
-shared-slice-read-to-bits64 : tie.Need-shared-slice-read-to-bits64 Inv-loop μ-loop
-shared-slice-read-to-bits64 c = search needs
+element-copy-out-to-bits64 : tie.Need-element-copy-out-to-bits64 Inv-loop μ-loop
+element-copy-out-to-bits64 c = search needs
 
 to-bits64-requires : tie.Need-to-bits64-requires Inv-loop μ-loop
 to-bits64-requires c κs = search needs
 
-mixed-requires : tie.Need-mixed-requires Inv-loop μ-loop
-mixed-requires c κs = search needs
+mul-out : tie.Need-mul-out Inv-loop μ-loop
+mul-out c = search needs
+
+array-write-out : tie.Need-array-write-out Inv-loop μ-loop
+array-write-out c = search needs
 
 add-k : tie.Need-add-k Inv-loop μ-loop
 add-k c = search needs
@@ -38,17 +43,18 @@ loop-again c = search needs
 returns : tie.Need-returns Inv-loop μ-loop
 returns c = search needs
 
-pub digest-floats-spec : {M : Type 1} → statement M
-digest-floats-spec =
+pub bits-spec : {M : Type 1} → statement M
+bits-spec =
     tie.close
     (tie.spec
     Inv-loop
     μ-loop
     loop-holds
     mul-to-bits64
-    shared-slice-read-to-bits64
+    element-copy-out-to-bits64
     to-bits64-requires
-    mixed-requires
+    mul-out
+    array-write-out
     add-k
     loop-less
     loop-again

@@ -2,8 +2,8 @@
 use Prim.Native.Nat.{_-_, _≤_}
 use lib.ListN.{length}
 use borrow.Author.Needs.{needs}
-use Rattle.state_causes.proofs.read_all.Statement.{statement}
-use Rattle.state_causes.proofs.read_all.Tie as tie
+use Rattle.bad_input.proofs.causes.read_all.Statement.{statement}
+use Rattle.bad_input.proofs.causes.read_all.Tie as tie
 
 abbrev Inv-loop : tie.InvT-loop
 Inv-loop text r₀ k₀ r k = 0 ≤ k
