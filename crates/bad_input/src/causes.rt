@@ -36,6 +36,9 @@ const PLACE: u64 = 2;
 
 const BITS: u64 = 3;
 
+// A place where no word stands.
+const NOWHERE: usize = 250;
+
 // The sample (1, 0).
 const ONE: u64 = 0x3f80_0000;
 
@@ -156,9 +159,11 @@ fn digit(c: u8) -> u64 {
     (c % 16) as u64 + 9
 }
 
+// A part begins: there is no place and no digit yet.
 fn with_part(r: Reading, part: u64) -> Reading {
     let mut out = r;
     out.part = part;
+    out.place = NOWHERE;
     out.number = 0;
     out
 }
@@ -183,16 +188,17 @@ fn read_cause(r: Reading, c: u8) -> Reading {
 }
 
 fn read_place(r: Reading, c: u8) -> Reading {
-    let mut out = r;
     if c == b'=' {
+        let mut out = with_part(r, BITS);
         out.place = r.number as usize;
-        return with_part(out, BITS);
+        return out;
     }
+    let mut out = r;
     out.number = r.number % 100 * 10 + digit(c) % 16;
     out
 }
 
-// The chain with the word that was read.
+// The chain with the word that was read, if there was one.
 fn given(r: Reading) -> Reading {
     let mut out = r;
     let before = r.bench;
@@ -210,17 +216,11 @@ fn read_bits(r: Reading, c: u8) -> Reading {
     out
 }
 
-fn shown(r: Reading) -> Reading {
-    let bench = r.bench;
-    show_chain(bench);
-    with_part(r, LETTER)
-}
-
 fn end_line(r: Reading) -> Reading {
-    if r.part == BITS {
-        return shown(given(r));
-    }
-    shown(r)
+    let out = given(r);
+    let bench = out.bench;
+    show_chain(bench);
+    with_part(out, LETTER)
 }
 
 fn read(r: Reading, c: u8) -> Reading {
@@ -241,7 +241,7 @@ fn read(r: Reading, c: u8) -> Reading {
 fn read_all(text: &[u8]) {
     let mut r = Reading {
         part: LETTER,
-        place: 0,
+        place: NOWHERE,
         number: 0,
         bench: chain(b'a'),
     };

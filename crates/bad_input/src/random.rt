@@ -50,17 +50,13 @@ fn full_call(b: Bench, seed: u64) -> Tried {
     aside(t, b, t.right)
 }
 
-// A call on the chain spoilt: document 01's answer is not known.
-fn spoilt_call(b: Bench, seed: u64) -> Tried {
+// A call on the spoilt chain, or else a hop: document 01's answer is not known.
+fn on_spoilt(b: Bench, seed: u64, calls: bool) -> Tried {
     let bad = spoil::spoilt(b, seed);
     let lent = odd_lengths(right_lengths(bad), seed);
-    aside(any_call(bad, seed, lent), b, true)
-}
-
-// The same with a hop.
-fn spoilt_hop(b: Bench, seed: u64) -> Tried {
-    let bad = spoil::spoilt(b, seed);
-    let lent = odd_lengths(right_lengths(bad), seed);
+    if calls {
+        return aside(any_call(bad, seed, lent), b, true);
+    }
     aside(any_hop(bad, seed, lent), b, true)
 }
 
@@ -71,20 +67,22 @@ fn turn(b: Bench, seed: u64) -> Tried {
         1..=4 => own_call(b, seed),
         5 => full_call(b, seed),
         6..=8 => any_hop(b, seed, right_lengths(b)),
-        9..=11 => spoilt_call(b, seed),
-        _ => spoilt_hop(b, seed),
+        _ => on_spoilt(b, seed, f < 12),
     }
 }
 
 // ---- all turns
 
-fn counted(counts: [u64; 96], t: Tried) -> [u64; 96] {
+fn one_more_if(counted: bool, counts: [u64; 96], at: usize) -> [u64; 96] {
     let mut out = counts;
-    let k = (t.op % 3 * 32 + t.number % 32) as usize;
-    out[k] = std::num::wrapping_add_u64(out[k], 1);
-    out[CHANGED] = std::num::wrapping_add_u64(out[CHANGED], !t.good as u64);
-    out[WRONG] = std::num::wrapping_add_u64(out[WRONG], !t.right as u64);
+    out[at % 96] = std::num::wrapping_add_u64(out[at % 96], counted as u64);
     out
+}
+
+fn counted(counts: [u64; 96], t: Tried) -> [u64; 96] {
+    let k = (t.op % 3 * 32 + t.number % 32) as usize;
+    let out = one_more_if(true, counts, k);
+    one_more_if(!t.good, one_more_if(!t.right, out, WRONG), CHANGED)
 }
 
 fn next(w: World) -> World {
@@ -160,9 +158,9 @@ fn line_after(line: usize, c: u8) -> usize {
     line
 }
 
-// Each line of the names with its count, from this line on.
-fn print(names: &[u8], counts: &[u64; 96], from: usize) {
-    let mut line: usize = from;
+// Each line of the names with its count.
+fn print(names: &[u8], counts: &[u64; 96]) {
+    let mut line: usize = 0;
     let mut k: usize = 0;
     while k < names.len() {
         print_byte(names[k], counts[place(line) % 96]);
@@ -175,23 +173,11 @@ pub fn show() {
     let w = run(24000);
     let counts = w.counts;
     print(
-        b"making nothing \nmaking 1 \nmaking 2 \nmaking 3 \nmaking 4 \nmaking made \n",
+        b"making nothing \nmaking 1 \nmaking 2 \nmaking 3 \nmaking 4 \nmaking made \n\
+          call ready \ncall 4 \ncall 5 \ncall 6 \ncall 7 \ncall 8 \n\
+          hop nothing \nhop no report \nhop report \nhop 4 \nhop 5 \nhop 7 \nhop 9 \n\
+          refused, and not all as it was: \n\
+          on a fit state, and not document 01's answer: \n",
         &counts,
-        0,
-    );
-    print(
-        b"call ready \ncall 4 \ncall 5 \ncall 6 \ncall 7 \ncall 8 \n",
-        &counts,
-        6,
-    );
-    print(
-        b"hop nothing \nhop no report \nhop report \nhop 4 \nhop 5 \nhop 7 \nhop 9 \n",
-        &counts,
-        12,
-    );
-    print(
-        b"refused, and not all as it was: \non a fit state, and not document 01's answer: \n",
-        &counts,
-        19,
     );
 }

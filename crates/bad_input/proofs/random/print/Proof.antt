@@ -6,10 +6,10 @@ use Rattle.bad_input.proofs.random.print.Statement.{statement}
 use Rattle.bad_input.proofs.random.print.Tie as tie
 
 abbrev Inv-loop : tie.InvT-loop
-Inv-loop names counts from line₀ k₀ line k = 0 ≤ k
+Inv-loop names counts line₀ k₀ line k = 0 ≤ k
 
 abbrev μ-loop : tie.MeasureT-loop
-μ-loop names counts from line₀ k₀ line k = length names - k
+μ-loop names counts line₀ k₀ line k = length names - k
 
 loop-holds : tie.Need-loop-holds Inv-loop μ-loop
 loop-holds c = search needs
