@@ -1,6 +1,6 @@
 -- A call releases no more than its slice, and holds the rest; so a stream ends, and what its calls leave is `streamed`. Assumes nothing.
-use mathlib.Core.Path.{_≡_, refl, sym, ap, _∙_, subst}
-use mathlib.Core.Bool.{Bool, true, false, cond, _&&_, false≢true}
+use mathlib.Core.Path.{_≡_, refl, sym, ap, _∙_}
+use mathlib.Core.Bool.{Bool, true, false, cond, false≢true}
 use mathlib.Core.List.{List, [], _∷_, _++_}
 use Prim.Native.Nat.{ℕ, zero, suc, _+_, _-_, _≤_, _<_}
 use native.Mathlib.Omega.{arith}
@@ -12,7 +12,7 @@ use Rattle.rules.specs.TestLaws.{both}
 use Rattle.rules.specs.Refusals.{unusableAt}
 use Rattle.part_limit.specs.Limit.{returned}
 use Rattle.state.specs.declared.InputConditioner.{InputConditioner}
-use Rattle.stages.specs.Stages.{newPart, impulseOut, Machine, machineOf, handsOn, process}
+use Rattle.stages.specs.Stages.{newPart, Machine, machineOf, handsOn, process}
 use Rattle.stages.specs.Processing.{out-most, hands-length}
 use Rattle.calls.specs.Calls.{callRefusal, Outcome, taken, declined, called}
 use Rattle.chain_c.specs.Streams.{partAt, withPartAt, readyIn, numberIn, Stream, streamOf, lengthIn, more, turned, next, streamed, streamedAll}

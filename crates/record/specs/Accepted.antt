@@ -21,7 +21,7 @@ use Rattle.image.specs.declared.HopAnswer.the-variants as answer
 use Rattle.state.specs.declared.InputConditioner.{InputConditioner}
 use Rattle.state.specs.Fits.{stateFits}
 use Rattle.stages.specs.Stages.{Machine, newPart}
-use Rattle.calls.specs.Calls.{callRefusal, Said, Outcome, taken, declined, called}
+use Rattle.calls.specs.Calls.{callRefusal, Outcome, taken, declined, called}
 use Rattle.calls.specs.CallTests.{callNumber, refusal-by}
 use Rattle.hops.specs.Hops.{saidHop, answerOf, isOffIq, watched, hopRefusal, hopOf, byNumber, followed}
 use Rattle.hops.specs.Hops as hops
