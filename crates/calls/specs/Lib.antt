@@ -1,4 +1,2 @@
 -- definitions
-pub mod Calls
--- laws
-pub mod CallTests
+pub mod Said

@@ -1,9 +1,29 @@
-// A call: refused by its number, or taken through the stages.
+// A call: new samples through the stages impulse, DC, IQ, in place.
 
 ghost use mathlib.Core.Path.{_≡_};
+ghost use mathlib.Core.List.{_++_, map};
+ghost use Prim.Native.Nat.{_+_, _^_, _≤_, _<_};
+ghost use lib.ListN.{length, take, drop};
+ghost use Rattle.rules.specs.Log.{spanOf};
+ghost use Rattle.rules.specs.Iq.{correctedBy};
 ghost use Rattle.rules.specs.Refusals.{tooMany};
-ghost use Rattle.stages.specs.Stages.{machineOf, Stored};
-ghost use Rattle.calls.specs.Calls.{said, called};
+ghost use Rattle.log.specs.View.{Logged};
+ghost use Rattle.log.specs.CheckLaws.{Bounded};
+ghost use Rattle.impulse.specs.View.{suppressorOf};
+ghost use Rattle.iq.specs.View.{modeOf, settledOf};
+ghost use Rattle.impulse_run.specs.Noted.{notedOf, noteAll, over};
+ghost use Rattle.chain.specs.Stages.{machineOf, notesIn, newPart, impulseAfter, impulseOut, impulseTold, blockerAfterBy, blockedBy, notedDc, notedIq, handsOn, process, Stored, Acceptable};
+ghost use Rattle.chain.specs.Calls.{ready, called};
+ghost use Rattle.calls.specs.Said.{said};
+use dc::DcBlocker;
+use impulse::ImpulseSuppressor;
+use impulse_run::Notes;
+use impulse_run::Ran;
+use iq::Iq;
+use iq::StageMode;
+use log::Log;
+use log::Mark;
+use log::Stage;
 use sample_guard::Found;
 use state::InputConditioner;
 
@@ -30,6 +50,216 @@ pub struct Called {
 
 // 2^48: the most samples in all.
 const TOTAL_LIMIT: u64 = 0x1_0000_0000_0000;
+
+// The impulse stage over the samples behind the held ones. The arrays are the suppressor's.
+fn suppress(
+    state: InputConditioner,
+    samples: &mut [u64],
+    window: &mut [f32; ImpulseSuppressor::WINDOW],
+    sorted: &mut [f32; ImpulseSuppressor::WINDOW],
+    pending: &mut [u64; ImpulseSuppressor::LOOKAHEAD],
+    spans: &mut [u64],
+    repairs: &mut [u64],
+) -> Ran
+    requires { ⌜ Acceptable state (now samples) (now spans) (now repairs) ⌝ }
+    requires { ⌜ suppressorOf (state .suppressor .gate) (now window) (now sorted) (now pending) ≡ state .suppressor ⌝ }
+    requires { ⌜ length (now sorted) ≡ 33 ⌝ }
+    ensures suppressor { λ r. ⌜ suppressorOf (r .gate) (now (window .exit)) (now (sorted .exit)) (now (pending .exit)) ≡ impulseAfter state (drop (state .held) (now (samples .entry))) ⌝ }
+    ensures noted { λ r. ⌜ notedOf (r .notes) (now (spans .exit)) (now (repairs .exit)) ≡ noteAll (state .settings .spans) (state .settings .repairs) (notesIn (machineOf state (now (spans .entry)) (now (repairs .entry)))) (impulseTold state (drop (state .held) (now (samples .entry)))) ⌝ }
+    ensures ready { λ r. ⌜ r .ready ≡ length (impulseOut state (drop (state .held) (now (samples .entry)))) ⌝ }
+    ensures written { λ r. ⌜ now (samples .exit) ≡ over (impulseOut state (drop (state .held) (now (samples .entry)))) (now (samples .entry)) ⌝ }
+{
+    let set = state.settings;
+    let gate = state.suppressor.gate;
+    let log = state.log;
+    let ring = state.repairs;
+    let notes = Notes {
+        log,
+        repairs: ring,
+        longruns: state.longruns,
+    };
+    if !set.impulse {
+        return Ran {
+            gate,
+            notes,
+            ready: samples.len(),
+        };
+    }
+    impulse_run::run(
+        samples,
+        state.held,
+        gate,
+        window,
+        sorted,
+        pending,
+        notes,
+        spans,
+        set.spans,
+        repairs,
+        set.repairs,
+    )
+}
+
+// The DC stage over the first `ready` samples.
+fn remove_dc(mode: StageMode, blocker: DcBlocker, samples: &mut [u64], ready: usize) -> DcBlocker
+    requires { ⌜ ready ≤ length (now samples) ⌝ }
+    requires { ⌜ blocker .n + ready < 2 ^ 64 ⌝ }
+    ensures level { λ r. ⌜ r ≡ blockerAfterBy (modeOf mode) blocker (take ready (now (samples .entry))) ⌝ }
+    ensures written { λ r. ⌜ now (samples .exit) ≡ blockedBy (modeOf mode) blocker (take ready (now (samples .entry))) ++ drop ready (now (samples .entry)) ⌝ }
+{
+    match mode {
+        StageMode::Off => blocker,
+        StageMode::Observe => blocker.observe(&samples[..ready]),
+        StageMode::Apply => blocker.process(&mut samples[..ready]),
+    }
+}
+
+// The IQ stage over the first `ready` samples.
+fn correct(iq: Iq, samples: &mut [u64], ready: usize)
+    requires { ⌜ ready ≤ length (now samples) ⌝ }
+    ensures { λ r. ⌜ now (samples .exit) ≡ map (correctedBy (settledOf iq)) (take ready (now (samples .entry))) ++ drop ready (now (samples .entry)) ⌝ }
+{
+    correction::process(iq, &mut samples[..ready]);
+}
+
+// An applying DC stage marks what is released.
+fn mark_dc(
+    log: Log,
+    mode: StageMode,
+    spans: &mut [u64],
+    capacity: usize,
+    start: u64,
+    ready: u64,
+) -> Log
+    requires { ⌜ Bounded capacity (2 ^ 54) (record { log = log; spans = now spans }) ⌝ }
+    requires { ⌜ (start ≤ 2 ^ 52) × (ready ≤ 2 ^ 48) ⌝ }
+    ensures { λ r. ⌜ _≡_ {A = Logged} (record { log = r; spans = now (spans .exit) }) (notedDc capacity (modeOf mode) (record { log = log; spans = now (spans .entry) }) (spanOf start ready)) ⌝ }
+{
+    match mode {
+        StageMode::Off => log,
+        StageMode::Observe => log,
+        StageMode::Apply => log.mark(spans, capacity, Stage::Dc, Mark::Corrected, start, ready),
+    }
+}
+
+// A correcting IQ stage marks what is released, and so does one that is withheld.
+fn mark_iq(log: Log, iq: Iq, spans: &mut [u64], capacity: usize, start: u64, ready: u64) -> Log
+    requires { ⌜ Bounded capacity (2 ^ 55) (record { log = log; spans = now spans }) ⌝ }
+    requires { ⌜ (start ≤ 2 ^ 52) × (ready ≤ 2 ^ 48) ⌝ }
+    ensures { λ r. ⌜ _≡_ {A = Logged} (record { log = r; spans = now (spans .exit) }) (notedIq capacity (settledOf iq) (record { log = log; spans = now (spans .entry) }) (spanOf start ready)) ⌝ }
+{
+    match iq {
+        Iq::Off => log,
+        Iq::Observing => log,
+        Iq::Correcting(_) => log.mark(spans, capacity, Stage::Iq, Mark::Corrected, start, ready),
+        Iq::Withheld => log.mark(spans, capacity, Stage::Iq, Mark::Uncertain, start, ready),
+    }
+}
+
+// The DC and the IQ stage over the first `ready` samples.
+fn filter(
+    mode: StageMode,
+    blocker: DcBlocker,
+    iq: Iq,
+    samples: &mut [u64],
+    ready: usize,
+) -> DcBlocker
+    requires { ⌜ ready ≤ length (now samples) ⌝ }
+    requires { ⌜ blocker .n + ready < 2 ^ 64 ⌝ }
+    ensures level { λ r. ⌜ r ≡ blockerAfterBy (modeOf mode) blocker (take ready (now (samples .entry))) ⌝ }
+    ensures written { λ r. ⌜ now (samples .exit) ≡ map (correctedBy (settledOf iq)) (blockedBy (modeOf mode) blocker (take ready (now (samples .entry)))) ++ drop ready (now (samples .entry)) ⌝ }
+{
+    let after = remove_dc(mode, blocker, samples, ready);
+    correct(iq, samples, ready);
+    after
+}
+
+// The marks over what is released.
+fn mark_released(
+    log: Log,
+    mode: StageMode,
+    iq: Iq,
+    spans: &mut [u64],
+    capacity: usize,
+    start: u64,
+    ready: u64,
+) -> Log
+    requires { ⌜ Bounded capacity (2 ^ 54) (record { log = log; spans = now spans }) ⌝ }
+    requires { ⌜ (start ≤ 2 ^ 52) × (ready ≤ 2 ^ 48) ⌝ }
+    ensures { λ r. ⌜ _≡_ {A = Logged} (record { log = r; spans = now (spans .exit) }) (notedIq capacity (settledOf iq) (notedDc capacity (modeOf mode) (record { log = log; spans = now (spans .entry) }) (spanOf start ready)) (spanOf start ready)) ⌝ }
+{
+    let marked = mark_dc(log, mode, spans, capacity, start, ready);
+    mark_iq(marked, iq, spans, capacity, start, ready)
+}
+
+// The stages one after another, over a slice that is not refused.
+fn accept(
+    state: InputConditioner,
+    samples: &mut [u64],
+    spans: &mut [u64],
+    repairs: &mut [u64],
+) -> Called
+    requires { ⌜ Acceptable state (now samples) (now spans) (now repairs) ⌝ }
+    ensures answer { λ r. ⌜ said (r .answer) ≡ ready (length (handsOn state (newPart state (now (samples .entry))))) ⌝ }
+    ensures chain { λ r. ⌜ machineOf (r .state) (now (spans .exit)) (now (repairs .exit)) ≡ process (machineOf state (now (spans .entry)) (now (repairs .entry))) (newPart state (now (samples .entry))) ⌝ }
+    ensures written { λ r. ⌜ now (samples .exit) ≡ over (handsOn state (newPart state (now (samples .entry)))) (now (samples .entry)) ⌝ }
+{
+    let len = samples.len();
+    let new = len - state.held;
+    let mut window = state.suppressor.window;
+    let mut sorted = state.suppressor.sorted;
+    let mut pending = state.suppressor.pending;
+    let ran = suppress(
+        state,
+        samples,
+        &mut window,
+        &mut sorted,
+        &mut pending,
+        spans,
+        repairs,
+    );
+    let ready = ran.ready;
+    let set = state.settings;
+    let mode = set.dc;
+    let iq = set.iq;
+    let before = state.blocker;
+    let blocker = filter(mode, before, iq, samples, ready);
+    let notes = ran.notes;
+    let log = notes.log;
+    let marked = mark_released(
+        log,
+        mode,
+        iq,
+        spans,
+        set.spans,
+        state.released,
+        ready as u64,
+    );
+    let gate = ran.gate;
+    let suppressor = ImpulseSuppressor {
+        gate,
+        window,
+        sorted,
+        pending,
+    };
+    let monitor = state.monitor;
+    let ring = notes.repairs;
+    Called {
+        state: InputConditioner {
+            settings: set,
+            seen: state.seen + new as u64,
+            released: state.released + ready as u64,
+            held: len - ready,
+            suppressor,
+            blocker,
+            monitor,
+            log: marked,
+            repairs: ring,
+            longruns: notes.longruns,
+        },
+        answer: Conditioned::Ready(ready),
+    }
+}
 
 // Whether the total with so many new samples is above 2^48.
 fn too_many(seen: u64, new: usize) -> bool
@@ -73,12 +303,7 @@ fn take_slice(
             answer: Conditioned::Unusable(held + k),
         };
     }
-    let p = stages::process(state, samples, spans, repairs);
-    let next = p.state;
-    Called {
-        state: next,
-        answer: Conditioned::Ready(p.ready),
-    }
+    accept(state, samples, spans, repairs)
 }
 
 // Conditions a slice in place: the held samples, which are not read, and then the new ones. What is

@@ -12,9 +12,9 @@ use Rattle.rules.specs.TestLaws.{both}
 use Rattle.rules.specs.Refusals.{unusableAt}
 use Rattle.part_limit.specs.Limit.{returned}
 use Rattle.state.specs.declared.InputConditioner.{InputConditioner}
-use Rattle.stages.specs.Stages.{newPart, Machine, machineOf, handsOn, process}
-use Rattle.stages.specs.Processing.{out-most, hands-length}
-use Rattle.calls.specs.Calls.{callRefusal, Outcome, taken, declined, called}
+use Rattle.chain.specs.Stages.{newPart, Machine, machineOf, handsOn, process}
+use Rattle.chain.specs.Processing.{out-most, hands-length}
+use Rattle.chain.specs.Calls.{callRefusal, Outcome, taken, declined, called}
 use Rattle.chain_c.specs.Streams.{partAt, withPartAt, readyIn, numberIn, Stream, streamOf, lengthIn, more, turned, next, streamed, streamedAll}
 
 -- ---- one call

@@ -9,8 +9,8 @@ use Rattle.iq.specs.declared.IqCalibration.{IqCalibration}
 use Rattle.config.specs.declared.ConditioningConfig.{ConditioningConfig}
 use Rattle.state.specs.declared.InputConditioner.{InputConditioner}
 use Rattle.making.specs.Making.{freshState, madeWords}
-use Rattle.stages.specs.Stages.{Machine, machineOf}
-use Rattle.calls.specs.Calls.{Said, refused, ready, Outcome, called}
+use Rattle.chain.specs.Stages.{Machine, machineOf}
+use Rattle.chain.specs.Calls.{Said, refused, ready, Outcome, called}
 use Rattle.chain_c.specs.Chains.{appliedChain, saidOf, madeNumber}
 
 -- ---- a part of a list: n elements from a place on

@@ -4,8 +4,8 @@ use Prim.Native.Nat.{ℕ, _+_, _-_, _/_, min}
 use lib.ListN.{length, take, drop}
 use Rattle.rules.specs.Guard.{guarded}
 use Rattle.state.specs.declared.InputConditioner.{InputConditioner}
-use Rattle.stages.specs.Stages.{Machine}
-use Rattle.calls.specs.Calls.{Said, refused, ready, Outcome, called}
+use Rattle.chain.specs.Stages.{Machine}
+use Rattle.chain.specs.Calls.{Said, refused, ready, Outcome, called}
 use Rattle.recording.specs.Format.{wordsIn}
 
 -- the held places in a store of samples

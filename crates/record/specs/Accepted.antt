@@ -20,9 +20,9 @@ use Rattle.iq.specs.View.{settledOf}
 use Rattle.image.specs.declared.HopAnswer.the-variants as answer
 use Rattle.state.specs.declared.InputConditioner.{InputConditioner}
 use Rattle.state.specs.Fits.{stateFits}
-use Rattle.stages.specs.Stages.{Machine, newPart}
-use Rattle.calls.specs.Calls.{callRefusal, Outcome, taken, declined, called}
-use Rattle.calls.specs.CallTests.{callNumber, refusal-by}
+use Rattle.chain.specs.Stages.{Machine, newPart}
+use Rattle.chain.specs.Calls.{callRefusal, Outcome, taken, declined, called}
+use Rattle.chain.specs.CallTests.{callNumber, refusal-by}
 use Rattle.hops.specs.Hops.{saidHop, answerOf, isOffIq, watched, hopRefusal, hopOf, byNumber, followed}
 use Rattle.hops.specs.Hops as hops
 use Rattle.hops.specs.declared.HopSaid.the-variants as said

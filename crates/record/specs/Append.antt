@@ -27,8 +27,8 @@ use Rattle.dc.specs.declared.DcBlocker.{DcBlocker}
 use Rattle.dc.specs.Blocker.{levelOf, blockerOf}
 use Rattle.dc.specs.Cutting.{level-append, blocked-append}
 use Rattle.iq.specs.View.{modeOf, settledOf}
-use Rattle.stages.specs.Stages.{settingIn, Machine, notesIn, impulseAfter, impulseOut, impulseTold, blockerAfterBy, blockedBy, handsOn, notesAfter, loggedAfter, process}
-use Rattle.stages.specs.Processing.{out-most}
+use Rattle.chain.specs.Stages.{settingIn, Machine, notesIn, impulseAfter, impulseOut, impulseTold, blockerAfterBy, blockedBy, handsOn, notesAfter, loggedAfter, process}
+use Rattle.chain.specs.Processing.{out-most}
 use Rattle.record.specs.Rings.{dcMarks, iqMarks, markIf, ringAfter}
 use Rattle.record.specs.RingLaws.{same-rings, call-rings, call-at}
 

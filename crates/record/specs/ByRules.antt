@@ -26,13 +26,13 @@ use Rattle.config.specs.declared.ConditioningConfig.{ConditioningConfig}
 use Rattle.config.specs.Config.{configOf}
 use Rattle.making.specs.Making.{freshState, freshSettings}
 use Rattle.making.specs.MakingLaws.{settled-again}
-use Rattle.stages.specs.Stages.{notesIn, impulseAfter, impulseOut, impulseTold, blockerAfterBy, blockedBy, handsOn, notesAfter, releasedSpan, loggedAfter, process}
+use Rattle.chain.specs.Stages.{notesIn, impulseAfter, impulseOut, impulseTold, blockerAfterBy, blockedBy, handsOn, notesAfter, releasedSpan, loggedAfter, process}
 use Rattle.rules.specs.Monitor.{Hop, suspectedSpans}
 use Rattle.rules.specs.Chain as chain
 use Rattle.hops.specs.Hops.{isObserving}
 use borrow.Author.Tests.{ne-eqb}
 use Rattle.impulse_run.specs.Noted.{marksFor}
-use Rattle.stages.specs.Processing.{hands-length}
+use Rattle.chain.specs.Processing.{hands-length}
 use Rattle.record.specs.Rings.{dcMarks, iqMarks, markIf, ringAfter}
 use Rattle.record.specs.RingLaws.{call-rings, call-at}
 use Rattle.record.specs.Append.{others-none}

@@ -25,7 +25,7 @@ use Rattle.config.specs.declared.ConditioningConfig.{ConditioningConfig}
 use Rattle.config.specs.Config.{configOf}
 use Rattle.state.specs.declared.InputConditioner.{InputConditioner}
 use Rattle.making.specs.Making.{freshState, Said, made, makingSaid, madeWords}
-use Rattle.stages.specs.Stages.{settingIn, Machine, machineOf, notesIn, impulseAfter, impulseOut, impulseTold, blockerAfterBy, blockedBy, handsOn, notesAfter, loggedAfter, process}
+use Rattle.chain.specs.Stages.{settingIn, Machine, machineOf, notesIn, impulseAfter, impulseOut, impulseTold, blockerAfterBy, blockedBy, handsOn, notesAfter, loggedAfter, process}
 use Rattle.hops.specs.Hops.{isObserving}
 use Rattle.record.specs.Rings.{dcMarks, iqMarks, markIf, ringAfter}
 use Rattle.record.specs.RingLaws.{same-rings, call-rings, call-at}

@@ -29,7 +29,7 @@ use Rattle.config.specs.Config.{configOf}
 use Rattle.state.specs.Fits.{heldBy, applies, settingsFit, countsFit, gateFits, suppressorFits, blockerFits, coefficientFits, monitorFits, frontFits, impulseFits, logsFit, stagesFit, stateFits}
 use Rattle.making.specs.Making.{freshState, freshSettings}
 use Rattle.making.specs.MakingLaws.{settled-again}
-use Rattle.stages.specs.Stages.{impulseOut, process}
+use Rattle.chain.specs.Stages.{impulseOut, process}
 use Rattle.record.specs.Append.{setting-same}
 use Rattle.record.specs.Hopping.{withHops, hopLogged}
 use Rattle.record.specs.Reaching.{freshMachine, hopMarks, core, chainAt, Reached}

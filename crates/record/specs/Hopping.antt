@@ -15,7 +15,7 @@ use Rattle.image.specs.declared.ImageMonitor.{ImageMonitor}
 use Rattle.impulse_run.specs.Noted.{marksFor, Rings}
 use Rattle.impulse_run.specs.NotedRings.{marked-rings, noted-repairs, noted-long}
 use Rattle.iq.specs.View.{modeOf, settledOf}
-use Rattle.stages.specs.Stages.{Machine, notesIn, impulseAfter, impulseOut, impulseTold, releasedSpan, notesAfter, loggedAfter, process, handsOn}
+use Rattle.chain.specs.Stages.{Machine, notesIn, impulseAfter, impulseOut, impulseTold, releasedSpan, notesAfter, loggedAfter, process, handsOn}
 use Rattle.state.specs.declared.InputConditioner.{InputConditioner}
 use Rattle.hops.specs.Hops.{uncertain, withMonitor, isObserving}
 use Rattle.record.specs.Rings.{dcMarks, iqMarks, markIf, ringAfter}

@@ -18,8 +18,8 @@ use Rattle.config.specs.Config.{configOf}
 use Rattle.state.specs.declared.InputConditioner.{InputConditioner}
 use Rattle.making.specs.Making.{freshState, makingSaid, madeWords}
 use Rattle.reading.specs.Reading.{stateLevel}
-use Rattle.stages.specs.Stages.{Machine, machineOf, newPart}
-use Rattle.calls.specs.Calls.{Said, refused, ready, Outcome, called}
+use Rattle.chain.specs.Stages.{Machine, machineOf, newPart}
+use Rattle.chain.specs.Calls.{Said, refused, ready, Outcome, called}
 use Rattle.hops.specs.Hops.{saidHop, Hopped, hopOf}
 use Rattle.hops.specs.HopKeeps.{isAnswered}
 use Rattle.undo.specs.Undoing as undo

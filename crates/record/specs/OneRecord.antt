@@ -31,11 +31,11 @@ use Rattle.config.specs.Config.{configOf}
 use Rattle.state.specs.declared.InputConditioner.{InputConditioner}
 use Rattle.state.specs.Fits.{heldBy}
 use Rattle.making.specs.Making.{freshState, freshSettings, Said, made, makingSaid}
-use Rattle.stages.specs.Stages.{newPart, handsOn, loggedAfter, process}
-use Rattle.stages.specs.Processing.{hands-length}
-use Rattle.calls.specs.Calls as call
-use Rattle.calls.specs.Calls.{callRefusal, refused, ready, Outcome, taken, declined, called}
-use Rattle.calls.specs.CallTests.{callNumber, refusal-by, taken-by}
+use Rattle.chain.specs.Stages.{newPart, handsOn, loggedAfter, process}
+use Rattle.chain.specs.Processing.{hands-length}
+use Rattle.chain.specs.Calls as call
+use Rattle.chain.specs.Calls.{callRefusal, refused, ready, Outcome, taken, declined, called}
+use Rattle.chain.specs.CallTests.{callNumber, refusal-by, taken-by}
 use Rattle.hops.specs.Hops as hop
 use Rattle.image.specs.declared.HopAnswer.{HopAnswer}
 use Rattle.image.specs.declared.HopAnswer.the-variants as answer

@@ -29,8 +29,8 @@ use Rattle.state.specs.declared.Settings.{Settings}
 use Rattle.state.specs.declared.InputConditioner.{InputConditioner}
 use Rattle.making.specs.Making.{freshState, freshSettings}
 use Rattle.making.specs.MakingLaws.{settled-again}
-use Rattle.stages.specs.Stages.{Machine, machineOf, notesIn, newPart, process, handsOn}
-use Rattle.calls.specs.Calls.{callRefusal, Said, refused, ready, Outcome, taken, called}
+use Rattle.chain.specs.Stages.{Machine, machineOf, notesIn, newPart, process, handsOn}
+use Rattle.chain.specs.Calls.{callRefusal, Said, refused, ready, Outcome, taken, called}
 use Rattle.hops.specs.Hops as hops
 use Rattle.hops.specs.Hops.{isObserving, isOffIq, uncertain, saidHop, Hopped}
 use Rattle.record.specs.Lists.{Given, own, other, handed, kept, Operation, call, hop, Chain, afterCall, callOn, afterHop, hopOn, next, run, IsOwn, isReady, Found, Proper}
@@ -38,7 +38,7 @@ use Rattle.record.specs.RingLaws.{call-rings}
 use Rattle.record.specs.Append.{process-append, hands-append}
 use Rattle.record.specs.Hopping.{withHops, process-hops, hands-hops}
 use Rattle.record.specs.Accepted.{ready-none, refused-keeps, passes, usable-append, scan-usable, Taken, answered-taken}
-use Rattle.calls.specs.CallTests.{taken-by}
+use Rattle.chain.specs.CallTests.{taken-by}
 use Rattle.hops.specs.HopLaws.{watched-by, hop-taken}
 use Rattle.hops.specs.HopKeeps.{isAnswered, Keeps, hop-keeps}
 

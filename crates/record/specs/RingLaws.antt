@@ -20,7 +20,7 @@ use Rattle.log.specs.LogLaws.{Twelve, marked-same, marked-other}
 use Rattle.impulse_run.specs.Noted.{Rings, noteAll}
 use Rattle.impulse_run.specs.NotedRings.{marked-rings, noted-rings, noted-at}
 use Rattle.iq.specs.View.{modeOf, settledOf}
-use Rattle.stages.specs.Stages.{Machine, notesIn, impulseTold, releasedSpan, notedDc, notedIq, notesAfter, loggedAfter}
+use Rattle.chain.specs.Stages.{Machine, notesIn, impulseTold, releasedSpan, notedDc, notedIq, notesAfter, loggedAfter}
 use Rattle.record.specs.Rings.{ringsOf, dcMarks, iqMarks, markIf, ringAfter}
 
 -- ---- the view can be undone

@@ -11,7 +11,7 @@ use Rattle.log.specs.View.{Logged, marksAt}
 use Rattle.impulse_run.specs.Noted.{marksFor}
 use Rattle.iq.specs.View.{modeOf, settledOf}
 use Rattle.state.specs.declared.InputConditioner.{InputConditioner}
-use Rattle.stages.specs.Stages.{impulseTold, releasedSpan}
+use Rattle.chain.specs.Stages.{impulseTold, releasedSpan}
 
 -- the twelve rings, in their order; `logOf` goes back
 abbrev pub ringsOf : ℕ → Logged → List rules.Marks

@@ -7,8 +7,8 @@ use lib.Ieee.{Float}
 use Rattle.rules.specs.Guard.{unusable}
 use Rattle.making.specs.Making as making
 use Rattle.making.specs.Making.{nothing, made, madeWords}
-use Rattle.stages.specs.Stages.{Machine, machineOf}
-use Rattle.calls.specs.Calls.{Said, refused, ready}
+use Rattle.chain.specs.Stages.{Machine, machineOf}
+use Rattle.chain.specs.Calls.{Said, refused, ready}
 use Rattle.recording.specs.Format.{headerSize, wordsIn}
 use Rattle.feeding.specs.Feeding.{newWords, fed, callNumber}
 use Rattle.starting.specs.Starting.{startSaid, startState}

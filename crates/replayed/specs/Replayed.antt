@@ -29,9 +29,9 @@ use Rattle.config.specs.Config.{configOf, allOff, refusal}
 use Rattle.state.specs.FitsLaws.{state-groups}
 use Rattle.making.specs.Making as making
 use Rattle.making.specs.Making.{freshState, freshSettings, nothing, made, makingSaid, madeWords, numbered}
-use Rattle.stages.specs.Stages.{Machine, machineOf, newPart, process}
-use Rattle.calls.specs.Calls.{Said, Outcome, taken, refused}
-use Rattle.calls.specs.CallTests.{taken-by, declined-by}
+use Rattle.chain.specs.Stages.{Machine, machineOf, newPart, process}
+use Rattle.chain.specs.Calls.{Said, Outcome, taken, refused}
+use Rattle.chain.specs.CallTests.{taken-by, declined-by}
 use Rattle.reading.specs.Reading.{storeFits, readable, spansIn, stateLevel}
 use Rattle.part_limit.specs.Limit.{returned}
 use Rattle.record.specs.Lists.{Chain, madeChain, ByRules}

@@ -7,7 +7,7 @@ use denote.Ref.{now}
 use Rattle.rules.specs.ListLaws.{length-map}
 use Rattle.state.specs.Fits.{stateFits}
 use Rattle.state.specs.FitsLaws.{Fit, state-fit}
-use Rattle.calls.specs.CallTests.{unfit-state, repairs-wrong, spans-wrong, unfit-spans}
+use Rattle.chain.specs.CallTests.{unfit-state, repairs-wrong, spans-wrong, unfit-spans}
 use borrow.Author.Needs.{needs}
 use Rattle.calls.proofs.condition.Statement.{statement}
 use Rattle.calls.proofs.condition.Tie as tie

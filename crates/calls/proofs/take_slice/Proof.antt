@@ -1,4 +1,4 @@
--- `calls::take_slice` tests the slice, and hands it to the stages. Assumes nothing.
+-- `calls::take_slice` tests the slice, and accepts it. Assumes nothing.
 use mathlib.Core.Path.{_≡_, sym, ap, _∙_}
 use mathlib.Core.Bool.{false}
 use mathlib.Core.List.{List}
@@ -8,9 +8,9 @@ use lib.ListN.{length, take, drop, length-drop}
 use lib.Seq.{take-all}
 use borrow.Author.Tests.{ltb-true}
 use denote.Ref.{now}
-use Rattle.calls.specs.CallTests.{scan-at, scan-fine, short-slice, too-many-samples, unusable-sample, acceptable, accepted-call}
+use Rattle.chain.specs.CallTests.{scan-at, scan-fine, short-slice, too-many-samples, unusable-sample, acceptable, accepted-call}
 use Rattle.rules.specs.Refusals.{tooMany, unusableAt}
-use Rattle.calls.specs.Calls.{ready, Outcome}
+use Rattle.chain.specs.Calls.{Outcome}
 use borrow.Author.Needs.{needs}
 use Rattle.calls.proofs.take_slice.Statement.{statement}
 use Rattle.calls.proofs.take_slice.Tie as tie
@@ -58,8 +58,8 @@ first-unusable-requires c κs = search needs
 enum-known-found : tie.Need-enum-known-found
 enum-known-found c = search needs
 
-add-t19 : tie.Need-add-t19
-add-t19 c =
+add-t17 : tie.Need-add-t17
+add-t17 c =
     let s = c .before .before .before .before .before .before .before .before .before .before .before .before in
     let a = s .args in
     let u = scan-at (a .state .held) (now (a .samples)) _ (part (a .state .held) (now (a .samples))) _ (sym (c .before .found .given .1) ∙ c .before .before .before .first-unusable .ensures) in
@@ -77,8 +77,8 @@ returns-3 c =
 enum-told : tie.Need-enum-told
 enum-told c = search needs
 
-process-requires : tie.Need-process-requires
-process-requires c κs =
+accept-requires : tie.Need-accept-requires
+accept-requires c κs =
     let s = c .before .before .before .before .before .before .before .before .before .before .before .before .before .before in
     let a = s .args in
     acceptable (a .state) (now (a .samples)) (now (a .spans)) (now (a .repairs)) (s .pre) (c .before .before .before .before .before .before .before .before .before .before .if1 .left) (few-enough (c .before .before .before .before .before .before .before .before))
@@ -94,11 +94,11 @@ same-length-4 c = search needs
 
 returns-4 : tie.Need-returns-4
 returns-4 c =
-    let s = c .before .before .before .before .before .before .before .before .before .before .before .before .before .before .before .before .before .before .before .before .before .before in
+    let s = c .before .before .before .before .before .before .before .before .before .before .before .before .before .before .before .before .before .before .before .before .before in
     let a = s .args in
-    let r = c .before .before .before .before .before .before .before .process .ensures in
-    let e = accepted-call (a .state) (now (a .samples)) (now (a .spans)) (now (a .repairs)) (s .pre) (c .before .before .before .before .before .before .before .before .before .before .before .before .before .before .before .before .before .before .if1 .left) (few-enough (c .before .before .before .before .before .before .before .before .before .before .before .before .before .before .before .before)) (scan-fine (a .state .held) (now (a .samples)) _ (part (a .state .held) (now (a .samples))) (sym (c .before .before .before .before .before .before .before .before .before .before .before .enum-told .given .1) ∙ c .before .before .before .before .before .before .before .before .before .before .before .before .before .first-unusable .ensures)) in
-    (ap ready (r .0) ∙ sym (ap (λ (o : Outcome). o .said) e), (r .1 .0 ∙ sym (ap (λ (o : Outcome). o .machine) e), r .1 .1 ∙ sym (ap (λ (o : Outcome). o .samples) e)))
+    let r = c .before .before .before .before .before .before .accept .ensures in
+    let e = accepted-call (a .state) (now (a .samples)) (now (a .spans)) (now (a .repairs)) (s .pre) (c .before .before .before .before .before .before .before .before .before .before .before .before .before .before .before .before .before .if1 .left) (few-enough (c .before .before .before .before .before .before .before .before .before .before .before .before .before .before .before)) (scan-fine (a .state .held) (now (a .samples)) _ (part (a .state .held) (now (a .samples))) (sym (c .before .before .before .before .before .before .before .before .before .before .enum-told .given .1) ∙ c .before .before .before .before .before .before .before .before .before .before .before .before .first-unusable .ensures)) in
+    (r .0 ∙ sym (ap (λ (o : Outcome). o .said) e), (r .1 .0 ∙ sym (ap (λ (o : Outcome). o .machine) e), r .1 .1 ∙ sym (ap (λ (o : Outcome). o .samples) e)))
 
 pub take-slice-spec : {M : Type 1} → statement M
 take-slice-spec =
@@ -114,11 +114,11 @@ take-slice-spec =
     part-first-unusable-end
     first-unusable-requires
     enum-known-found
-    add-t19
+    add-t17
     same-length
     returns-3
     enum-told
-    process-requires
+    accept-requires
     same-length-2
     same-length-3
     same-length-4

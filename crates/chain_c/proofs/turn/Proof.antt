@@ -3,8 +3,8 @@ use mathlib.Core.Path.{ap, _∙_}
 use Prim.Native.Nat.{ℕ, _+_, _-_}
 use native.Mathlib.Nat.{add-sub-cancel-left}
 use denote.Ref.{now}
-use Rattle.stages.specs.Stages.{machineOf}
-use Rattle.calls.specs.Calls.{called}
+use Rattle.chain.specs.Stages.{machineOf}
+use Rattle.chain.specs.Calls.{called}
 use Rattle.chain_c.specs.Streams.{partAt, withPartAt}
 use borrow.Author.Needs.{needs}
 use Rattle.chain_c.proofs.turn.Statement.{statement}

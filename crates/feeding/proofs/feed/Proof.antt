@@ -4,8 +4,8 @@ use mathlib.Core.List.{List, _++_}
 use Prim.Native.Nat.{ℕ}
 use denote.Ref.{now}
 use Rattle.rules.specs.Guard.{unusable}
-use Rattle.stages.specs.Stages.{machineOf}
-use Rattle.calls.specs.Calls.{called}
+use Rattle.chain.specs.Stages.{machineOf}
+use Rattle.chain.specs.Calls.{called}
 use Rattle.feeding.proofs.Parts.{part-words, call-slice, call-long, call-behind}
 use borrow.Author.Needs.{needs}
 use Rattle.feeding.proofs.feed.Statement.{statement}

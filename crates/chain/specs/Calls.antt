@@ -1,0 +1,52 @@
+-- A call: what it declines, and what it makes of the state, the samples and the stores. Definitions only.
+use mathlib.Core.Bool.{cond}
+use mathlib.Core.List.{List, [], _∷_, _++_}
+use Prim.Native.Nat.{ℕ, _-_, _*_}
+use lib.Dec.{eqb}
+use lib.ListN.{length, drop}
+use Rattle.rules.specs.Refusals.{firstOf, badLength, shortSlice, tooMany, unusableAt, anyUnusable}
+use Rattle.part_limit.specs.Limit.{returned}
+use Rattle.state.specs.declared.InputConditioner.{InputConditioner}
+use Rattle.state.specs.Causes.{badState, badSpans}
+use Rattle.chain.specs.Stages.{newPart, Machine, handsOn, process}
+
+-- ---- what a call declines: '5, 4', 5's rule on lent words straight after, '6, 8, 7'
+
+unfoldable pub callRefusal : InputConditioner → List ℕ → List ℕ → List ℕ → ℕ
+callRefusal c samples spans repairs =
+    firstOf
+    (badState c
+    ∷ badLength (6 * c .settings .repairs) (length repairs)
+    ∷ badLength (24 * c .settings .spans) (length spans)
+    ∷ badSpans c spans
+    ∷ shortSlice (c .held) (length samples)
+    ∷ tooMany (c .seen) (length samples - c .held)
+    ∷ anyUnusable (c .held) (newPart c samples)
+    ∷ [])
+
+-- ---- a call
+
+-- in document 01's words: what the table returns, or how many samples are ready
+pub data Said : Type 0 where
+  refused : List ℕ → Said
+  ready : ℕ → Said
+
+-- the answer, the chain, and the slice
+pub record Outcome : Type 0 where
+  pub said : Said
+  pub machine : Machine
+  pub samples : List ℕ
+
+-- 'Places from ready on stay as they were.'
+abbrev pub taken : Machine → List ℕ → Outcome
+taken m samples =
+    let ys = handsOn (m .state) (newPart (m .state) samples) in
+    record { said = ready (length ys); machine = process m (newPart (m .state) samples); samples = ys ++ drop (length ys) samples }
+
+abbrev pub declined : Machine → List ℕ → List ℕ → Outcome
+declined m samples r = record { said = refused r; machine = m; samples = samples }
+
+unfoldable pub called : Machine → List ℕ → Outcome
+called m samples =
+    let n = callRefusal (m .state) samples (m .spans) (m .repairs) in
+    cond (eqb n 0) (taken m samples) (declined m samples (returned n (unusableAt (m .state .held) (newPart (m .state) samples))))

@@ -1,5 +1,0 @@
--- definitions
-pub mod Stages
--- laws
-pub mod SliceLaws
-pub mod Processing
