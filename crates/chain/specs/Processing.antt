@@ -21,7 +21,7 @@ use Rattle.impulse_run.specs.StageLaws.{handed-most, roomy-run}
 use Rattle.dc.specs.declared.DcBlocker.{DcBlocker}
 use Rattle.iq.specs.View.{modeOf, settledOf}
 use Rattle.state.specs.declared.InputConditioner.{InputConditioner}
-use Rattle.chain.specs.Stages.{settingIn, newPart, machineOf, notesIn, impulseAfter, impulseOut, impulseTold, blockerAfterBy, blockedBy, notedDc, notedIq, dcOut, handsOn, notesAfter, loggedAfter, process, Acceptable}
+use Rattle.chain.specs.Stages.{settingIn, newPart, machineOf, notesIn, impulseAfter, impulseOut, impulseTold, blockerAfterBy, blockedBy, notedDc, notedIq, handsOn, notesAfter, loggedAfter, process, Acceptable}
 use Rattle.chain.specs.SliceLaws.{call-roomy, call-room, new-length, new-few, off-told, on-told, blocked-by-length}
 
 -- ---- how many samples are handed on
@@ -38,9 +38,7 @@ out-most c new = go (c .settings .impulse)
 -- and the other stages hand on as many as they get
 pub hands-length : (c : InputConditioner) (new : List ℕ) → length (handsOn c new) ≡ length (impulseOut c new)
 unfolding handsOn
-hands-length c new =
-    length-map (correctedBy (settledOf (c .settings .iq))) (dcOut c new)
-    ∙ blocked-by-length (modeOf (c .settings .dc)) (c .blocker) (impulseOut c new)
+hands-length c new = simp (length-map, blocked-by-length)
 
 module _ (c : InputConditioner) (samples spans repairs : List ℕ) (a : Acceptable c samples spans repairs) where
   pub ready-few : (ready : ℕ) → ready ≡ length (impulseOut c (newPart c samples)) → ready ≤ 2 ^ 48
