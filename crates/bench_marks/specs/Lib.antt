@@ -1,2 +1,4 @@
 -- the theorem
 pub mod BenchMarks
+-- closed cases
+pub mod ImpulseCases

@@ -1,4 +1,4 @@
--- A word by its eight bytes, and the words of a list of bytes. Assumes nothing.
+-- A word by its bytes, and the words of a list of bytes. Assumes nothing.
 use mathlib.Core.Path.{_≡_, refl, ap, sym, _∙_}
 use mathlib.Core.List.{List, _++_, append-nil}
 use Prim.Native.Nat.{ℕ, suc, _+_, _*_, _/_, _≤_, _<_}
@@ -15,19 +15,27 @@ little-next : (bytes : List ℕ) (k j n : ℕ) → suc k ≡ j → k < length by
 unfolding littleEndian
 little-next bytes k j n e h = rw (drop-cons bytes k 0, e)
 
-pub word-by-bytes : (bytes : List ℕ) (k : ℕ)
+pub half-by-bytes : (bytes : List ℕ) (k : ℕ)
+    → k + 4 ≤ length bytes
+    → at bytes k + at bytes (k + 1) * 0x100 + at bytes (k + 2) * 0x1_0000 + at bytes (k + 3) * 0x100_0000 ≡ littleEndian (take 4 (drop k bytes))
+unfolding littleEndian
+half-by-bytes bytes k h =
+    let b0 = little-next bytes k (k + 1) 3 (omega arith) (omega arith) in
+    let b1 = little-next bytes (k + 1) (k + 2) 2 (omega arith) (omega arith) in
+    let b2 = little-next bytes (k + 2) (k + 3) 1 (omega arith) (omega arith) in
+    let b3 = little-next bytes (k + 3) (k + 4) 0 (omega arith) (omega arith) in
+    omega arith
+
+pub word-by-halves : (bytes : List ℕ) (k : ℕ)
     → k + 8 ≤ length bytes
-    → at bytes k + at bytes (k + 1) * 0x100 + at bytes (k + 2) * 0x1_0000 + at bytes (k + 3) * 0x100_0000 + at bytes (k + 4) * 0x1_0000_0000 + at bytes (k + 5) * 0x100_0000_0000 + at bytes (k + 6) * 0x1_0000_0000_0000 + at bytes (k + 7) * 0x100_0000_0000_0000 ≡ wordAt bytes k
-unfolding wordAt littleEndian
-word-by-bytes bytes k h =
+    → littleEndian (take 4 (drop k bytes)) + littleEndian (take 4 (drop (k + 4) bytes)) * 0x1_0000_0000 ≡ wordAt bytes k
+unfolding wordAt
+word-by-halves bytes k h =
+    let low = half-by-bytes bytes k (omega arith) in
     let b0 = little-next bytes k (k + 1) 7 (omega arith) (omega arith) in
     let b1 = little-next bytes (k + 1) (k + 2) 6 (omega arith) (omega arith) in
     let b2 = little-next bytes (k + 2) (k + 3) 5 (omega arith) (omega arith) in
     let b3 = little-next bytes (k + 3) (k + 4) 4 (omega arith) (omega arith) in
-    let b4 = little-next bytes (k + 4) (k + 5) 3 (omega arith) (omega arith) in
-    let b5 = little-next bytes (k + 5) (k + 6) 2 (omega arith) (omega arith) in
-    let b6 = little-next bytes (k + 6) (k + 7) 1 (omega arith) (omega arith) in
-    let b7 = little-next bytes (k + 7) (k + 8) 0 (omega arith) (omega arith) in
     omega arith
 
 -- ---- the words of a list of bytes

@@ -1,8 +1,10 @@
-//! Prints `crates/rules/specs/Cases.antt`: closed cases of the rules, whose answers are what the
-//! original gives, or the second reading for flags and ring words, which the original does not
-//! show.
+//! Prints closed cases of the rules, whose answers are what the original gives, or the second reading
+//! for flags and ring words, which the original does not show: `crates/rules/specs/Cases.antt`, and
+//! with the word `impulse` the cases of the whole impulse stage, `crates/bench_marks/specs/ImpulseCases.antt`,
+//! which take longer to compute.
 //!
-//!     cd oracle && cargo run --release --bin closed_cases > ../crates/rules/specs/Cases.antt && (cd .. && rt fmt)
+//!     cd oracle && cargo run --release --bin closed_cases > ../crates/rules/specs/Cases.antt
+//!     cargo run --release --bin closed_cases impulse > ../crates/bench_marks/specs/ImpulseCases.antt && (cd .. && rt fmt)
 
 use oracle::condition::dc::{revert_dc, DcBlocker};
 use oracle::condition::iq::{revert_iq, ImageMonitor, ImageResult, IqCalibration, IqCorrector};
@@ -128,6 +130,19 @@ fn guard() {
     );
 }
 
+/// An original chain that only mends, after one call, and what it released.
+fn mended(fs: f64, samples: &[Complex32]) -> (InputConditioner, Vec<u64>) {
+    let config = ConditioningConfig {
+        impulse: StageMode::Apply,
+        ..Default::default()
+    };
+    let mut chain = InputConditioner::with_geometry(fs, 0.0, 0, &config, 256, 4096).unwrap();
+    let mut slice = samples.to_vec();
+    let ready = chain.condition(&mut slice);
+    let released = slice[..ready].iter().map(|&x| word(x)).collect();
+    (chain, released)
+}
+
 /// Clicks among ones or noise, at a block length.
 fn stage(name: &str, fs: f64, samples: &[Complex32], spans: usize) {
     let setting = Setting {
@@ -143,14 +158,7 @@ fn stage(name: &str, fs: f64, samples: &[Complex32], spans: usize) {
     };
     let xs: Vec<Sample> = samples.iter().map(|x| Sample::new(x.re, x.im)).collect();
     let ws: Vec<u64> = samples.iter().map(|&x| word(x)).collect();
-    let config = ConditioningConfig {
-        impulse: StageMode::Apply,
-        ..Default::default()
-    };
-    let mut chain = InputConditioner::with_geometry(fs, 0.0, 0, &config, 256, 4096).unwrap();
-    let mut slice = samples.to_vec();
-    let ready = chain.condition(&mut slice);
-    let released: Vec<u64> = slice[..ready].iter().map(|&x| word(x)).collect();
+    let (chain, released) = mended(fs, samples);
     let repairs: Vec<Vec<u64>> = chain
         .log()
         .repairs()
@@ -198,7 +206,7 @@ fn stage(name: &str, fs: f64, samples: &[Complex32], spans: usize) {
     known(
         "handed",
         &words(&released),
-        &format!("upTo (value {given}) {ready}"),
+        &format!("upTo (value {given}) {}", released.len()),
     );
     println!(
         "pub {name}-handed : handedOn {name}Setting {name}Input ≡ {}",
@@ -261,6 +269,31 @@ fn stages() {
         b[k] = Complex32::new(30.0 + k as f32, -7.5);
     }
     stage("noise", 48000.0, &b, 3);
+}
+
+/// Two clicks with one sample between them: it is the second one's left neighbour, as it came in.
+fn beside() {
+    let mut xs: Vec<Complex32> = (0..40)
+        .map(|k| Complex32::new(1.0 + k as f32 / 64.0, 0.5))
+        .collect();
+    xs[12] = Complex32::new(100.0, -20.0);
+    xs[14] = Complex32::new(100.0, -20.0);
+    let ws: Vec<u64> = xs.iter().map(|&x| word(x)).collect();
+    let samples: Vec<Sample> = xs.iter().map(|x| Sample::new(x.re, x.im)).collect();
+    let flags = impulse::flags(&samples);
+    let (_, released) = mended(48000.0, &xs);
+    define("besideInput", "List ℕ", &words(&ws));
+    define("besideFlags", "List Bool", &list(&flags, bool::to_string));
+    case(
+        "beside-handed",
+        &format!(
+            "upTo (value (standard 48000 true) (look besideFlags) besideInput {}) {} ≡ {}",
+            flags.len(),
+            released.len(),
+            words(&released)
+        ),
+        "floats impulseRules",
+    );
 }
 
 /// Powers whose sum depends on its order: sorted, the reference is 1 and (12,0) at its limit.
@@ -484,11 +517,16 @@ fn monitor() {
 }
 
 fn main() {
+    if std::env::args().nth(1).as_deref() == Some("impulse") {
+        println!("{IMPULSE_HEADER}");
+        stages();
+        return;
+    }
     println!("{HEADER}");
     println!("-- ---- guard\n");
     guard();
-    println!("-- ---- impulse: flags, and by the flags what is handed on, repairs, rings of spans and of repairs, long runs\n");
-    stages();
+    println!("-- ---- impulse: what is handed on by known flags, and a flag that depends on the order of a sum\n");
+    beside();
     order();
     println!("-- ---- DC: levels on the way, outputs, undo\n");
     dc();
@@ -498,9 +536,9 @@ fn main() {
     monitor();
 }
 
-const HEADER: &str = "-- Closed cases of the rules, computed. The answers are those of the Rust original, and of the second reading for flags and ring words.
+const HEADER: &str = "-- Closed cases of the rules, computed. The answers are those of the Rust original, and of the second reading for flags.
 -- Made by `cd oracle && cargo run --release --bin closed_cases`. Assumes nothing.
-use mathlib.Core.Path.{_≡_, refl, ap, _∙_}
+use mathlib.Core.Path.{_≡_, refl}
 use mathlib.Core.Bool.{Bool, true, false}
 use mathlib.Core.List.{List, [], _∷_, map}
 use Prim.Native.Nat.{ℕ}
@@ -508,11 +546,24 @@ use lib.ListN.{take}
 use lib.Ieee.{binary64, ofBits}
 use Rattle.rules.specs.Lists.{upTo}
 use Rattle.rules.specs.Guard.{usable, guarded, unusable}
-use Rattle.rules.specs.Impulse.{Setting, standard, Event, flagged, value, events, happened, handedOn}
+use Rattle.rules.specs.Impulse.{standard, flagged, value}
 use Rattle.rules.specs.Dc.{corner, firstLevel, levelAfter, blockedAll, restoredAll}
 use Rattle.rules.specs.Iq.{Calibration, coefficient, corrected, uncorrected}
-use Rattle.rules.specs.Log.{marked, repaired, isRepaired, isFlagged, isUncertain, marksOf, repairsOf, longRuns}
 use Rattle.rules.specs.Monitor.{Hop, noReport, report, windowLength, answers, openWindow, monitorWords}
+use Rattle.rules.specs.ByFlags.{look}
+use Rattle.rules.specs.Computing.{floats, guardRules, impulseRules, dcRules, iqRules, monitorRules}
+";
+
+const IMPULSE_HEADER: &str = "-- Closed cases of the impulse stage's rules, computed: flags, and by the flags what is handed on, repairs, rings of spans and of repairs,
+-- long runs. The answers are those of the Rust original, and of the second reading for flags and ring words.
+-- Made by `cd oracle && cargo run --release --bin closed_cases impulse`. Assumes nothing.
+use mathlib.Core.Path.{_≡_, refl, ap, _∙_}
+use mathlib.Core.Bool.{Bool, true, false}
+use mathlib.Core.List.{List, [], _∷_}
+use Prim.Native.Nat.{ℕ}
+use Rattle.rules.specs.Lists.{upTo}
+use Rattle.rules.specs.Impulse.{Setting, standard, Event, value, events, happened, handedOn}
+use Rattle.rules.specs.Log.{marked, repaired, isRepaired, isFlagged, isUncertain, marksOf, repairsOf, longRuns}
 use Rattle.rules.specs.ByFlags.{from, flagsOf, look, happened-by, handed-by}
-use Rattle.rules.specs.Computing.{floats, guardRules, impulseRules, dcRules, iqRules, logRules, monitorRules}
+use Rattle.rules.specs.Computing.{floats, impulseRules, logRules}
 ";
