@@ -5,27 +5,17 @@ ghost use mathlib.Core.Path.{_≡_};
 ghost use mathlib.Core.Bool.{not};
 ghost use Prim.Native.Nat.{_<_};
 ghost use lib.ListN.{length, set};
-ghost use Rattle.rules.specs.Constants.{usableLimit};
 ghost use Rattle.rules.specs.Guard.{usable, firstUnusableFrom, guarded, unusable};
 ghost use Rattle.rules.specs.Lists.{at, indicator};
 ghost use Rattle.sample_guard.specs.Found.{found, guardedWord};
 
-// The largest size of a usable part, and its bit pattern.
-pub const MAX_SAMPLE_MAGNITUDE: f32 = 1.0e17;
-
+// The bit pattern of the largest size of a usable part, 1.0e17.
 const MAX_PATTERN: u64 = 0x5bb1_a2bc;
 
 // Where a sample stands, if there is one.
 pub enum Found {
     At(usize),
     Nothing,
-}
-
-// The limit is document 01's.
-pub fn max_sample_magnitude() -> f32
-    ensures { λ r. ⌜ r ≡ usableLimit ⌝ }
-{
-    MAX_SAMPLE_MAGNITUDE
 }
 
 // Whether both parts of a sample are usable: their patterns without the sign, up to the limit's. Those of
