@@ -7,37 +7,16 @@
 // hexadecimal. `state_words` has the places of a state; 170 to 217 is the span store, 218 to 249 the monitor's.
 
 use crate::bench::Bench;
-use crate::bench::asked;
-use crate::bench::settled;
-use crate::call::call;
-use crate::chain::fresh;
-use crate::hop::hop;
+use crate::bench::Tried;
+use crate::bench::say;
+use crate::operations::asked;
+use crate::operations::call;
+use crate::operations::fresh;
+use crate::operations::hop;
 use iq::StageMode;
 use libc::STDIN_FILENO;
 use libc::STDOUT_FILENO;
 use state_words::ACCEPTED;
-use state_words::NOTHING;
-use state_words::REPORTED;
-
-// How far a line is read: its part, the last place, the digits since, and the chain that it gives.
-struct Reading {
-    part: u64,
-    place: usize,
-    number: u64,
-    bench: Bench,
-}
-
-// The parts of a line.
-const LETTER: u64 = 0;
-
-const CAUSE: u64 = 1;
-
-const PLACE: u64 = 2;
-
-const BITS: u64 = 3;
-
-// A place where no word stands.
-const NOWHERE: usize = 250;
 
 // The sample (1, 0).
 const ONE: u64 = 0x3f80_0000;
@@ -63,10 +42,8 @@ fn samples() -> [u64; 64] {
 
 // A chain of this impulse mode, after so many samples and a hop.
 fn after(impulse: StageMode, count: usize) -> Bench {
-    let made = fresh(impulse, 1000.0);
-    let called = call(made, samples(), count, asked(2, 2, 8));
-    let fed = called.bench;
-    let hopped = hop(fed, [ONE; 64], 8, 0, asked(2, 2, 8));
+    let called = call(fresh(impulse, 1000.0), samples(), count, asked());
+    let hopped = hop(called.bench, [ONE; 64], 8, 0, asked());
     hopped.bench
 }
 
@@ -80,22 +57,10 @@ fn chain(letter: u8) -> Bench {
     }
 }
 
-// The chain with another word: of the state, of the span store behind it or of the monitor's words.
-fn with(b: Bench, place: usize, word: u64) -> Bench {
-    let mut out = b;
-    match place {
-        0..=169 => out.state[place] = word,
-        170..=217 => out.spans[place - 170] = word,
-        218..=249 => out.monitor[place - 218] = ieee::from_bits64(word),
-        _ => {}
-    }
-    out
-}
-
 // ---- a call and a hop on a chain
 
-fn say_changed(good: bool) {
-    if !good {
+fn say_changed(t: Tried) {
+    if !t.good {
         io::write_all(STDOUT_FILENO, b" changed");
     }
 }
@@ -106,51 +71,89 @@ fn say_call(number: u64, ready: u64) {
         io::print_decimal(STDOUT_FILENO, ready);
         return;
     }
-    io::print_decimal(STDOUT_FILENO, number);
+    say(number);
 }
 
 fn say_hop(number: u64) {
-    match number {
-        ACCEPTED => {
-            io::write_all(STDOUT_FILENO, b"no report");
-        }
-        REPORTED => {
-            io::write_all(STDOUT_FILENO, b"report");
-        }
-        NOTHING => {
-            io::write_all(STDOUT_FILENO, b"nothing");
-        }
-        _ => {
-            io::print_decimal(STDOUT_FILENO, number);
-        }
+    if number == ACCEPTED {
+        io::write_all(STDOUT_FILENO, b"no report");
+        return;
     }
+    say(number);
 }
 
 // With 24 samples (1, 0).
 fn show_call(b: Bench) {
-    let t = call(b, [ONE; 64], 24, asked(2, 2, 8));
+    let t = call(b, [ONE; 64], 24, asked());
     io::write_all(STDOUT_FILENO, b": call ");
     say_call(t.number, t.value);
-    say_changed(t.good);
+    say_changed(t);
 }
 
 // With 8 channels (1, 0).
 fn show_hop(b: Bench) {
-    let t = hop(b, [ONE; 64], 8, 100, asked(2, 2, 8));
+    let t = hop(b, [ONE; 64], 8, 100, asked());
     io::write_all(STDOUT_FILENO, b", hop ");
     say_hop(t.number);
-    say_changed(t.good);
+    say_changed(t);
 }
 
 // How a call and a hop on this chain are answered, and the line's end.
 fn show_chain(b: Bench) {
-    let given = settled(b);
+    let mut state = b.state;
+    state_words::settle(&mut state);
+    let mut given = b;
+    given.state = state;
     show_call(given);
     show_hop(given);
     io::write_all(STDOUT_FILENO, b"\n");
 }
 
 // ---- a line
+
+// How far a line is read: its part, the place of a word, the digits since as a decimal and as a hexadecimal
+// number, and the chain that it gives.
+struct Reading {
+    part: u64,
+    place: u64,
+    decimal: u64,
+    hexadecimal: u64,
+    bench: Bench,
+}
+
+// The parts of a line; behind them are its words.
+const LETTER: u64 = 0;
+
+const CAUSE: u64 = 1;
+
+// A place where no word stands.
+const NOWHERE: u64 = 250;
+
+// The part of a line, and no word yet.
+fn in_part(part: u64, bench: Bench) -> Reading {
+    Reading {
+        part,
+        place: NOWHERE,
+        decimal: 0,
+        hexadecimal: 0,
+        bench,
+    }
+}
+
+// The chain with the word that was read, of the state, of the span store or of the monitor's; as it is if there
+// was none.
+fn given(r: Reading) -> Bench {
+    let place = r.place as usize;
+    let word = r.hexadecimal;
+    let mut out = r.bench;
+    match place {
+        0..=169 => out.state[place] = word,
+        170..=217 => out.spans[place - 170] = word,
+        218..=249 => out.monitor[place - 218] = ieee::from_bits64(word),
+        _ => {}
+    }
+    out
+}
 
 fn digit(c: u8) -> u64 {
     if c < b'a' {
@@ -159,92 +162,59 @@ fn digit(c: u8) -> u64 {
     (c % 16) as u64 + 9
 }
 
-// A part begins: there is no place and no digit yet.
-fn with_part(r: Reading, part: u64) -> Reading {
+fn with_digit(r: Reading, d: u64) -> Reading {
     let mut out = r;
-    out.part = part;
-    out.place = NOWHERE;
-    out.number = 0;
+    out.decimal = r.decimal % 100 * 10 + d % 16;
+    out.hexadecimal = r.hexadecimal % 0x1000_0000_0000_0000 * 16 + d % 16;
     out
 }
 
-fn read_letter(r: Reading, c: u8) -> Reading {
-    if c == b'|' {
-        return with_part(r, CAUSE);
-    }
+fn with_place(r: Reading) -> Reading {
     let mut out = r;
-    let bench = chain(c);
-    out.bench = bench;
-    out
-}
-
-fn read_cause(r: Reading, c: u8) -> Reading {
-    if c == b'|' {
-        return with_part(r, PLACE);
-    }
-    let text = [c];
-    io::write_all(STDOUT_FILENO, &text);
-    r
-}
-
-fn read_place(r: Reading, c: u8) -> Reading {
-    if c == b'=' {
-        let mut out = with_part(r, BITS);
-        out.place = r.number as usize;
-        return out;
-    }
-    let mut out = r;
-    out.number = r.number % 100 * 10 + digit(c) % 16;
-    out
-}
-
-// The chain with the word that was read, if there was one.
-fn given(r: Reading) -> Reading {
-    let mut out = r;
-    let before = r.bench;
-    let bench = with(before, r.place, r.number);
-    out.bench = bench;
-    out
-}
-
-fn read_bits(r: Reading, c: u8) -> Reading {
-    if c == b' ' {
-        return with_part(given(r), PLACE);
-    }
-    let mut out = r;
-    out.number = r.number % 0x1000_0000_0000_0000 * 16 + digit(c) % 16;
+    out.place = r.decimal;
+    out.hexadecimal = 0;
     out
 }
 
 fn end_line(r: Reading) -> Reading {
-    let out = given(r);
-    let bench = out.bench;
+    let bench = given(r);
     show_chain(bench);
-    with_part(out, LETTER)
+    in_part(LETTER, bench)
+}
+
+fn read_word(r: Reading, c: u8) -> Reading {
+    match c {
+        b'=' => with_place(r),
+        b' ' => in_part(r.part, given(r)),
+        b'\n' => end_line(r),
+        _ => with_digit(r, digit(c)),
+    }
+}
+
+fn say_byte(c: u8) {
+    let text = [c];
+    io::write_all(STDOUT_FILENO, &text);
 }
 
 fn read(r: Reading, c: u8) -> Reading {
-    if c == b'\n' {
-        return end_line(r);
-    }
     let part = r.part;
+    if c == b'|' {
+        return in_part(part % 2 + 1, r.bench);
+    }
     match part {
-        LETTER => read_letter(r, c),
-        CAUSE => read_cause(r, c),
-        PLACE => read_place(r, c),
-        _ => read_bits(r, c),
+        LETTER => in_part(LETTER, chain(c)),
+        CAUSE => {
+            say_byte(c);
+            r
+        }
+        _ => read_word(r, c),
     }
 }
 
 // ---- all lines
 
 fn read_all(text: &[u8]) {
-    let mut r = Reading {
-        part: LETTER,
-        place: NOWHERE,
-        number: 0,
-        bench: chain(b'a'),
-    };
+    let mut r = in_part(LETTER, chain(b'a'));
     let mut k: usize = 0;
     while k < text.len() {
         r = read(r, text[k]);

@@ -1,7 +1,10 @@
 // Random words: each turn has a seed, and number k of a turn's words is drawn from it. The same seed gives
 // the same words.
 
-use state_words::Lent;
+use config::ConditioningConfig;
+use iq::Calibration;
+use iq::IqCalibration;
+use state_words::mode;
 
 // Xorshift: the seed of the next turn.
 pub fn shifted(x: u64) -> u64 {
@@ -14,14 +17,6 @@ pub fn shifted(x: u64) -> u64 {
 pub fn drawn(seed: u64, k: u64) -> u64 {
     let mixed = std::num::wrapping_add_u64(seed, k % 65536 * 0x9e37_79b9_7f4b);
     shifted(shifted(shifted(mixed)))
-}
-
-// One of so many numbers, from 0 on.
-pub fn below(seed: u64, k: u64, n: u64) -> u64 {
-    if n == 0 {
-        return 0;
-    }
-    drawn(seed, k) % n
 }
 
 // Limits of document 01 and special floats, as numbers and as the bits of f64 and f32.
@@ -78,24 +73,27 @@ pub fn odd_word(seed: u64, k: u64) -> u64 {
     }
 }
 
-pub fn odd_size(seed: u64, k: u64) -> usize {
-    odd_word(seed, k) as usize
-}
-
-pub fn odd_float(seed: u64, k: u64) -> f64 {
-    ieee::from_bits64(odd_word(seed, k))
-}
-
-// A usable sample: (1 + a fraction, 0), and now and then (100, 0).
-pub fn sample(seed: u64, k: u64) -> u64 {
-    let w = drawn(seed, k);
-    if w % 16 == 0 {
-        return 0x42c8_0000;
+// The usual word, but one in eight times an odd one.
+pub fn any_word(seed: u64, k: u64, usual: u64) -> u64 {
+    if drawn(seed, k) % 8 == 0 {
+        return odd_word(seed, k);
     }
-    0x3f80_0000 + w / 16 % 0x80_0000
+    usual
 }
 
-// 64 usable samples.
+// ---- samples
+
+// A usable sample, (1 + a fraction, 0); now and then (100, 0), and less often an odd word.
+fn sample(seed: u64, k: u64) -> u64 {
+    let w = drawn(seed, k);
+    let f = w % 128;
+    match f {
+        0 => odd_word(seed, k),
+        1..=8 => 0x42c8_0000,
+        _ => 0x3f80_0000 + w / 128 % 0x80_0000,
+    }
+}
+
 pub fn samples(seed: u64) -> [u64; 64] {
     let mut out = [0u64; 64];
     for k in 0..64 {
@@ -104,21 +102,41 @@ pub fn samples(seed: u64) -> [u64; 64] {
     out
 }
 
-// The length, mostly, or one more, one less or 0.
-fn off_by(length: usize, w: u64) -> usize {
+// ---- a configuration
+
+fn any_float(seed: u64, k: u64, usual: f64) -> f64 {
+    ieee::from_bits64(any_word(seed, k, ieee::to_bits64(usual)))
+}
+
+fn usual_rate(w: u64) -> f64 {
     match w {
-        0 => std::num::wrapping_add_usize(length, 1),
-        1 => std::num::wrapping_sub_usize(length, (length != 0) as usize),
-        2 => 0,
-        _ => length,
+        0 => 8.5,
+        1 => 1000.0,
+        _ => 1.0,
     }
 }
 
-// What is lent, and now and then something else.
-pub fn odd_lengths(lent: Lent, seed: u64) -> Lent {
-    Lent {
-        spans: off_by(lent.spans, below(seed, 100, 30)),
-        repairs: off_by(lent.repairs, below(seed, 101, 30)),
-        monitor: off_by(lent.monitor, below(seed, 102, 30)),
+fn any_calibration(seed: u64) -> Calibration {
+    if drawn(seed, 126) % 4 == 0 {
+        return Calibration::Absent;
+    }
+    Calibration::Present(IqCalibration {
+        gain: any_float(seed, 127, 1.25),
+        phase: any_float(seed, 128, 3.0),
+        centre: 100.0,
+    })
+}
+
+pub fn configuration(seed: u64) -> ConditioningConfig {
+    ConditioningConfig {
+        impulse: mode(drawn(seed, 129) % 3),
+        dc: mode(drawn(seed, 130) % 3),
+        iq: mode(drawn(seed, 131) % 3),
+        fs: any_float(seed, 120, usual_rate(drawn(seed, 121) % 4)),
+        centre: 100.0,
+        n: any_word(seed, 122, 8) as usize,
+        calibration: any_calibration(seed),
+        spans: any_word(seed, 123, 2) as usize,
+        repairs: any_word(seed, 124, 2) as usize,
     }
 }

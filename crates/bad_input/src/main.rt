@@ -2,14 +2,11 @@
 // makings, calls and hops.
 
 mod bench;
-mod call;
 mod causes;
-mod chain;
 mod draw;
-mod hop;
+mod operations;
 mod random;
 mod spoil;
-mod usable;
 
 fn main() {
     causes::show();

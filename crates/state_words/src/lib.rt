@@ -186,10 +186,34 @@ pub fn coefficient(iq: Iq) -> Complex64 {
     }
 }
 
-fn settings_words(s: Settings) -> [u64; 7] {
+// Word k, 0 behind the end.
+pub fn word(words: &[u64], k: usize) -> u64 {
+    if k < words.len() {
+        return words[k];
+    }
+    0
+}
+
+// Another word k, if there is one.
+fn set(words: &mut [u64; WORDS], k: usize, w: u64) {
+    if k < WORDS {
+        words[k] = w;
+    }
+}
+
+// Words from a place on.
+fn put(part: &[u64], words: &mut [u64; WORDS], at: usize) {
+    let mut k: usize = 0;
+    while k < part.len() {
+        set(words, std::num::wrapping_add_usize(at, k), part[k]);
+        k += 1;
+    }
+}
+
+fn write_settings(s: Settings, words: &mut [u64; WORDS]) {
     let dc = s.dc;
     let iq = s.iq;
-    [
+    let list = [
         ieee::to_bits64(s.fs),
         s.n as u64,
         s.spans as u64,
@@ -197,7 +221,11 @@ fn settings_words(s: Settings) -> [u64; 7] {
         s.impulse as u64,
         mode_word(dc),
         iq_word(iq),
-    ]
+    ];
+    put(&list, words, RATE);
+    let rho = coefficient(iq);
+    let bits = [ieee::to_bits64(rho.re), ieee::to_bits64(rho.im)];
+    put(&bits, words, COEFFICIENT);
 }
 
 fn is_running(run: Open) -> bool {
@@ -252,6 +280,21 @@ fn gate_words(g: Gate) -> [u64; 12] {
     ]
 }
 
+fn write_powers(powers: [f32; 33], words: &mut [u64; WORDS], at: usize)
+    requires { ⌜ at ≤ 137 ⌝ }
+{
+    for k in 0..33 {
+        set(words, at + k, ieee::to_bits32(powers[k]) as u64);
+    }
+}
+
+fn write_suppressor(m: ImpulseSuppressor, words: &mut [u64; WORDS]) {
+    put(&gate_words(m.gate), words, APPLY);
+    write_powers(m.window, words, WINDOW);
+    write_powers(m.sorted, words, SORTED);
+    put(&m.pending, words, PENDING);
+}
+
 fn has_begun(first: Begun) -> bool {
     match first {
         Begun::At(_) => true,
@@ -267,10 +310,10 @@ fn beginning(first: Begun) -> u64 {
 }
 
 // The DC blocker and the image monitor.
-fn level_words(b: DcBlocker, m: ImageMonitor) -> [u64; 7] {
+fn write_levels(b: DcBlocker, m: ImageMonitor, words: &mut [u64; WORDS]) {
     let level = b.dc;
     let first = m.first;
-    [
+    let list = [
         ieee::to_bits64(b.a),
         b.n,
         ieee::to_bits64(level.re),
@@ -278,92 +321,40 @@ fn level_words(b: DcBlocker, m: ImageMonitor) -> [u64; 7] {
         has_begun(first) as u64,
         beginning(first),
         m.end,
-    ]
+    ];
+    put(&list, words, FACTOR);
 }
 
-// Words from a place on, as far as the state's reach.
-fn put(part: &[u64], words: &mut [u64; WORDS], at: usize) {
-    let mut k: usize = 0;
-    let mut place = at;
-    while k < part.len() {
-        if place < WORDS {
-            words[place] = part[k];
-            place += 1;
-        }
-        k += 1;
-    }
+fn write_counts(state: InputConditioner, words: &mut [u64; WORDS]) {
+    let list = [
+        state.seen,
+        state.released,
+        state.held as u64,
+        state.longruns,
+    ];
+    put(&list, words, SEEN);
 }
 
-fn write_powers(powers: &[f32; 33], words: &mut [u64; WORDS], at: usize)
-    requires { ⌜ at ≤ 137 ⌝ }
-{
-    for k in 0..33 {
-        words[at + k] = ieee::to_bits32(powers[k]) as u64;
-    }
-}
-
-fn write_pending(pending: &[u64; 21], words: &mut [u64; WORDS]) {
-    for k in 0..21 {
-        words[PENDING + k] = pending[k];
-    }
-}
-
-fn write_ring(ring: Ring, words: &mut [u64; WORDS], at: usize)
-    requires { ⌜ at ≤ 167 ⌝ }
-{
-    words[at] = ring.head as u64;
-    words[at + 1] = ring.len as u64;
-    words[at + 2] = ring.dropped;
+fn write_ring(ring: Ring, words: &mut [u64; WORDS], at: usize) {
+    let list = [ring.head as u64, ring.len as u64, ring.dropped];
+    put(&list, words, at);
 }
 
 fn write_log(log: Log, words: &mut [u64; WORDS]) {
     for k in 0..12 {
         let ring = log.rings[k];
         write_ring(ring, words, RINGS + k * 3);
-        words[COUNTS + k] = log.counts[k];
+        set(words, COUNTS + k, log.counts[k]);
     }
 }
 
-// The settings, but for the coefficient, and the stages.
-fn write_stages(
-    settings: Settings,
-    m: ImpulseSuppressor,
-    levels: [u64; 7],
-    words: &mut [u64; WORDS],
-) {
-    let gate = m.gate;
-    let window = m.window;
-    let sorted = m.sorted;
-    let pending = m.pending;
-    put(&settings_words(settings), words, RATE);
-    put(&gate_words(gate), words, APPLY);
-    put(&levels, words, FACTOR);
-    write_powers(&window, words, WINDOW);
-    write_powers(&sorted, words, SORTED);
-    write_pending(&pending, words);
-}
-
 pub fn write_state(state: InputConditioner, words: &mut [u64; WORDS]) {
-    let settings = state.settings;
-    let suppressor = state.suppressor;
-    let blocker = state.blocker;
-    let monitor = state.monitor;
-    let log = state.log;
-    let repairs = state.repairs;
-    let iq = settings.iq;
-    let rho = coefficient(iq);
-    let counts = [
-        ieee::to_bits64(rho.re),
-        ieee::to_bits64(rho.im),
-        state.seen,
-        state.released,
-        state.held as u64,
-        state.longruns,
-    ];
-    write_stages(settings, suppressor, level_words(blocker, monitor), words);
-    put(&counts, words, COEFFICIENT);
-    write_log(log, words);
-    write_ring(repairs, words, REPAIR_RING);
+    write_settings(state.settings, words);
+    write_suppressor(state.suppressor, words);
+    write_levels(state.blocker, state.monitor, words);
+    write_counts(state, words);
+    write_log(state.log, words);
+    write_ring(state.repairs, words, REPAIR_RING);
 }
 
 // ---- reading
@@ -376,86 +367,89 @@ pub fn mode(w: u64) -> StageMode {
     }
 }
 
-fn complex(re: u64, im: u64) -> Complex64 {
-    Complex64 {
-        re: ieee::from_bits64(re),
-        im: ieee::from_bits64(im),
-    }
+// The float of word k.
+pub fn float(words: &[u64], k: usize) -> f64 {
+    ieee::from_bits64(word(words, k))
 }
 
-fn iq_of(w: u64, rho: Complex64) -> Iq {
+fn read_iq(words: &[u64]) -> Iq {
+    let w = word(words, IQ);
     match w {
         0 => Iq::Off,
         1 => Iq::Observing,
-        2 => Iq::Correcting(rho),
+        2 => Iq::Correcting(Complex64 {
+            re: float(words, COEFFICIENT),
+            im: float(words, COEFFICIENT + 1),
+        }),
         _ => Iq::Withheld,
     }
 }
 
-fn read_settings(words: &[u64; WORDS]) -> Settings {
-    let rho = complex(words[COEFFICIENT], words[COEFFICIENT + 1]);
+fn read_settings(words: &[u64]) -> Settings {
     Settings {
-        fs: ieee::from_bits64(words[RATE]),
-        n: words[CHANNELS] as usize,
-        spans: words[SPANS] as usize,
-        repairs: words[REPAIRS] as usize,
-        impulse: words[IMPULSE] != 0,
-        dc: mode(words[DC]),
-        iq: iq_of(words[IQ], rho),
+        fs: float(words, RATE),
+        n: word(words, CHANNELS) as usize,
+        spans: word(words, SPANS) as usize,
+        repairs: word(words, REPAIRS) as usize,
+        impulse: word(words, IMPULSE) != 0,
+        dc: mode(word(words, DC)),
+        iq: read_iq(words),
     }
 }
 
-fn open(there: u64, start: u64, len: u64, paused: bool) -> Open {
-    match there {
-        0 => Open::Closed,
-        _ => Open::Running(Run { start, len, paused }),
+fn read_run(words: &[u64]) -> Open {
+    if word(words, RUN) == 0 {
+        return Open::Closed;
     }
+    Open::Running(Run {
+        start: word(words, RUN + 1),
+        len: word(words, RUN + 2),
+        paused: word(words, RUN + 3) != 0,
+    })
 }
 
-fn left_of(there: u64, word: u64) -> Left {
-    match there {
-        0 => Left::Missing,
-        _ => Left::Neighbour(word),
+fn read_left(words: &[u64]) -> Left {
+    if word(words, LEFT) == 0 {
+        return Left::Missing;
     }
+    Left::Neighbour(word(words, LEFT + 1))
 }
 
-fn read_gate(words: &[u64; WORDS]) -> Gate {
+fn read_gate(words: &[u64]) -> Gate {
     Gate {
-        apply: words[APPLY] != 0,
-        blocklen: words[BLOCK_LENGTH],
-        received: words[RECEIVED],
-        run: open(
-            words[RUN],
-            words[RUN + 1],
-            words[RUN + 2],
-            words[RUN + 3] != 0,
-        ),
-        left: left_of(words[LEFT], words[LEFT + 1]),
-        block: words[BLOCK],
-        flagged: words[FLAGGED],
-        paused: words[PAUSED] != 0,
+        apply: word(words, APPLY) != 0,
+        blocklen: word(words, BLOCK_LENGTH),
+        received: word(words, RECEIVED),
+        run: read_run(words),
+        left: read_left(words),
+        block: word(words, BLOCK),
+        flagged: word(words, FLAGGED),
+        paused: word(words, PAUSED) != 0,
     }
 }
 
-fn read_blocker(words: &[u64; WORDS]) -> DcBlocker {
+fn read_blocker(words: &[u64]) -> DcBlocker {
     DcBlocker {
-        a: ieee::from_bits64(words[FACTOR]),
-        n: words[UPDATES],
-        dc: complex(words[LEVEL], words[LEVEL + 1]),
+        a: float(words, FACTOR),
+        n: word(words, UPDATES),
+        dc: Complex64 {
+            re: float(words, LEVEL),
+            im: float(words, LEVEL + 1),
+        },
     }
 }
 
-fn begun(there: u64, start: u64) -> Begun {
-    match there {
-        0 => Begun::Never,
-        _ => Begun::At(start),
+fn read_monitor(words: &[u64]) -> ImageMonitor {
+    let end = word(words, END);
+    if word(words, BEGUN) == 0 {
+        return ImageMonitor {
+            first: Begun::Never,
+            end,
+        };
     }
-}
-
-fn read_monitor(words: &[u64; WORDS]) -> ImageMonitor {
     ImageMonitor {
-        first: begun(words[BEGUN], words[BEGUN + 1]),
-        end: words[END],
+        first: Begun::At(word(words, BEGUN + 1)),
+        end,
     }
 }
 
@@ -464,25 +458,25 @@ fn power(w: u64) -> f32 {
     ieee::from_bits32((w % 0x1_0000_0000) as u32)
 }
 
-fn read_powers(words: &[u64; WORDS], at: usize) -> [f32; 33]
+fn read_powers(words: &[u64], at: usize) -> [f32; 33]
     requires { ⌜ at ≤ 137 ⌝ }
 {
     let mut powers = [0.0f32; 33];
     for k in 0..33 {
-        powers[k] = power(words[at + k]);
+        powers[k] = power(word(words, at + k));
     }
     powers
 }
 
-fn read_pending(words: &[u64; WORDS]) -> [u64; 21] {
+fn read_pending(words: &[u64]) -> [u64; 21] {
     let mut pending = [0u64; 21];
     for k in 0..21 {
-        pending[k] = words[PENDING + k];
+        pending[k] = word(words, PENDING + k);
     }
     pending
 }
 
-fn read_suppressor(words: &[u64; WORDS]) -> ImpulseSuppressor {
+fn read_suppressor(words: &[u64]) -> ImpulseSuppressor {
     ImpulseSuppressor {
         gate: read_gate(words),
         window: read_powers(words, WINDOW),
@@ -491,38 +485,38 @@ fn read_suppressor(words: &[u64; WORDS]) -> ImpulseSuppressor {
     }
 }
 
-fn read_ring(words: &[u64; WORDS], at: usize) -> Ring
+fn read_ring(words: &[u64], at: usize) -> Ring
     requires { ⌜ at ≤ 167 ⌝ }
 {
     Ring {
-        head: words[at] as usize,
-        len: words[at + 1] as usize,
-        dropped: words[at + 2],
+        head: word(words, at) as usize,
+        len: word(words, at + 1) as usize,
+        dropped: word(words, at + 2),
     }
 }
 
-fn read_log(words: &[u64; WORDS]) -> Log {
+fn read_log(words: &[u64]) -> Log {
     let mut log = Log::fresh();
     for k in 0..12 {
         let ring = read_ring(words, RINGS + k * 3);
         log.rings[k] = ring;
-        log.counts[k] = words[COUNTS + k];
+        log.counts[k] = word(words, COUNTS + k);
     }
     log
 }
 
-pub fn read_state(words: &[u64; WORDS]) -> InputConditioner {
+pub fn read_state(words: &[u64]) -> InputConditioner {
     InputConditioner {
         settings: read_settings(words),
-        seen: words[SEEN],
-        released: words[RELEASED],
-        held: words[HELD] as usize,
+        seen: word(words, SEEN),
+        released: word(words, RELEASED),
+        held: word(words, HELD) as usize,
         suppressor: read_suppressor(words),
         blocker: read_blocker(words),
         monitor: read_monitor(words),
         log: read_log(words),
         repairs: read_ring(words, REPAIR_RING),
-        longruns: words[LONG_RUNS],
+        longruns: word(words, LONG_RUNS),
     }
 }
 
@@ -585,11 +579,10 @@ pub fn make(
         &mut repairs[..r],
         &mut monitor[..m],
     );
-    let state = made.state;
     let answer = made.answer;
     let number = making_number(answer);
     if number == ACCEPTED {
-        write_state(state, words);
+        write_state(made.state, words);
     }
     number
 }
@@ -612,9 +605,8 @@ pub fn call(
         &mut spans[..s],
         &mut repairs[..r],
     );
-    let state = called.state;
+    write_state(called.state, words);
     let answer = called.answer;
-    write_state(state, words);
     told_call(answer)
 }
 
@@ -638,8 +630,6 @@ pub fn hop(
         &mut spans[..s],
         &mut monitor[..m],
     );
-    let state = called.state;
-    let answer = called.answer;
-    write_state(state, words);
-    answer
+    write_state(called.state, words);
+    called.answer
 }

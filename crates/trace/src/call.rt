@@ -5,10 +5,8 @@ use crate::REPAIR_WORDS;
 use crate::SLICE_WORDS;
 use crate::SPAN_WORDS;
 use crate::chain::lent;
-use crate::words::Front;
-use crate::words::show_words;
+use crate::words::show_first;
 use crate::words::shown;
-use crate::words::word;
 use crate::words::write_front;
 use state_words::HELD;
 use state_words::RECEIVED;
@@ -19,6 +17,7 @@ use state_words::Told;
 use state_words::WORDS;
 use state_words::at_most;
 use state_words::part;
+use state_words::word;
 
 // How many places stand in front: as many as are held, where the word is all ones.
 fn places(w: u64, held: usize) -> usize {
@@ -63,20 +62,24 @@ fn hand(state: &mut [u64; WORDS], seen: u64) {
     state[RELEASED] = std::num::wrapping_sub_u64(seen, state[HELD]);
 }
 
-// The answer, how much was seen, released and held, and the slice.
+// The answer, how much was seen, released and held, and how long the slice is.
+fn front(told: Told, state: &[u64; WORDS], n: usize, how: u64) -> [u64; 8] {
+    [
+        3,
+        told.number,
+        told.value,
+        state[SEEN],
+        state[RELEASED],
+        state[HELD],
+        n as u64,
+        shown(n, how),
+    ]
+}
+
 fn write_call(told: Told, state: &[u64; WORDS], slice: &[u64], length: usize, how: u64) {
     let n = part(slice, length);
-    write_front(Front {
-        op: 3,
-        number: told.number,
-        value: told.value,
-        p: state[SEEN],
-        q: state[RELEASED],
-        r: state[HELD],
-        s: n as u64,
-        m: shown(n, how),
-    });
-    show_words(&slice[..n], how);
+    write_front(front(told, state, n, how));
+    show_first(slice, n, how);
 }
 
 // The state before stays where another one was handed over.
@@ -92,8 +95,14 @@ pub fn call(
     hand(&mut handed, head.d);
     let front = places(head.c, handed[HELD] as usize);
     let length = lay_out(&mut slice, front, input);
-    let lent = lent(head.a, head.b, 0);
-    let told = state_words::call(&mut handed, &mut slice, length, spans, repairs, lent);
+    let told = state_words::call(
+        &mut handed,
+        &mut slice,
+        length,
+        spans,
+        repairs,
+        lent(head.a, head.b, 0),
+    );
     write_call(told, &handed, &slice, length, head.how);
     if head.d == 0 {
         *state = handed;

@@ -4,9 +4,7 @@ use crate::Head;
 use crate::MONITOR_WORDS;
 use crate::REPAIR_WORDS;
 use crate::SPAN_WORDS;
-use crate::words::Front;
 use crate::words::answer_plain;
-use crate::words::word;
 use crate::words::write_front;
 use crate::words::write_words;
 use config::ConditioningConfig;
@@ -15,21 +13,23 @@ use iq::IqCalibration;
 use iq::StageMode;
 use state_words::Lent;
 use state_words::WORDS;
+use state_words::float;
 use state_words::mode;
 use state_words::mode_word;
 use state_words::plain;
+use state_words::word;
 
 // ---- a configuration of twelve words
 
-fn calibration(present: u64, gain: u64, phase: u64, centre: u64) -> Calibration {
-    match present {
-        0 => Calibration::Absent,
-        _ => Calibration::Present(IqCalibration {
-            gain: ieee::from_bits64(gain),
-            phase: ieee::from_bits64(phase),
-            centre: ieee::from_bits64(centre),
-        }),
+fn calibration(w: &[u64]) -> Calibration {
+    if word(w, 6) == 0 {
+        return Calibration::Absent;
     }
+    Calibration::Present(IqCalibration {
+        gain: float(w, 7),
+        phase: float(w, 8),
+        centre: float(w, 9),
+    })
 }
 
 fn configuration(w: &[u64]) -> ConditioningConfig {
@@ -37,10 +37,10 @@ fn configuration(w: &[u64]) -> ConditioningConfig {
         impulse: mode(word(w, 0)),
         dc: mode(word(w, 1)),
         iq: mode(word(w, 2)),
-        fs: ieee::from_bits64(word(w, 3)),
-        centre: ieee::from_bits64(word(w, 4)),
+        fs: float(w, 3),
+        centre: float(w, 4),
         n: word(w, 5) as usize,
-        calibration: calibration(word(w, 6), word(w, 7), word(w, 8), word(w, 9)),
+        calibration: calibration(w),
         spans: word(w, 10) as usize,
         repairs: word(w, 11) as usize,
     }
@@ -81,16 +81,7 @@ fn write_configuration(c: ConditioningConfig) {
 // Whether all is off, and `observing`.
 pub fn config(input: &[u64]) {
     let c = configuration(input);
-    write_front(Front {
-        op: 2,
-        number: c.is_off() as u64,
-        value: 0,
-        p: 0,
-        q: 0,
-        r: 0,
-        s: 0,
-        m: 12,
-    });
+    write_front([2, c.is_off() as u64, 0, 0, 0, 0, 0, 12]);
     write_configuration(c.observing());
 }
 
@@ -114,9 +105,14 @@ pub fn make(
     repairs: &mut [u64; REPAIR_WORDS],
     monitor: &mut [f64; MONITOR_WORDS],
 ) {
-    let c = configuration(input);
-    let lent = lent(head.a, head.b, head.c);
-    let number = state_words::make(c, state, spans, repairs, monitor, lent);
+    let number = state_words::make(
+        configuration(input),
+        state,
+        spans,
+        repairs,
+        monitor,
+        lent(head.a, head.b, head.c),
+    );
     answer_plain(1, plain(number), 0, 0);
 }
 

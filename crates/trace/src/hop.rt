@@ -4,7 +4,6 @@ use crate::Head;
 use crate::MONITOR_WORDS;
 use crate::SPAN_WORDS;
 use crate::chain::lent;
-use crate::words::Front;
 use crate::words::write_front;
 use crate::words::write_words;
 use hops::HopSaid;
@@ -35,16 +34,7 @@ fn write_report(answer: HopSaid) {
 
 fn write_hop(answer: HopSaid) {
     let t = told_hop(answer);
-    write_front(Front {
-        op: 4,
-        number: t.number,
-        value: t.value,
-        p: 0,
-        q: 0,
-        r: 0,
-        s: 0,
-        m: 7,
-    });
+    write_front([4, t.number, t.value, 0, 0, 0, 0, 7]);
     write_report(answer);
 }
 

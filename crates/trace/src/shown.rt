@@ -2,10 +2,9 @@
 
 use crate::Head;
 use crate::MONITOR_WORDS;
-use crate::words::Front;
 use crate::words::answer_plain;
 use crate::words::bits;
-use crate::words::show_words;
+use crate::words::show_first;
 use crate::words::write_front;
 use crate::words::write_words;
 use complex::Complex64;
@@ -21,20 +20,6 @@ use state_words::coefficient;
 use state_words::iq_word;
 use state_words::part;
 use state_words::plain;
-
-// An answer of so many words.
-fn front(op: u64, m: u64) -> Front {
-    Front {
-        op,
-        number: 0,
-        value: 0,
-        p: 0,
-        q: 0,
-        r: 0,
-        s: 0,
-        m,
-    }
-}
 
 // ---- the log
 
@@ -87,21 +72,16 @@ fn write_log(log: ConditioningLog) {
 }
 
 pub fn log(state: &[u64; WORDS]) {
-    write_front(front(5, 62));
+    write_front([5, 0, 0, 0, 0, 0, 0, 62]);
     write_log(reading::log(state_words::read_state(state)));
 }
 
 // ---- the state
 
-fn write_first(words: &[u64], n: usize) {
-    let m = part(words, n);
-    write_words(&words[..m]);
-}
-
 // The settings, but for the coefficient, and the stages.
 pub fn state(state: &[u64; WORDS]) {
-    write_front(front(6, 113));
-    write_first(state, STAGES);
+    write_front([6, 0, 0, 0, 0, 0, 0, 113]);
+    show_first(state, STAGES, 0);
 }
 
 // ---- the stores
@@ -118,19 +98,11 @@ pub fn stores(head: Head, spans: &[u64], repairs: &[u64], words: &[f64; MONITOR_
     let b = part(repairs, head.b as usize);
     let monitor = bits(words);
     let c = part(&monitor, head.c as usize);
-    write_front(Front {
-        op: 7,
-        number: 0,
-        value: 0,
-        p: a as u64,
-        q: b as u64,
-        r: c as u64,
-        s: 0,
-        m: shown_in_all(a, b, c, head.how),
-    });
-    show_words(&spans[..a], head.how);
-    show_words(&repairs[..b], head.how);
-    show_words(&monitor[..c], head.how);
+    let shown = shown_in_all(a, b, c, head.how);
+    write_front([7, 0, 0, a as u64, b as u64, c as u64, 0, shown]);
+    show_first(spans, a, head.how);
+    show_first(repairs, b, head.how);
+    show_first(&monitor, c, head.how);
 }
 
 // ---- a span

@@ -7,19 +7,7 @@ use crate::MONITOR_WORDS;
 use libc::STDIN_FILENO;
 use libc::STDOUT_FILENO;
 use state_words::Told;
-
-// The words in front of an answer: the operation, its number and value, what belongs to it, and how
-// many words follow.
-pub struct Front {
-    pub op: u64,
-    pub number: u64,
-    pub value: u64,
-    pub p: u64,
-    pub q: u64,
-    pub r: u64,
-    pub s: u64,
-    pub m: u64,
-}
+use state_words::part;
 
 // How many words go at once, of so many.
 fn at_once(left: usize) -> usize
@@ -30,14 +18,6 @@ fn at_once(left: usize) -> usize
         return 512;
     }
     left
-}
-
-// A word of a slice, 0 behind its end.
-pub fn word(words: &[u64], k: usize) -> u64 {
-    if k < words.len() {
-        return words[k];
-    }
-    0
 }
 
 // ---- reading
@@ -123,9 +103,10 @@ pub fn write_words(words: &[u64]) {
     }
 }
 
-pub fn write_front(f: Front) {
-    let words = [f.op, f.number, f.value, f.p, f.q, f.r, f.s, f.m];
-    write_words(&words);
+// The words in front of an answer: the operation, its number and value, four that belong to it, and how many
+// words follow.
+pub fn write_front(front: [u64; 8]) {
+    write_words(&front);
 }
 
 // ---- one word of many
@@ -162,6 +143,12 @@ pub fn show_words(words: &[u64], how: u64) {
     write_words(words);
 }
 
+// The same of the first so many.
+pub fn show_first(words: &[u64], count: usize, how: u64) {
+    let n = part(words, count);
+    show_words(&words[..n], how);
+}
+
 // The bits of the monitor's words.
 pub fn bits(words: &[f64; MONITOR_WORDS]) -> [u64; MONITOR_WORDS] {
     let mut out = [0u64; MONITOR_WORDS];
@@ -182,29 +169,20 @@ pub fn shown(n: usize, how: u64) -> u64 {
 // The answer to an operation, with the slice that it left.
 pub fn answer_slice(op: u64, told: Told, slice: &[u64], how: u64) {
     let n = slice.len();
-    write_front(Front {
+    write_front([
         op,
-        number: told.number,
-        value: told.value,
-        p: 0,
-        q: 0,
-        r: 0,
-        s: n as u64,
-        m: shown(n, how),
-    });
+        told.number,
+        told.value,
+        0,
+        0,
+        0,
+        n as u64,
+        shown(n, how),
+    ]);
     show_words(slice, how);
 }
 
 // The answer to an operation, with two words.
 pub fn answer_plain(op: u64, told: Told, p: u64, q: u64) {
-    write_front(Front {
-        op,
-        number: told.number,
-        value: told.value,
-        p,
-        q,
-        r: 0,
-        s: 0,
-        m: 0,
-    });
+    write_front([op, told.number, told.value, p, q, 0, 0, 0]);
 }

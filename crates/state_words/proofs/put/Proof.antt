@@ -1,4 +1,4 @@
--- `put` writes within. Assumes nothing.
+-- `put` writes each word. Assumes nothing.
 use Prim.Native.Nat.{_-_, _≤_}
 use lib.ListN.{length}
 use borrow.Author.Needs.{needs}
@@ -6,28 +6,25 @@ use Rattle.state_words.proofs.put.Statement.{statement}
 use Rattle.state_words.proofs.put.Tie as tie
 
 abbrev Inv-loop : tie.InvT-loop
-Inv-loop part words₀ at k₀ place₀ words k place = (k ≤ length part) × (0 ≤ place)
+Inv-loop part words₀ at k₀ words k = k ≤ length part
 
 abbrev μ-loop : tie.MeasureT-loop
-μ-loop part words₀ at k₀ place₀ words k place = length part - k
+μ-loop part words₀ at k₀ words k = length part - k
 
 loop-holds : tie.Need-loop-holds Inv-loop μ-loop
 loop-holds c = search needs
 
-mul-words : tie.Need-mul-words Inv-loop μ-loop
-mul-words c = search needs
+wrapping-add-usize-requires : tie.Need-wrapping-add-usize-requires Inv-loop μ-loop
+wrapping-add-usize-requires c κs = search needs
 
-shared-slice-read-words : tie.Need-shared-slice-read-words Inv-loop μ-loop
-shared-slice-read-words c = search needs
+mul-set : tie.Need-mul-set Inv-loop μ-loop
+mul-set c = search needs
 
-mul-words-2 : tie.Need-mul-words-2 Inv-loop μ-loop
-mul-words-2 c = search needs
+shared-slice-read-set : tie.Need-shared-slice-read-set Inv-loop μ-loop
+shared-slice-read-set c = search needs
 
-element-write-words : tie.Need-element-write-words Inv-loop μ-loop
-element-write-words c = search needs
-
-add-place : tie.Need-add-place Inv-loop μ-loop
-add-place c = search needs
+set-requires : tie.Need-set-requires Inv-loop μ-loop
+set-requires c κs = search needs
 
 add-k : tie.Need-add-k Inv-loop μ-loop
 add-k c = search needs
@@ -48,11 +45,10 @@ put-spec =
     Inv-loop
     μ-loop
     loop-holds
-    mul-words
-    shared-slice-read-words
-    mul-words-2
-    element-write-words
-    add-place
+    wrapping-add-usize-requires
+    mul-set
+    shared-slice-read-set
+    set-requires
     add-k
     loop-less
     loop-again

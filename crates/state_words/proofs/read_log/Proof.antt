@@ -31,17 +31,14 @@ mul-ring c = search needs
 element-set-from-ring : tie.Need-element-set-from-ring Inv-loop μ-loop
 element-set-from-ring c = search needs
 
-add-log : tie.Need-add-log Inv-loop μ-loop
-add-log c = search needs
+add-word : tie.Need-add-word Inv-loop μ-loop
+add-word c = search needs
+
+word-requires : tie.Need-word-requires Inv-loop μ-loop
+word-requires c κs = search needs
 
 mul-log : tie.Need-mul-log Inv-loop μ-loop
 mul-log c = search needs
-
-element-copy-out-log : tie.Need-element-copy-out-log Inv-loop μ-loop
-element-copy-out-log c = search needs
-
-mul-log-2 : tie.Need-mul-log-2 Inv-loop μ-loop
-mul-log-2 c = search needs
 
 element-write-log : tie.Need-element-write-log Inv-loop μ-loop
 element-write-log c = search needs
@@ -71,10 +68,9 @@ read-log-spec =
     read-ring-requires
     mul-ring
     element-set-from-ring
-    add-log
+    add-word
+    word-requires
     mul-log
-    element-copy-out-log
-    mul-log-2
     element-write-log
     add-k
     loop-less

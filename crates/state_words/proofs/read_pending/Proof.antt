@@ -15,17 +15,14 @@ abbrev μ-loop : tie.MeasureT-loop
 loop-holds : tie.Need-loop-holds Inv-loop μ-loop
 loop-holds c = search needs
 
-add-pending : tie.Need-add-pending Inv-loop μ-loop
-add-pending c = search needs
+add-word : tie.Need-add-word Inv-loop μ-loop
+add-word c = search needs
+
+word-requires : tie.Need-word-requires Inv-loop μ-loop
+word-requires c κs = search needs
 
 mul-pending : tie.Need-mul-pending Inv-loop μ-loop
 mul-pending c = search needs
-
-element-copy-out-pending : tie.Need-element-copy-out-pending Inv-loop μ-loop
-element-copy-out-pending c = search needs
-
-mul-pending-2 : tie.Need-mul-pending-2 Inv-loop μ-loop
-mul-pending-2 c = search needs
 
 array-write-pending : tie.Need-array-write-pending Inv-loop μ-loop
 array-write-pending c = search needs
@@ -49,10 +46,9 @@ read-pending-spec =
     Inv-loop
     μ-loop
     loop-holds
-    add-pending
+    add-word
+    word-requires
     mul-pending
-    element-copy-out-pending
-    mul-pending-2
     array-write-pending
     add-k
     loop-less

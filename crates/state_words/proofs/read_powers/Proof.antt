@@ -15,14 +15,11 @@ abbrev μ-loop : tie.MeasureT-loop
 loop-holds : tie.Need-loop-holds Inv-loop μ-loop
 loop-holds c = search needs
 
-add-power : tie.Need-add-power Inv-loop μ-loop
-add-power c = search needs
+add-word : tie.Need-add-word Inv-loop μ-loop
+add-word c = search needs
 
-mul-power : tie.Need-mul-power Inv-loop μ-loop
-mul-power c = search needs
-
-element-copy-out-power : tie.Need-element-copy-out-power Inv-loop μ-loop
-element-copy-out-power c = search needs
+word-requires : tie.Need-word-requires Inv-loop μ-loop
+word-requires c κs = search needs
 
 power-requires : tie.Need-power-requires Inv-loop μ-loop
 power-requires c κs = search needs
@@ -52,9 +49,8 @@ read-powers-spec =
     Inv-loop
     μ-loop
     loop-holds
-    add-power
-    mul-power
-    element-copy-out-power
+    add-word
+    word-requires
     power-requires
     mul-powers
     array-write-powers

@@ -28,20 +28,17 @@ add-write-ring c = search needs
 write-ring-requires : tie.Need-write-ring-requires Inv-loop μ-loop
 write-ring-requires c κs = search needs
 
-mul-words : tie.Need-mul-words Inv-loop μ-loop
-mul-words c = search needs
+add-set : tie.Need-add-set Inv-loop μ-loop
+add-set c = search needs
 
-element-copy-out-words : tie.Need-element-copy-out-words Inv-loop μ-loop
-element-copy-out-words c = search needs
+mul-set : tie.Need-mul-set Inv-loop μ-loop
+mul-set c = search needs
 
-add-words : tie.Need-add-words Inv-loop μ-loop
-add-words c = search needs
+element-copy-out-set : tie.Need-element-copy-out-set Inv-loop μ-loop
+element-copy-out-set c = search needs
 
-mul-words-2 : tie.Need-mul-words-2 Inv-loop μ-loop
-mul-words-2 c = search needs
-
-element-write-words : tie.Need-element-write-words Inv-loop μ-loop
-element-write-words c = search needs
+set-requires : tie.Need-set-requires Inv-loop μ-loop
+set-requires c κs = search needs
 
 add-k : tie.Need-add-k Inv-loop μ-loop
 add-k c = search needs
@@ -67,11 +64,10 @@ write-log-spec =
     mul-write-ring
     add-write-ring
     write-ring-requires
-    mul-words
-    element-copy-out-words
-    add-words
-    mul-words-2
-    element-write-words
+    add-set
+    mul-set
+    element-copy-out-set
+    set-requires
     add-k
     loop-less
     loop-again

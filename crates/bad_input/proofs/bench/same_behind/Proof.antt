@@ -1,4 +1,4 @@
--- `same_behind` reads within both. Assumes nothing.
+-- `same_behind` reads both lists up to the end of the first. Assumes nothing.
 use Prim.Native.Nat.{_-_, _≤_}
 use lib.ListN.{length}
 use borrow.Author.Needs.{needs}

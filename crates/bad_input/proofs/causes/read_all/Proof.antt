@@ -1,4 +1,4 @@
--- `read_all` reads each byte of the text. Assumes nothing.
+-- `read_all` reads each byte. Assumes nothing.
 use Prim.Native.Nat.{_-_, _≤_}
 use lib.ListN.{length}
 use borrow.Author.Needs.{needs}
@@ -13,6 +13,9 @@ abbrev μ-loop : tie.MeasureT-loop
 
 chain-requires : tie.Need-chain-requires Inv-loop μ-loop
 chain-requires c κs = search needs
+
+in-part-requires : tie.Need-in-part-requires Inv-loop μ-loop
+in-part-requires c κs = search needs
 
 loop-holds : tie.Need-loop-holds Inv-loop μ-loop
 loop-holds c = search needs
@@ -42,6 +45,7 @@ read-all-spec =
     Inv-loop
     μ-loop
     chain-requires
+    in-part-requires
     loop-holds
     shared-slice-read-read
     read-requires

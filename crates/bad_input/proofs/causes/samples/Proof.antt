@@ -1,4 +1,4 @@
--- `samples` writes each of the 64. Assumes nothing.
+-- `samples` writes each place. Assumes nothing.
 use Prim.Native.Nat.{_-_, _≤_}
 use mathlib.Core.Path.{_≡_}
 use lib.ListN.{length}

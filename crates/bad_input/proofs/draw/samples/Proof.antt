@@ -1,8 +1,8 @@
--- `samples` writes each of the 64. Assumes nothing.
+-- `samples` writes each place. Assumes nothing.
 use Prim.Native.Nat.{_-_, _≤_}
-use borrow.Author.Needs.{needs}
 use mathlib.Core.Path.{_≡_}
 use lib.ListN.{length}
+use borrow.Author.Needs.{needs}
 use Rattle.bad_input.proofs.draw.samples.Statement.{statement}
 use Rattle.bad_input.proofs.draw.samples.Tie as tie
 

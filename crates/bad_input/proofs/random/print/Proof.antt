@@ -1,39 +1,26 @@
--- `print` reads each byte of the names. Assumes nothing.
+-- `print` prints each count. Assumes nothing.
 use Prim.Native.Nat.{_-_, _≤_}
-use lib.ListN.{length}
 use borrow.Author.Needs.{needs}
 use Rattle.bad_input.proofs.random.print.Statement.{statement}
 use Rattle.bad_input.proofs.random.print.Tie as tie
 
 abbrev Inv-loop : tie.InvT-loop
-Inv-loop names counts line₀ k₀ line k = 0 ≤ k
+Inv-loop counts k₀ k = k ≤ 96
 
 abbrev μ-loop : tie.MeasureT-loop
-μ-loop names counts line₀ k₀ line k = length names - k
+μ-loop counts k₀ k = 96 - k
 
 loop-holds : tie.Need-loop-holds Inv-loop μ-loop
 loop-holds c = search needs
 
-shared-slice-read-print-byte : tie.Need-shared-slice-read-print-byte Inv-loop μ-loop
-shared-slice-read-print-byte c = search needs
+mul-print-count : tie.Need-mul-print-count Inv-loop μ-loop
+mul-print-count c = search needs
 
-place-requires : tie.Need-place-requires Inv-loop μ-loop
-place-requires c κs = search needs
+element-copy-out-print-count : tie.Need-element-copy-out-print-count Inv-loop μ-loop
+element-copy-out-print-count c = search needs
 
-mul-print-byte : tie.Need-mul-print-byte Inv-loop μ-loop
-mul-print-byte c = search needs
-
-element-copy-out-print-byte : tie.Need-element-copy-out-print-byte Inv-loop μ-loop
-element-copy-out-print-byte c = search needs
-
-print-byte-requires : tie.Need-print-byte-requires Inv-loop μ-loop
-print-byte-requires c κs = search needs
-
-shared-slice-read-line-after : tie.Need-shared-slice-read-line-after Inv-loop μ-loop
-shared-slice-read-line-after c = search needs
-
-line-after-requires : tie.Need-line-after-requires Inv-loop μ-loop
-line-after-requires c κs = search needs
+print-count-requires : tie.Need-print-count-requires Inv-loop μ-loop
+print-count-requires c κs = search needs
 
 add-k : tie.Need-add-k Inv-loop μ-loop
 add-k c = search needs
@@ -54,13 +41,9 @@ print-spec =
     Inv-loop
     μ-loop
     loop-holds
-    shared-slice-read-print-byte
-    place-requires
-    mul-print-byte
-    element-copy-out-print-byte
-    print-byte-requires
-    shared-slice-read-line-after
-    line-after-requires
+    mul-print-count
+    element-copy-out-print-count
+    print-count-requires
     add-k
     loop-less
     loop-again

@@ -5,10 +5,10 @@ use Rattle.bad_input.proofs.random.run.Statement.{statement}
 use Rattle.bad_input.proofs.random.run.Tie as tie
 
 abbrev Inv-loop : tie.InvT-loop
-Inv-loop turns w₀ k₀ w k = k ≤ turns
+Inv-loop counts₀ bench₀ seed₀ counter₀ counts bench seed counter = counter ≤ 24000
 
 abbrev μ-loop : tie.MeasureT-loop
-μ-loop turns w₀ k₀ w k = turns - k
+μ-loop counts₀ bench₀ seed₀ counter₀ counts bench seed counter = 24000 - counter
 
 fresh-requires : tie.Need-fresh-requires Inv-loop μ-loop
 fresh-requires c κs = search needs
@@ -19,8 +19,11 @@ loop-holds c = search needs
 next-requires : tie.Need-next-requires Inv-loop μ-loop
 next-requires c κs = search needs
 
-add-k : tie.Need-add-k Inv-loop μ-loop
-add-k c = search needs
+shifted-requires : tie.Need-shifted-requires Inv-loop μ-loop
+shifted-requires c κs = search needs
+
+add-counter : tie.Need-add-counter Inv-loop μ-loop
+add-counter c = search needs
 
 loop-less : tie.Need-loop-less Inv-loop μ-loop
 loop-less c = search needs
@@ -40,7 +43,8 @@ run-spec =
     fresh-requires
     loop-holds
     next-requires
-    add-k
+    shifted-requires
+    add-counter
     loop-less
     loop-again
     returns)

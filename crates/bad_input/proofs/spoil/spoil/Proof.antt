@@ -1,11 +1,11 @@
--- `spoil` ends when its replacements are made. Assumes nothing.
+-- `spoil` counts to the times. Assumes nothing.
 use Prim.Native.Nat.{_-_, _≤_}
 use borrow.Author.Needs.{needs}
 use Rattle.bad_input.proofs.spoil.spoil.Statement.{statement}
 use Rattle.bad_input.proofs.spoil.spoil.Tie as tie
 
 abbrev Inv-loop : tie.InvT-loop
-Inv-loop state₀ seed times k₀ state k = 0 ≤ k
+Inv-loop state₀ seed times k₀ state k = k ≤ times
 
 abbrev μ-loop : tie.MeasureT-loop
 μ-loop state₀ seed times k₀ state k = times - k
