@@ -24,10 +24,10 @@ pub fn put_samples(
 ) -> usize
     ensures { λ r. ⌜ Written (now (text .entry)) place (sampleLines replaced seen released held) (now (text .exit)) r ⌝ }
 {
-    let a = text::put_number(text, place, b"replaced ", replaced, b"\n");
-    let b = text::put_number(text, a, b"seen ", seen, b" ");
-    let c = text::put_number(text, b, b"final ", released, b" ");
-    text::put_number(text, c, b"held ", held, b"\n")
+    let a = text::put_number(text, place, b"replaced ", replaced, b'\n');
+    let b = text::put_number(text, a, b"seen ", seen, b' ');
+    let c = text::put_number(text, b, b"final ", released, b' ');
+    text::put_number(text, c, b"held ", held, b'\n')
 }
 
 fn put_stage(text: &mut [u8], place: usize, stage: Stage) -> usize
@@ -69,7 +69,7 @@ pub fn put_count(text: &mut [u8], place: usize, stage: Stage, kind: Mark, count:
     }
     let a = text::put(text, place, b"count ");
     let b = put_ring(text, a, stage, kind);
-    text::put_number(text, b, b" ", count, b"\n")
+    text::put_number(text, b, b" ", count, b'\n')
 }
 
 pub fn put_span(text: &mut [u8], place: usize, stage: Stage, kind: Mark, s: Span) -> usize
@@ -77,15 +77,15 @@ pub fn put_span(text: &mut [u8], place: usize, stage: Stage, kind: Mark, s: Span
 {
     let a = text::put(text, place, b"span ");
     let b = put_ring(text, a, stage, kind);
-    let c = text::put_number(text, b, b" ", s.start, b" ");
-    text::put_number(text, c, b"", s.len, b"\n")
+    let c = text::put_number(text, b, b" ", s.start, b' ');
+    text::put_number(text, c, b"", s.len, b'\n')
 }
 
 pub fn put_dropped(text: &mut [u8], place: usize, spans: u64, repairs: u64) -> usize
     ensures { λ r. ⌜ Written (now (text .entry)) place (droppedLine spans repairs) (now (text .exit)) r ⌝ }
 {
-    let a = text::put_number(text, place, b"dropped ", spans, b" ");
-    text::put_number(text, a, b"", repairs, b"\n")
+    let a = text::put_number(text, place, b"dropped ", spans, b' ');
+    text::put_number(text, a, b"", repairs, b'\n')
 }
 
 pub fn put_words(text: &mut [u8], place: usize, z: Complex64) -> usize

@@ -12,7 +12,7 @@ pub fn write_refusal(number: u64, text: &mut [u8]) -> usize
     ensures text { λ r. ⌜ now (text .exit) ≡ put (now (text .entry)) 0 (refusedText number) ⌝ }
     ensures length { λ r. ⌜ r ≡ min (length (now (text .entry))) (length (refusedText number)) ⌝ }
 {
-    text::put_number(text, 0, b"refused ", number, b"\n")
+    text::put_number(text, 0, b"refused ", number, b'\n')
 }
 
 // That all modes are off.

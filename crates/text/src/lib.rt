@@ -45,11 +45,11 @@ pub fn put_hex(text: &mut [u8], place: usize, n: u64) -> usize
     put(text, place, &digits[..k])
 }
 
-// A number in decimal, between two texts.
-pub fn put_number(text: &mut [u8], place: usize, label: &[u8], n: u64, ending: &[u8]) -> usize
-    ensures { λ r. ⌜ Written (now (text .entry)) place (now (label .entry) ++ (decimal n ++ now (ending .entry))) (now (text .exit)) r ⌝ }
+// A number in decimal, between a text and a byte.
+pub fn put_number(text: &mut [u8], place: usize, label: &[u8], n: u64, ending: u8) -> usize
+    ensures { λ r. ⌜ Written (now (text .entry)) place (now (label .entry) ++ (decimal n ++ (ending ∷ []))) (now (text .exit)) r ⌝ }
 {
     let named = put(text, place, label);
     let numbered = put_decimal(text, named, n);
-    put(text, numbered, ending)
+    put_byte(text, numbered, ending)
 }

@@ -23,9 +23,6 @@ put-ring-requires c κs = search needs
 slice-aggregate-put-number : tie.Need-slice-aggregate-put-number
 slice-aggregate-put-number c = search needs
 
-slice-aggregate-put-number-2 : tie.Need-slice-aggregate-put-number-2
-slice-aggregate-put-number-2 c = search needs
-
 put-number-requires : tie.Need-put-number-requires
 put-number-requires c κs = search needs
 
@@ -35,8 +32,8 @@ same-length c = search needs
 returns-2 : tie.Need-returns-2
 unfolding letters line countLine
 returns-2 c =
-    rw (ne-eqb _ 0 (c .before .before .before .before .before .before .before .before .before .before .before .before .before .before .before .if1 .left))
-    (written-then (c .before .before .before .before .before .before .before .before .before .before .before .before .put .ensures) (written-then (c .before .before .before .before .before .before .before .before .put-ring .ensures) (c .before .before .put-number .ensures)))
+    rw (ne-eqb _ 0 (c .before .before .before .before .before .before .before .before .before .before .before .before .before .before .if1 .left))
+    (written-then (c .before .before .before .before .before .before .before .before .before .before .before .put .ensures) (written-then (c .before .before .before .before .before .before .before .put-ring .ensures) (c .before .before .put-number .ensures)))
 
 pub put-count-spec : {M : Type 1} → statement M
 put-count-spec =
@@ -47,7 +44,6 @@ put-count-spec =
     put-requires
     put-ring-requires
     slice-aggregate-put-number
-    slice-aggregate-put-number-2
     put-number-requires
     same-length
     returns-2)

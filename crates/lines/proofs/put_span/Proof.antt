@@ -19,17 +19,11 @@ put-ring-requires c κs = search needs
 slice-aggregate-put-number : tie.Need-slice-aggregate-put-number
 slice-aggregate-put-number c = search needs
 
-slice-aggregate-put-number-2 : tie.Need-slice-aggregate-put-number-2
-slice-aggregate-put-number-2 c = search needs
-
 put-number-requires : tie.Need-put-number-requires
 put-number-requires c κs = search needs
 
-slice-aggregate-put-number-3 : tie.Need-slice-aggregate-put-number-3
-slice-aggregate-put-number-3 c = search needs
-
-slice-aggregate-put-number-4 : tie.Need-slice-aggregate-put-number-4
-slice-aggregate-put-number-4 c = search needs
+slice-aggregate-put-number-2 : tie.Need-slice-aggregate-put-number-2
+slice-aggregate-put-number-2 c = search needs
 
 put-number-requires-2 : tie.Need-put-number-requires-2
 put-number-requires-2 c κs = search needs
@@ -40,10 +34,10 @@ same-length c = search needs
 returns : tie.Need-returns
 unfolding letters
 returns c =
-    let a = c .before .before .before .before .before .before .before .before .before .before .before .before .before .before .before .before .before .before .before .before .before .before .args in
+    let a = c .before .before .before .before .before .before .before .before .before .before .before .before .before .before .before .before .before .before .before .before .args in
     written-as (span-pieces (stageOf (a .stage)) (markOf (a .kind)) (a .s .start) (a .s .len))
-    (written-then (c .before .before .before .before .before .before .before .before .before .before .before .before .before .before .before .before .before .before .put .ensures)
-    (written-then (c .before .before .before .before .before .before .before .before .before .before .before .before .before .before .put-ring .ensures) (written-then (c .before .before .before .before .before .before .before .before .put-number .ensures) (c .before .before .put-number2 .ensures))))
+    (written-then (c .before .before .before .before .before .before .before .before .before .before .before .before .before .before .before .before .put .ensures)
+    (written-then (c .before .before .before .before .before .before .before .before .before .before .before .before .put-ring .ensures) (written-then (c .before .before .before .before .before .before .before .put-number .ensures) (c .before .before .put-number2 .ensures))))
 
 pub put-span-spec : {M : Type 1} → statement M
 put-span-spec =
@@ -53,10 +47,8 @@ put-span-spec =
     put-requires
     put-ring-requires
     slice-aggregate-put-number
-    slice-aggregate-put-number-2
     put-number-requires
-    slice-aggregate-put-number-3
-    slice-aggregate-put-number-4
+    slice-aggregate-put-number-2
     put-number-requires-2
     same-length
     returns)

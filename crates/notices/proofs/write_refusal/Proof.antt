@@ -9,9 +9,6 @@ use Rattle.notices.proofs.write_refusal.Tie as tie
 slice-aggregate-put-number : tie.Need-slice-aggregate-put-number
 slice-aggregate-put-number c = search needs
 
-slice-aggregate-put-number-2 : tie.Need-slice-aggregate-put-number-2
-slice-aggregate-put-number-2 c = search needs
-
 put-number-requires : tie.Need-put-number-requires
 put-number-requires c κs = search needs
 
@@ -27,7 +24,6 @@ write-refusal-spec =
     tie.close
     (tie.spec
     slice-aggregate-put-number
-    slice-aggregate-put-number-2
     put-number-requires
     same-length
     returns)

@@ -1,4 +1,4 @@
--- `text::put_number`: the three texts stand one behind the other. Assumes nothing.
+-- `text::put_number`: the texts stand one behind the other. Assumes nothing.
 use Rattle.text.specs.PutLaws.{written-then}
 use borrow.Author.Needs.{needs}
 use Rattle.text.proofs.put_number.Statement.{statement}
@@ -10,16 +10,16 @@ put-requires c κs = search needs
 put-decimal-requires : tie.Need-put-decimal-requires
 put-decimal-requires c κs = search needs
 
-put-requires-2 : tie.Need-put-requires-2
-put-requires-2 c κs = search needs
+put-byte-requires : tie.Need-put-byte-requires
+put-byte-requires c κs = search needs
 
 same-length : tie.Need-same-length
 same-length c = search needs
 
 returns : tie.Need-returns
 returns c =
-    written-then (c .before .before .before .before .before .before .before .before .before .before .put .ensures) (written-then (c .before .before .before .before .before .before .put-decimal .ensures) (c .before .before .put2 .ensures))
+    written-then (c .before .before .before .before .before .before .before .before .before .before .put .ensures) (written-then (c .before .before .before .before .before .before .put-decimal .ensures) (c .before .before .put-byte .ensures))
 
 pub put-number-spec : {M : Type 1} → statement M
 put-number-spec =
-    tie.close (tie.spec put-requires put-decimal-requires put-requires-2 same-length returns)
+    tie.close (tie.spec put-requires put-decimal-requires put-byte-requires same-length returns)
