@@ -73,9 +73,9 @@ pub fn odd_word(seed: u64, k: u64) -> u64 {
     }
 }
 
-// The usual word, but one in eight times an odd one.
+// The usual word, but one in eight times an odd one. Other bits decide that than which odd one it is.
 pub fn any_word(seed: u64, k: u64, usual: u64) -> u64 {
-    if drawn(seed, k) % 8 == 0 {
+    if drawn(seed, k) / 0x1_0000 % 8 == 0 {
         return odd_word(seed, k);
     }
     usual
@@ -86,11 +86,11 @@ pub fn any_word(seed: u64, k: u64, usual: u64) -> u64 {
 // A usable sample, (1 + a fraction, 0); now and then (100, 0), and less often an odd word.
 fn sample(seed: u64, k: u64) -> u64 {
     let w = drawn(seed, k);
-    let f = w % 128;
+    let f = w / 0x1_0000 % 128;
     match f {
         0 => odd_word(seed, k),
         1..=8 => 0x42c8_0000,
-        _ => 0x3f80_0000 + w / 128 % 0x80_0000,
+        _ => 0x3f80_0000 + w / 0x80_0000 % 0x80_0000,
     }
 }
 
