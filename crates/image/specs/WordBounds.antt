@@ -18,14 +18,14 @@ use Rattle.ieee.specs.Plain.{signClear}
 use Rattle.complex.specs.Complex.{Complex, power, product, sampleOf}
 use Rattle.part_limit.specs.LimitLaws.{first-place}
 use Rattle.rules.specs.SizeLaws.{size-within, within-size}
-use Rattle.rules.specs.Constants.{zeroF, partLimit}
+use Rattle.rules.specs.Constants.{zeroF, partLimit, wordLimit}
 use Rattle.rules.specs.Guard.{magnitude}
 use Rattle.rules.specs.Lists.{at, upTo}
 use Rattle.rules.specs.SortLaws.{All}
 use Rattle.rules.specs.Refusals.{withinLimit, firstBeyondFrom}
 use Rattle.rules.specs.Monitor.{Hop, hopEnd, channel, mirrorOf, channelPower, channelProduct, total, powerSum, realSum, imagSum, windowStart, due, nextWindow, openWindow, windowLength, monitorWords}
 use Rattle.rules.specs.Lists.{allOf}
-use Rattle.image.specs.Words.{wordLimit, sumFits, powerFits, wordsFit}
+use Rattle.image.specs.Words.{sumFits, powerFits, wordsFit}
 use Rattle.rules.specs.Lists.{allOf}
 use Rattle.image.specs.WordsLaws.{powers-are, others-are}
 use Rattle.image.specs.ObserveLaws.{is-some, is-next}

@@ -12,7 +12,7 @@ use lib.ListN.{length, getD, take}
 use Rattle.ieee.specs.Bounds.{within-mono}
 use Rattle.ieee.specs.Plain.{signClear}
 use Rattle.rules.specs.TestLaws.{and-so}
-use Rattle.rules.specs.Constants.{zeroF}
+use Rattle.rules.specs.Constants.{zeroF, powerLimit}
 use Rattle.rules.specs.Guard.{magnitude}
 use Rattle.rules.specs.SizeLaws.{within-size}
 use Rattle.rules.specs.Refusals.{withinLimit}
@@ -34,7 +34,7 @@ use Rattle.impulse.specs.PartBounds.{within-limit}
 use Rattle.impulse.specs.StateBounds.{state-sound}
 use Rattle.impulse.specs.Theorem.{stateOf}
 use Rattle.impulse.specs.Stage.{Usable}
-use Rattle.state.specs.Fits.{counter, runFits, leftFits, gateFits, powerLimit, powerFits, sortedFits, suppressorFits}
+use Rattle.state.specs.Fits.{counter, runFits, leftFits, gateFits, powerFits, sortedFits, suppressorFits}
 
 holds : (b : Bool) → T b → b ≡ true
 holds true t = refl

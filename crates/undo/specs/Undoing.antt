@@ -1,9 +1,10 @@
 -- Repair undo: what it declines, and what it makes of a slice. Definitions only.
 use mathlib.Core.Bool.{Bool, true, not, cond, _&&_}
 use mathlib.Core.List.{List, [], _∷_}
-use Prim.Native.Nat.{ℕ, _*_, _^_}
+use Prim.Native.Nat.{ℕ, _*_}
 use lib.Dec.{ltb, leb, eqb}
 use lib.ListN.{length, take, drop}
+use Rattle.rules.specs.Constants.{totalLimit}
 use Rattle.rules.specs.Lists.{at}
 use Rattle.rules.specs.Log.{repairWidth}
 use Rattle.rules.specs.Undo.{heldRecords, undoneAll}
@@ -22,7 +23,7 @@ recordIn ws place = take repairWidth (drop place ws)
 
 -- not: 'in repair undo a held record's length not 1..4 or start > 2^48'
 unfoldable pub recordFits : List ℕ → Bool
-recordFits e = ltb 0 (at e 1) && leb (at e 1) 4 && leb (at e 0) (2 ^ 48)
+recordFits e = ltb 0 (at e 1) && leb (at e 1) 4 && leb (at e 0) totalLimit
 
 unfoldable pub recordsFit : List (List ℕ) → Bool
 recordsFit [] = true
