@@ -6,12 +6,12 @@ use Prim.Native.Nat.{ℕ, _-_, _*_, _≤_, _<_}
 use native.Mathlib.Omega.{arith}
 use lib.Dec.{lit<, lit≤}
 use lib.ListN.{length, replicate}
-use Rattle.rules.specs.Impulse.{Offered, Event, uncertain, kept, mended}
+use Rattle.rules.specs.Impulse.{Offered, blockLength, Event, uncertain, kept, mended}
 use Rattle.rules.specs.Dc.{corner, firstLevel, levelAfter, blockedAll}
 use Rattle.rules.specs.Iq.{Mode, off, observe, apply, Settled, isOff, observing, withheld, correcting, correctedBy}
 use Rattle.rules.specs.Log as rules
 use Rattle.rules.specs.Log.{Stage, impulse, dc, iq, Mark, isRepaired, isFlagged, isCorrected, isUncertain, ringNumber, Span, spanOf, mark, noMarks, marked, marksOf, repaired, repairsOf, longRuns}
-use Rattle.rules.specs.Chain.{isApply, runs, blockLength, settingOf, impulseEvents, afterImpulse, afterDc, settledBy, released, ringOf, repairRing, longRunsOf, evidence}
+use Rattle.rules.specs.Chain.{isApply, runs, settingOf, impulseEvents, afterImpulse, afterDc, settledBy, released, ringOf, repairRing, longRunsOf, evidence}
 use Rattle.log.specs.View.{freshLog, marksAt}
 use Rattle.log.specs.LogLaws.{fresh-marks}
 use Rattle.impulse.specs.declared.ImpulseSuppressor.{ImpulseSuppressor}

@@ -5,7 +5,7 @@ use mathlib.Core.List.{List, []}
 use Prim.Native.Nat.{ℕ, zero, suc, _-_, _≤_, _<_, min}
 use native.Mathlib.Omega.{arith}
 use lib.ListN.{length}
-use Rattle.rules.specs.Impulse.{Setting, standard, handedOn, lookahead, value, flagged, judged}
+use Rattle.rules.specs.Impulse.{Setting, standard, blockLength, handedOn, lookahead, value, flagged, judged}
 use Rattle.rules.specs.Dc.{corner, firstLevel, levelAfter}
 use Rattle.rules.specs.Iq.{Mode, off, observe, apply}
 use Rattle.rules.specs.Log as rules
@@ -14,7 +14,7 @@ use Rattle.rules.specs.Monitor.{Hop}
 use Rattle.rules.specs.TestLaws.{and-so}
 use Rattle.rules.specs.Lists.{upTo}
 use Rattle.rules.specs.ListLaws.{length-upTo}
-use Rattle.rules.specs.Chain.{Config, isApply, runs, blockLength, settingOf, afterImpulse, settledBy, repairRing, longRunsOf}
+use Rattle.rules.specs.Chain.{Config, isApply, runs, settingOf, afterImpulse, settledBy, repairRing, longRunsOf}
 use Rattle.log.specs.View.{Logged, bare, ringIn, marksAt}
 use Rattle.log.specs.Check.{ringFits, ringOf, countOf, logFits, endFits, endsFit}
 use Rattle.log.specs.CheckLaws.{all-of}

@@ -16,10 +16,10 @@ use Rattle.rules.specs.Lists.{upTo, at}
 use Rattle.rules.specs.ListLaws.{length-upTo}
 use Rattle.rules.specs.Guard.{magnitude, usable}
 use Rattle.rules.specs.SortLaws.{all-getD}
-use Rattle.rules.specs.Impulse.{Setting, lookahead, flagged, judged, start, value, handedOn}
+use Rattle.rules.specs.Impulse.{Setting, lookahead, blockLength, flagged, judged, start, value, handedOn}
 use Rattle.rules.specs.Dc.{Level, firstLevel, corner, levelAfter}
 use Rattle.rules.specs.Iq.{Mode, off, observe, apply, Calibrated, none, with, correcting, withheld, ranged, coefficient, accepted, correctable, settled}
-use Rattle.rules.specs.Chain.{Config, runs, blockLength, settingOf, afterImpulse, settledBy}
+use Rattle.rules.specs.Chain.{Config, runs, settingOf, afterImpulse, settledBy}
 use Rattle.rules.specs.Monitor.{Hop, windowStart, windowLength, openWindow}
 use Rattle.part_limit.specs.Limit.{limited}
 use Rattle.impulse.specs.Sound.{WordWithin}

@@ -4,9 +4,8 @@ use mathlib.Core.List.{List, [], _∷_, map}
 use Prim.Native.Nat.{ℕ}
 use lib.ListN.{length}
 use lib.Ieee.{Float}
-use Rattle.ieee.specs.Whole.{roundDiv, wholeBy}
 use Rattle.complex.specs.Complex.{Complex}
-use Rattle.rules.specs.Impulse.{Setting, standard, Event, happened, handedOn, held}
+use Rattle.rules.specs.Impulse.{Setting, standard, blockLength, Event, happened, handedOn, held}
 use Rattle.rules.specs.Dc.{corner, firstLevel, levelAfter, blockedAll}
 use Rattle.rules.specs.Iq.{Mode, off, observe, apply, Calibrated, Settled, isOff, observing, withheld, correcting, settled, correctedBy}
 use Rattle.rules.specs.Log.{Ring, Span, spanOf, Marks, marked, repaired, Stage, impulse, dc, iq, Mark, isRepaired, isFlagged, isCorrected, isUncertain, marksOf, repairsOf, longRuns}
@@ -32,10 +31,6 @@ abbrev pub runs : Mode → Bool
 runs off = false
 runs observe = true
 runs apply = true
-
--- 'block length, fs rounded half away from zero'
-unfoldable pub blockLength : Float → ℕ
-blockLength fs = wholeBy roundDiv fs
 
 abbrev pub settingOf : Config → Setting
 settingOf c = standard (blockLength (c .fs)) (isApply (c .impulseMode))
@@ -84,7 +79,7 @@ dcMarks c xs isRepaired = []
 dcMarks c xs isFlagged = []
 dcMarks c xs isUncertain = []
 
--- 'Correcting marks released samples Corrected, withheld Uncertain.' An observing monitor marks the windows that it suspects.
+-- 'Correcting marks released samples Corrected, withheld Uncertain.' 'A suspected window is marked Uncertain only while observing.'
 abbrev pub iqMarks : Config → List ℕ → List Answer → Settled → Mark → List Span
 iqMarks c xs given (correcting r) isCorrected = whole c xs
 iqMarks c xs given (correcting r) isRepaired = []

@@ -5,6 +5,7 @@ use lib.IntN.{pos}
 use lib.Ieee.{Float, binary64, neg, sub, mul, div, lt, le, ofInt}
 use lib.Ieee.Scale.{finite}
 use Rattle.complex.specs.Complex.{Complex, sum, difference, product, power, quotient, oneMinus, onePlus, conjugate, unscaled, narrowedParts, wordOf, sampleOf}
+use Rattle.rules.specs.Guard.{magnitude}
 use Rattle.rules.specs.Constants.{zeroF, half, one, two, fortyFive, minusFortyFive, radiansPerDegree, coefficientMargin}
 
 abbrev pub wholeF : ℕ → Float
@@ -82,7 +83,7 @@ pub data Settled : Type 0 where
 
 -- 'a finite receiver centre above 0 within 1.0 Hz inclusive'
 unfoldable pub centresAgree : Float → Float → Bool
-centresAgree calibrated receiver = finitePositive receiver && ranged (neg one) one (sub binary64 calibrated receiver)
+centresAgree calibrated receiver = finitePositive receiver && le (magnitude (sub binary64 calibrated receiver)) one
 
 abbrev pub correctable : Calibration → Float → Bool
 correctable c receiver = gainFits c && phaseFits c && centreFits c && centresAgree (c .centre) receiver

@@ -128,7 +128,7 @@ markNumber isUncertain = 3
 abbrev pub ringNumber : Stage → Mark → ℕ
 ringNumber s m = stageNumber s * 4 + markNumber m
 
--- ---- what the impulse stage's events mark
+-- ---- what the impulse stage's events mark: a mended run is 'marked Repaired and logged with its originals'
 
 abbrev pub spanOf : ℕ → ℕ → Span
 spanOf s n = record { start = s; len = n }

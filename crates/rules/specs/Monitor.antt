@@ -170,7 +170,7 @@ openWindow n length w (h ∷ hs) = openWindow n length (nextWindow n length w h)
 unfoldable pub monitorWords : ℕ → List Hop → List Float
 monitorWords n w = upTo (powerSum w) n ++ (upTo (realSum n w) n ++ (upTo (imagSum n w) n ++ replicate n zeroF))
 
--- 'A suspected window is marked Uncertain only while observing.'
+-- the suspected windows, as spans
 abbrev pub suspectedSpan : Answer → List Span
 suspectedSpan noReport = []
 suspectedSpan (report r) = cond (r .suspected) (spanOf (r .start) (r .end - r .start) ∷ []) []

@@ -6,12 +6,12 @@ use lib.Dec.{ltb, leb, eqb}
 use lib.ListN.{getD, take}
 use lib.Ieee.{Float, binary64, le, lt, toBits, ofBits}
 use Rattle.ieee.specs.Plain.{signClear}
-use Rattle.rules.specs.Constants.{zeroF}
+use Rattle.rules.specs.Constants.{zeroF, powerLimit, counterLimit}
 use Rattle.rules.specs.Sort.{sort}
 use Rattle.rules.specs.Guard.{magnitude}
 use Rattle.rules.specs.Refusals.{withinLimit}
 use Rattle.rules.specs.Iq.{Settled, isOff, observing, withheld, correcting, accepted}
-use Rattle.rules.specs.Chain.{blockLength}
+use Rattle.rules.specs.Impulse.{blockLength}
 use Rattle.part_limit.specs.Limit.{limited}
 use Rattle.log.specs.Check.{allTo, ringFits, logFits}
 use Rattle.impulse.specs.declared.Run.{Run}
@@ -33,7 +33,7 @@ use Rattle.state.specs.declared.InputConditioner.{InputConditioner}
 
 -- not: 'a counter > 2^52'
 abbrev pub counter : ℕ → Bool
-counter k = leb k (2 ^ 52)
+counter k = leb k counterLimit
 
 -- ---- the settings
 
@@ -71,10 +71,6 @@ leftFits (Neighbour x) = withinLimit x
 
 unfoldable pub gateFits : Gate → Bool
 gateFits g = counter (g .received) && counter (g .block) && counter (g .flagged) && runFits (g .run) (g .received - 16) && leftFits (g .left)
-
--- 1e36
-abbrev pub powerLimit : Float
-powerLimit = ofBits binary64 0x4768_12f9_cf79_20e3
 
 -- not: 'a window power not within 1e36; a window .. power with its sign bit set'
 unfoldable pub powerFits : Float → Bool

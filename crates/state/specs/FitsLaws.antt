@@ -9,7 +9,7 @@ use borrow.Author.Tests.{leb-true, eqb-true}
 use Rattle.rules.specs.TestLaws.{both}
 use Rattle.rules.specs.Constants.{zeroF}
 use Rattle.rules.specs.Refusals.{withinLimit}
-use Rattle.rules.specs.Chain.{blockLength}
+use Rattle.rules.specs.Impulse.{blockLength}
 use Rattle.part_limit.specs.Limit.{limited}
 use Rattle.log.specs.Check.{allTo, ringFits, logFits}
 use Rattle.impulse.specs.declared.Open.{Open}
