@@ -5,8 +5,8 @@ use Prim.Native.Nat.{ℕ, zero, suc, _*_}
 use lib.Dec.{eqb}
 use lib.ListN.{length}
 use lib.Ieee.{Float}
-use Rattle.rules.specs.Iq.{Settled, isOff, observing, withheld, correcting}
-use Rattle.rules.specs.Log.{Span, ringNumber, iq, isUncertain}
+use Rattle.rules.specs.Iq.{Settled, Off, Observing, Withheld, Correcting}
+use Rattle.rules.specs.Log.{Span, ringNumber, iq, Uncertain}
 use Rattle.rules.specs.Monitor.{noReport, report, suspectedSpan}
 use Rattle.rules.specs.Refusals.{Cause, firstOf, badLength}
 use Rattle.log.specs.declared.Log.{Log}
@@ -69,16 +69,16 @@ answerOf monitor.Early = hop.Early
 answerOf (monitor.Beyond k) = hop.Beyond k
 
 abbrev pub isOffIq : Settled → Bool
-isOffIq isOff = true
-isOffIq observing = false
-isOffIq (correcting r) = false
-isOffIq withheld = false
+isOffIq Off = true
+isOffIq Observing = false
+isOffIq (Correcting r) = false
+isOffIq Withheld = false
 
 abbrev pub isObserving : Settled → Bool
-isObserving isOff = false
-isObserving observing = true
-isObserving (correcting r) = false
-isObserving withheld = false
+isObserving Off = false
+isObserving Observing = true
+isObserving (Correcting r) = false
+isObserving Withheld = false
 
 abbrev numbered : ℕ → Said → Said
 numbered zero s = s
@@ -107,7 +107,7 @@ suspectedBy monitor.Early = []
 suspectedBy (monitor.Beyond k) = []
 
 abbrev pub uncertain : ℕ → Logged → Span → Logged
-uncertain cap x m = markedAt cap x (ringNumber iq isUncertain) m
+uncertain cap x m = markedAt cap x (ringNumber iq Uncertain) m
 
 -- 'A suspected window is marked Uncertain only while observing.'
 abbrev pub noted : ℕ → Bool → HopAnswer → Logged → Logged

@@ -81,7 +81,7 @@ storeFits cap words = ltb 0 cap && leb cap spanLimit && eqb words (24 * cap)
 
 -- not: 'ring count or head out of range'
 abbrev pub readable : ℕ → Ring → Bool
-readable cap r = ltb (r .head) cap && leb (r .len) cap
+readable cap r = ltb (r .head) cap && leb (r .count) cap
 
 -- the spans of ring number k, the oldest first
 abbrev pub spansIn : InputConditioner → List ℕ → ℕ → List Span

@@ -9,7 +9,7 @@ use Rattle.rules.specs.Impulse.{Setting, standard, blockLength, handedOn, looka
 use Rattle.rules.specs.Dc.{corner, firstLevel, levelAfter}
 use Rattle.rules.specs.Iq.{Mode, off, observe, apply}
 use Rattle.rules.specs.Log as rules
-use Rattle.rules.specs.Log.{Stage, impulse, dc, iq, Mark, isRepaired, isFlagged, isCorrected, isUncertain, ringNumber}
+use Rattle.rules.specs.Log.{Stage, impulse, dc, iq, Mark, Repaired, Flagged, Corrected, Uncertain, ringNumber}
 use Rattle.rules.specs.Monitor.{Hop}
 use Rattle.rules.specs.TestLaws.{and-so}
 use Rattle.rules.specs.Lists.{upTo}
@@ -42,18 +42,18 @@ use Rattle.record.specs.GoodRepairs.{repairs-good}
 
 -- what holds of each stage's and mark's ring holds of every ring by its number
 by-ring : (P : ℕ → Type 0) → ((st : Stage) (m : Mark) → P (ringNumber st m)) → (k : ℕ) → k < 12 → P k
-by-ring P f zero h = f impulse isRepaired
-by-ring P f (suc zero) h = f impulse isFlagged
-by-ring P f (suc (suc zero)) h = f impulse isCorrected
-by-ring P f (suc (suc (suc zero))) h = f impulse isUncertain
-by-ring P f (suc (suc (suc (suc zero)))) h = f dc isRepaired
-by-ring P f (suc (suc (suc (suc (suc zero))))) h = f dc isFlagged
-by-ring P f (suc (suc (suc (suc (suc (suc zero)))))) h = f dc isCorrected
-by-ring P f (suc (suc (suc (suc (suc (suc (suc zero))))))) h = f dc isUncertain
-by-ring P f (suc (suc (suc (suc (suc (suc (suc (suc zero)))))))) h = f iq isRepaired
-by-ring P f (suc (suc (suc (suc (suc (suc (suc (suc (suc zero))))))))) h = f iq isFlagged
-by-ring P f (suc (suc (suc (suc (suc (suc (suc (suc (suc (suc zero)))))))))) h = f iq isCorrected
-by-ring P f (suc (suc (suc (suc (suc (suc (suc (suc (suc (suc (suc zero))))))))))) h = f iq isUncertain
+by-ring P f zero h = f impulse Repaired
+by-ring P f (suc zero) h = f impulse Flagged
+by-ring P f (suc (suc zero)) h = f impulse Corrected
+by-ring P f (suc (suc (suc zero))) h = f impulse Uncertain
+by-ring P f (suc (suc (suc (suc zero)))) h = f dc Repaired
+by-ring P f (suc (suc (suc (suc (suc zero))))) h = f dc Flagged
+by-ring P f (suc (suc (suc (suc (suc (suc zero)))))) h = f dc Corrected
+by-ring P f (suc (suc (suc (suc (suc (suc (suc zero))))))) h = f dc Uncertain
+by-ring P f (suc (suc (suc (suc (suc (suc (suc (suc zero)))))))) h = f iq Repaired
+by-ring P f (suc (suc (suc (suc (suc (suc (suc (suc (suc zero))))))))) h = f iq Flagged
+by-ring P f (suc (suc (suc (suc (suc (suc (suc (suc (suc (suc zero)))))))))) h = f iq Corrected
+by-ring P f (suc (suc (suc (suc (suc (suc (suc (suc (suc (suc (suc zero))))))))))) h = f iq Uncertain
 by-ring P f (suc (suc (suc (suc (suc (suc (suc (suc (suc (suc (suc (suc k)))))))))))) h = absurd (omega arith)
 
 min-less : (n a : ℕ) → n - a ≡ n - min a n
@@ -178,7 +178,7 @@ module _ (g : ConditioningConfig) (f : Fit g) (xs : List ℕ) (hs : List Hop) (r
       all-of (λ k. ringFits (g .spans) (ringOf (hopLogged (core g xs) (hopMarks g hs) .log) k) (countOf (hopLogged (core g xs) (hopMarks g hs) .log) k)) 12
       (by-ring (λ k. ringFits (g .spans) (ringOf (hopLogged (core g xs) (hopMarks g hs) .log) k) (countOf (hopLogged (core g xs) (hopMarks g hs) .log) k) ≡ true)
       (λ st m.
-      ap (λ (q : rules.Marks). ringFits (g .spans) (bare (q .ring)) (q .count)) (rings-are g (f .blocks) xs (r .usable) (f .limits .some-spans) hs st m)
+      ap (λ (q : rules.Marks). ringFits (g .spans) (bare (q .ring)) (q .samples)) (rings-are g (f .blocks) xs (r .usable) (f .limits .some-spans) hs st m)
       ∙ ring-good (configOf g) xs hs (f .limits .some-spans) (r .few) (f .limits .size) (r .order) st m .0))
 
   ends-good : endsFit (g .spans) (hopLogged (core g xs) (hopMarks g hs)) ≡ true

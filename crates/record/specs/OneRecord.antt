@@ -11,7 +11,7 @@ use lib.Ieee.{Float}
 use Rattle.complex.specs.View.{view64}
 use Rattle.rules.specs.Dc.{corner, firstLevel, levelAfter, blockedAll}
 use Rattle.rules.specs.Guard.{usable, firstUnusableFrom}
-use Rattle.rules.specs.Iq.{off, isOff, settled, correctedBy}
+use Rattle.rules.specs.Iq.{off, Off, settled, correctedBy}
 use Rattle.rules.specs.Log.{repairsOf}
 use Rattle.rules.specs.Monitor.{Hop, hopEnd}
 use Rattle.rules.specs.Refusals.{badStart, tooMany, unusableAt, anyUnusable}
@@ -280,7 +280,7 @@ module _ (g : ConditioningConfig) (f : Fit g) (xs : List ℕ) (hs : List Hop) (r
   unfolding rules.released afterDc settled
   alone d q =
       (λ i. map (correctedBy (settled (q i) (calibratedOf (g .calibration)) (g .centre))) (cond (isApply (d i)) (blockedAll (corner (g .fs)) firstLevel (afterImpulse (configOf g) xs)) (afterImpulse (configOf g) xs)))
-      ∙ sym (unchanged isOff (λ w. refl) (afterImpulse (configOf g) xs))
+      ∙ sym (unchanged Off (λ w. refl) (afterImpulse (configOf g) xs))
 
   at-undone : modeOf (g .dc) ≡ off → modeOf (g .iq) ≡ off → length (repairsOf (impulseEvents (configOf g) xs)) ≤ g .repairs
       → undoOf (chainAt g xs hs .machine .state) (chainAt g xs hs .machine .repairs) (chainAt g xs hs .released) 0 ≡ record { said = undo.restored; samples = take (length (chainAt g xs hs .released)) xs }

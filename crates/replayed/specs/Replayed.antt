@@ -13,7 +13,7 @@ use lib.Ieee.{Float}
 use lib.Seq.{take-all, length-take-le, drop-append-seam}
 use Rattle.rules.specs.Guard.{guarded, unusable}
 use Rattle.rules.specs.Iq.{Mode, off, observe, apply, Calibrated, none, with}
-use Rattle.rules.specs.Log.{Stage, impulse, dc, iq, Mark, isRepaired, isFlagged, isCorrected, isUncertain, Marks, ringNumber}
+use Rattle.rules.specs.Log.{Stage, impulse, dc, iq, Mark, Repaired, Flagged, Corrected, Uncertain, Marks, ringNumber}
 use Rattle.rules.specs.Log as log
 use Rattle.rules.specs.RingReading.{spansOf}
 use Rattle.rules.specs.Refusals.{firstOf, tooMany}
@@ -122,7 +122,7 @@ module _ (g : ConditioningConfig) (f : Fit g) (raw : List ℕ) (r : Reached g (g
       λ i.
       cond
       ((lt-ltb 0 cap (omega (arith, capacity-is, f .limits .some-spans)) i && le-leb cap 256 (omega (arith, capacity-is, f .limits .few-spans)) i && eq-eqb (length (chain .machine .spans)) (24 * cap) (spans-long g f (guarded raw) [] r) i)
-      && (lt-ltb (ringOf (c .log) k .head) cap (t .headIn) i && le-leb (ringOf (c .log) k .len) cap (t .lenIn) i))
+      && (lt-ltb (ringOf (c .log) k .head) cap (t .headIn) i && le-leb (ringOf (c .log) k .count) cap (t .countIn) i))
       (spansOf (capacity-is i) (marksAt (capacity-is i) (record { log = c .log; spans = chain .machine .spans }) k .ring))
       []
 
@@ -133,7 +133,7 @@ module _ (g : ConditioningConfig) (f : Fit g) (raw : List ℕ) (r : Reached g (g
       record {
         stage = s;
         mark = m;
-        count = ring-is s m i .count;
+        count = ring-is s m i .samples;
         spans = (spans-shown (ringNumber s m) h ∙ ap (λ (x : Marks). spansOf (g .spans) (x .ring)) (ring-is s m)) i;
       }
 
@@ -150,18 +150,18 @@ module _ (g : ConditioningConfig) (f : Fit g) (raw : List ℕ) (r : Reached g (g
   sum-is =
       omega (
         arith,
-        drop-is impulse isRepaired,
-        drop-is impulse isFlagged,
-        drop-is impulse isCorrected,
-        drop-is impulse isUncertain,
-        drop-is dc isRepaired,
-        drop-is dc isFlagged,
-        drop-is dc isCorrected,
-        drop-is dc isUncertain,
-        drop-is iq isRepaired,
-        drop-is iq isFlagged,
-        drop-is iq isCorrected,
-        drop-is iq isUncertain,
+        drop-is impulse Repaired,
+        drop-is impulse Flagged,
+        drop-is impulse Corrected,
+        drop-is impulse Uncertain,
+        drop-is dc Repaired,
+        drop-is dc Flagged,
+        drop-is dc Corrected,
+        drop-is dc Uncertain,
+        drop-is iq Repaired,
+        drop-is iq Flagged,
+        drop-is iq Corrected,
+        drop-is iq Uncertain,
       )
 
   drops-are : droppedInAll (chain .machine .state .log) ≡ sum _+_ 0 (ringsOf (λ s m. rules.ringOf (configOf g) (guarded raw) [] s m .ring .dropped))
@@ -178,9 +178,9 @@ module _ (g : ConditioningConfig) (f : Fit g) (raw : List ℕ) (r : Reached g (g
         final = (by .count ∙ ap length (by .released ∙ ap (rules.released (configOf g)) brought-is)) i;
         held = (by .held ∙ ap (rules.heldOf (configOf g)) brought-is) i;
         rings =
-            ring-shown impulse isRepaired (omega arith) i ∷ ring-shown impulse isFlagged (omega arith) i ∷ ring-shown impulse isCorrected (omega arith) i ∷ ring-shown impulse isUncertain (omega arith) i
-            ∷ ring-shown dc isRepaired (omega arith) i ∷ ring-shown dc isFlagged (omega arith) i ∷ ring-shown dc isCorrected (omega arith) i ∷ ring-shown dc isUncertain (omega arith) i
-            ∷ ring-shown iq isRepaired (omega arith) i ∷ ring-shown iq isFlagged (omega arith) i ∷ ring-shown iq isCorrected (omega arith) i ∷ ring-shown iq isUncertain (omega arith) i
+            ring-shown impulse Repaired (omega arith) i ∷ ring-shown impulse Flagged (omega arith) i ∷ ring-shown impulse Corrected (omega arith) i ∷ ring-shown impulse Uncertain (omega arith) i
+            ∷ ring-shown dc Repaired (omega arith) i ∷ ring-shown dc Flagged (omega arith) i ∷ ring-shown dc Corrected (omega arith) i ∷ ring-shown dc Uncertain (omega arith) i
+            ∷ ring-shown iq Repaired (omega arith) i ∷ ring-shown iq Flagged (omega arith) i ∷ ring-shown iq Corrected (omega arith) i ∷ ring-shown iq Uncertain (omega arith) i
             ∷ [];
         droppedSpans = drops-are i;
         droppedRepairs = (ap (λ (x : log.Ring). x .dropped) (by .repairs ∙ ap (rules.repairRing (configOf g)) brought-is)) i;

@@ -15,8 +15,8 @@ abbrev pub zeroF : Float
 zeroF = ofBits binary64 0
 
 -- 0.5
-abbrev pub half : Float
-half = ofBits binary64 0x3fe0_0000_0000_0000
+abbrev pub oneHalf : Float
+oneHalf = ofBits binary64 0x3fe0_0000_0000_0000
 
 -- 1.0
 abbrev pub one : Float

@@ -10,7 +10,7 @@ use Rattle.rules.specs.Constants.{zeroF, powerLimit, counterLimit}
 use Rattle.rules.specs.Sort.{sort}
 use Rattle.rules.specs.Guard.{magnitude}
 use Rattle.rules.specs.Refusals.{withinLimit}
-use Rattle.rules.specs.Iq.{Settled, isOff, observing, withheld, correcting, accepted}
+use Rattle.rules.specs.Iq.{Settled, Off, Observing, Withheld, Correcting, accepted}
 use Rattle.rules.specs.Impulse.{blockLength}
 use Rattle.part_limit.specs.Limit.{limited}
 use Rattle.log.specs.Check.{allTo, ringFits, logFits}
@@ -97,10 +97,10 @@ blockerFits b = counter (b .n) && limited (b .dc .re) && limited (b .dc .im)
 
 -- not: 'a coefficient unfit'
 abbrev pub coefficientFits : Settled → Bool
-coefficientFits isOff = true
-coefficientFits observing = true
-coefficientFits withheld = true
-coefficientFits (correcting r) = accepted r
+coefficientFits Off = true
+coefficientFits Observing = true
+coefficientFits Withheld = true
+coefficientFits (Correcting r) = accepted r
 
 -- not: 'a mirror window's first after its end'
 abbrev pub begunFits : Begun → ℕ → Bool

@@ -336,7 +336,7 @@ fn write_counts(state: InputConditioner, words: &mut [u64; WORDS]) {
 }
 
 fn write_ring(ring: Ring, words: &mut [u64; WORDS], at: usize) {
-    let list = [ring.head as u64, ring.len as u64, ring.dropped];
+    let list = [ring.head as u64, ring.count as u64, ring.dropped];
     put(&list, words, at);
 }
 
@@ -490,7 +490,7 @@ fn read_ring(words: &[u64], at: usize) -> Ring
 {
     Ring {
         head: word(words, at) as usize,
-        len: word(words, at + 1) as usize,
+        count: word(words, at + 1) as usize,
         dropped: word(words, at + 2),
     }
 }

@@ -61,4 +61,4 @@ module _ (c : InputConditioner) (repairs : List ℕ) where
   ring-sound f l =
       let t = state-fit c f in
       let r = ring-range (c .settings .repairs) (c .repairs) (c .longruns) (t .repairs) in
-      record { some = t .settings .some-repairs; long = l; headIn = r .headIn; lenIn = r .lenIn }
+      record { some = t .settings .some-repairs; long = l; headIn = r .headIn; countIn = r .countIn }
