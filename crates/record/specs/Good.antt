@@ -26,7 +26,7 @@ use Rattle.iq.specs.View.{modeOf, settledOf}
 use Rattle.image.specs.Words.{wordsFit}
 use Rattle.config.specs.declared.ConditioningConfig.{ConditioningConfig}
 use Rattle.config.specs.Config.{configOf}
-use Rattle.state.specs.Fits.{heldBy, applies, settingsFit, countsFit, gateFits, suppressorFits, blockerFits, coefficientFits, monitorFits, frontFits, impulseFits, logsFit, stagesFit, stateFits}
+use Rattle.state.specs.Fits.{heldBy, applies, settingsFit, countsFit, gateFits, suppressorFits, blockerFits, coefficientFits, monitorFits, frontFits, logsFit, stagesFit, stateFits}
 use Rattle.making.specs.Making.{freshState, freshSettings}
 use Rattle.making.specs.MakingLaws.{settled-again}
 use Rattle.chain.specs.Stages.{impulseOut, process}
@@ -35,7 +35,7 @@ use Rattle.record.specs.Hopping.{withHops, hopLogged}
 use Rattle.record.specs.Reaching.{freshMachine, hopMarks, core, chainAt, Reached}
 use Rattle.record.specs.ByRules.{impulse-out, impulse-state, dc-state, repairs-is, long-is, rings-are}
 use Rattle.record.specs.Made.{Fit}
-use Rattle.record.specs.GoodImpulse.{gate-good, suppressor-good, fresh-gate-good}
+use Rattle.record.specs.GoodImpulse.{gate-good, suppressor-good, fresh-gate-good, fresh-suppressor-good}
 use Rattle.record.specs.GoodStages.{blocker-good, fresh-blocker-good, coefficient-good, monitor-good, words-good, counts-good, held-most, settings-good}
 use Rattle.record.specs.GoodRings.{ring-good}
 use Rattle.record.specs.GoodRepairs.{repairs-good}
@@ -158,13 +158,12 @@ module _ (g : ConditioningConfig) (f : Fit g) (xs : List ℕ) (hs : List Hop) (r
   unfolding frontFits
   front-fit = and-so _ _ (and-so _ _ settings-fit counts-fit) gate-fit
 
-  suppressor-by : (b : Bool) → cond b (suppressorFits (cond b (stateOf setting xs) (fresh setting)) (length xs)) true ≡ true
+  suppressor-by : (b : Bool) → suppressorFits (cond b (stateOf setting xs) (fresh setting)) b (length xs) ≡ true
   suppressor-by true = suppressor-good (blockLength (g .fs)) (isApply mode) xs (r .usable) (r .few)
-  suppressor-by false = refl
+  suppressor-by false = fresh-suppressor-good setting (length xs)
 
-  impulse-fit : impulseFits (chainAt g xs hs .machine .state) ≡ true
-  unfolding impulseFits
-  impulse-fit = (λ i. cond (running i) (suppressorFits (suppressor-is i) (seen-is i)) true) ∙ suppressor-by (runs mode)
+  suppressor-fit : let c = chainAt g xs hs .machine .state in suppressorFits (c .suppressor) (c .settings .impulse) (c .seen) ≡ true
+  suppressor-fit = (λ i. suppressorFits (suppressor-is i) (running i) (seen-is i)) ∙ suppressor-by (runs mode)
 
   -- ---- the rings
 
@@ -231,7 +230,7 @@ module _ (g : ConditioningConfig) (f : Fit g) (xs : List ℕ) (hs : List Hop) (r
 
   pub state-good : stateFits (chainAt g xs hs .machine .state) ≡ true
   unfolding stateFits
-  state-good = and-so _ _ (and-so _ _ (and-so _ _ front-fit impulse-fit) logs-fit) stages-fit
+  state-good = and-so _ _ (and-so _ _ (and-so _ _ front-fit suppressor-fit) logs-fit) stages-fit
 
   pub spans-good : let c = chainAt g xs hs .machine .state in endsFit (c .settings .spans) (record { log = c .log; spans = chainAt g xs hs .machine .spans }) ≡ true
   unfolding freshSettings
