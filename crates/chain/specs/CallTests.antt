@@ -2,27 +2,88 @@
 use mathlib.Core.Path.{_≡_, refl, sym, ap, _∙_}
 use mathlib.Core.Bool.{Bool, true, false, not, cond, false≢true}
 use mathlib.Core.List.{List, [], _∷_}
-use Prim.Native.Nat.{ℕ, suc, _+_, _-_, _*_, _^_, _≤_, _<_}
+use Prim.Native.Nat.{ℕ, zero, suc, _+_, _-_, _*_, _^_, _≤_}
 use native.Mathlib.Omega.{arith}
-use lib.Dec.{eqb, ltb}
-use borrow.Author.Tests.{lt-ltb, le-ltb, eq-eqb, ltb-true, ltb-false}
+use lib.Dec.{T, eqb, ltb}
+use borrow.Author.Tests.{lt-ltb, le-ltb, eqb-true, ltb-true, ltb-false}
 use lib.ListN.{length, drop}
 use Rattle.rules.specs.Guard.{usable, firstUnusableFrom}
 use Rattle.rules.specs.Refusals.{firstOf, tooMany, unusableAt, anyUnusable}
 use Rattle.part_limit.specs.Limit.{returned}
 use Rattle.log.specs.Check.{endsFit}
+use Rattle.impulse.specs.Stage.{Usable}
 use Rattle.sample_guard.specs.declared.Found.{Found}
 use Rattle.sample_guard.specs.declared.Found.the-variants.{At, Nothing}
 use Rattle.sample_guard.specs.Found.{found, placeIn}
 use Rattle.state.specs.declared.InputConditioner.{InputConditioner}
 use Rattle.state.specs.Fits.{stateFits}
-use Rattle.chain.specs.Stages.{newPart, Machine, machineOf, Stored, Acceptable}
-use Rattle.chain.specs.Calls.{callRefusal, Said, refused, Outcome, taken, declined, called}
+use Rattle.chain.specs.Stages.{newPart, Machine, machineOf, Acceptable}
+use Rattle.chain.specs.Calls.{unreadRefusal, callRefusal, Said, refused, numberOf, toldUnread, Outcome, taken, declined, called}
 
 -- a call's number by the answers of its tests
 abbrev pub callNumber : Bool → Bool → Bool → Bool → Bool → Bool → Bool → ℕ
 callNumber fits repairs spans ends short many unusable =
     cond (not fits) 5 (cond (not repairs) 4 (cond (not spans) 4 (cond (not ends) 5 (cond short 6 (cond many 8 (cond unusable 7 0))))))
+
+-- 7 behind another number
+abbrev orUnusable : ℕ → Bool → ℕ
+orUnusable zero u = cond u 7 0
+orUnusable (suc k) u = suc k
+
+-- the number of what is told unread
+pub told-number : (n k : ℕ) (s : Said) → s ≡ toldUnread n → k ≡ numberOf s → n ≡ k
+told-number n k s e q = go n ∙ sym (q ∙ ap numberOf e)
+  where
+    go : (n : ℕ) → n ≡ numberOf (toldUnread n)
+    go zero = refl
+    go (suc k) = refl
+
+module _ (c : InputConditioner) (len : ℕ) (spans repairs : List ℕ) where
+  pub unread-by : (f r s e h t : Bool)
+      → stateFits c ≡ f
+      → eqb (length repairs) (6 * c .settings .repairs) ≡ r
+      → eqb (length spans) (24 * c .settings .spans) ≡ s
+      → endsFit (c .settings .spans) (record { log = c .log; spans = spans }) ≡ e
+      → ltb len (c .held) ≡ h
+      → tooMany (c .seen) (len - c .held) .holds ≡ t
+      → unreadRefusal c len spans repairs ≡ callNumber f r s e h t false
+  unfolding unreadRefusal firstOf
+  unread-by f r s e h t a1 a2 a3 a4 a5 a6 = λ i. callNumber (a1 i) (a2 i) (a3 i) (a4 i) (a5 i) (a6 i) false
+
+  -- what is not refused unread has passed all its tests
+  pub record Passes : Type 0 where
+    pub fits : stateFits c ≡ true
+    pub repairs-long : length repairs ≡ 6 * c .settings .repairs
+    pub spans-long : length spans ≡ 24 * c .settings .spans
+    pub ends : endsFit (c .settings .spans) (record { log = c .log; spans = spans }) ≡ true
+    pub held-in : c .held ≤ len
+    pub few : len - c .held ≤ 2 ^ 48 - c .seen
+
+  pub passes : unreadRefusal c len spans repairs ≡ 0 → Passes
+  passes z =
+      go (stateFits c) (eqb (length repairs) (6 * c .settings .repairs)) (eqb (length spans) (24 * c .settings .spans)) (endsFit (c .settings .spans) (record { log = c .log; spans = spans }))
+      (ltb len (c .held)) (tooMany (c .seen) (len - c .held) .holds)
+      refl refl refl refl refl refl (sym (unread-by _ _ _ _ _ _ refl refl refl refl refl refl) ∙ z)
+    where
+      go : (f r s e h t : Bool)
+          → stateFits c ≡ f
+          → eqb (length repairs) (6 * c .settings .repairs) ≡ r
+          → eqb (length spans) (24 * c .settings .spans) ≡ s
+          → endsFit (c .settings .spans) (record { log = c .log; spans = spans }) ≡ e
+          → ltb len (c .held) ≡ h
+          → tooMany (c .seen) (len - c .held) .holds ≡ t
+          → callNumber f r s e h t false ≡ 0
+          → Passes
+      go true true true true false false a1 a2 a3 a4 a5 a6 q =
+          let long = ltb-false len (c .held) a5 in
+          let few = ltb-false (2 ^ 48) (c .seen + (len - c .held)) a6 in
+          record { fits = a1; repairs-long = eqb-true _ _ a2; spans-long = eqb-true _ _ a3; ends = a4; held-in = omega arith; few = omega arith }
+      go true true true true false true a1 a2 a3 a4 a5 a6 q = absurd (omega arith)
+      go true true true true true t a1 a2 a3 a4 a5 a6 q = absurd (omega arith)
+      go true true true false h t a1 a2 a3 a4 a5 a6 q = absurd (omega arith)
+      go true true false e h t a1 a2 a3 a4 a5 a6 q = absurd (omega arith)
+      go true false s e h t a1 a2 a3 a4 a5 a6 q = absurd (omega arith)
+      go false r s e h t a1 a2 a3 a4 a5 a6 q = absurd (omega arith)
 
 module _ (c : InputConditioner) (samples spans repairs : List ℕ) where
   pub refusal-by : (f r s e h t u : Bool)
@@ -62,6 +123,16 @@ first-shift k j (w ∷ ws) =
         → cond b (firstUnusableFrom (suc (k + j)) ws) (k + j) ≡ k + cond b (firstUnusableFrom (suc j) ws) j
     go true rest = rest
     go false rest = refl
+
+-- a scan of usable samples goes to the end
+pub scan-all : (k : ℕ) (ws : List ℕ) → Usable ws → firstUnusableFrom k ws ≡ k + length ws
+unfolding firstUnusableFrom
+scan-all k [] u = omega arith
+scan-all k (w ∷ ws) u = go (usable w) (u .0) (scan-all (suc k) ws (u .1))
+  where
+    go : (b : Bool) → T b → firstUnusableFrom (suc k) ws ≡ suc k + length ws → cond b (firstUnusableFrom (suc k) ws) k ≡ k + length (w ∷ ws)
+    go true t e = omega (arith, e)
+    go false t e = absurd t
 
 -- ---- what the scan found
 
@@ -125,42 +196,56 @@ module _ (c : InputConditioner) (samples spans repairs : List ℕ) where
       ∙ ap (λ (b : Bool). declined (machineOf c spans repairs) samples (cond b [] (cond (eqb n 7) (n ∷ unusableAt (c .held) (newPart c samples) ∷ []) (n ∷ [])))) z
       ∙ ap (λ (b : Bool). declined (machineOf c spans repairs) samples (cond b (n ∷ unusableAt (c .held) (newPart c samples) ∷ []) (n ∷ []))) p)
 
-  pub unfit-state : stateFits c ≡ false → Is (called (machineOf c spans repairs) samples) (refused (5 ∷ [])) (machineOf c spans repairs) samples
-  unfit-state f = by-number 5 (refusal-by c samples spans repairs false _ _ _ _ _ _ f refl refl refl refl refl refl) refl refl
+  -- 7 is told last
+  by-order : (u : Bool) → anyUnusable (c .held) (newPart c samples) .holds ≡ u → callRefusal c samples spans repairs ≡ orUnusable (unreadRefusal c (length samples) spans repairs) u
+  by-order u q =
+      refusal-by c samples spans repairs _ _ _ _ _ _ u refl refl refl refl refl refl q
+      ∙ go (stateFits c) (eqb (length repairs) (6 * c .settings .repairs)) (eqb (length spans) (24 * c .settings .spans)) (endsFit (c .settings .spans) (record { log = c .log; spans = spans }))
+      (ltb (length samples) (c .held)) (tooMany (c .seen) (length samples - c .held) .holds)
+      ∙ ap (λ (n : ℕ). orUnusable n u) (sym (unread-by c (length samples) spans repairs _ _ _ _ _ _ refl refl refl refl refl refl))
+    where
+      go : (f r s e h t : Bool) → callNumber f r s e h t u ≡ orUnusable (callNumber f r s e h t false) u
+      go false r s e h t = refl
+      go true false s e h t = refl
+      go true true false e h t = refl
+      go true true true false h t = refl
+      go true true true true true t = refl
+      go true true true true false true = refl
+      go true true true true false false = refl
 
-  pub repairs-wrong : stateFits c ≡ true → eqb (length repairs) (6 * c .settings .repairs) ≡ false → Is (called (machineOf c spans repairs) samples) (refused (4 ∷ [])) (machineOf c spans repairs) samples
-  repairs-wrong f r = by-number 4 (refusal-by c samples spans repairs true false _ _ _ _ _ f r refl refl refl refl refl) refl refl
+  -- what is refused unread is no 7
+  no-seven : (f r s e h t : Bool) → eqb (callNumber f r s e h t false) 7 ≡ false
+  no-seven false r s e h t = refl
+  no-seven true false s e h t = refl
+  no-seven true true false e h t = refl
+  no-seven true true true false h t = refl
+  no-seven true true true true true t = refl
+  no-seven true true true true false true = refl
+  no-seven true true true true false false = refl
 
-  pub spans-wrong : stateFits c ≡ true → eqb (length repairs) (6 * c .settings .repairs) ≡ true → eqb (length spans) (24 * c .settings .spans) ≡ false → Is (called (machineOf c spans repairs) samples) (refused (4 ∷ [])) (machineOf c spans repairs) samples
-  spans-wrong f r s = by-number 4 (refusal-by c samples spans repairs true true false _ _ _ _ f r s refl refl refl refl) refl refl
+  -- and leaves all
+  pub unread-declined : (n : ℕ) → unreadRefusal c (length samples) spans repairs ≡ n → eqb n 0 ≡ false → Is (called (machineOf c spans repairs) samples) (toldUnread n) (machineOf c spans repairs) samples
+  unread-declined zero e z = absurd (false≢true (sym z))
+  unread-declined (suc k) e z =
+      let seven = ap (λ (m : ℕ). eqb m 7) (sym e ∙ unread-by c (length samples) spans repairs _ _ _ _ _ _ refl refl refl refl refl refl) in
+      by-number (suc k) (by-order _ refl ∙ ap (λ (m : ℕ). orUnusable m (anyUnusable (c .held) (newPart c samples) .holds)) e) z
+      (seven
+      ∙ no-seven (stateFits c) (eqb (length repairs) (6 * c .settings .repairs)) (eqb (length spans) (24 * c .settings .spans)) (endsFit (c .settings .spans) (record { log = c .log; spans = spans }))
+      (ltb (length samples) (c .held)) (tooMany (c .seen) (length samples - c .held) .holds))
 
-  pub unfit-spans : stateFits c ≡ true → eqb (length repairs) (6 * c .settings .repairs) ≡ true → eqb (length spans) (24 * c .settings .spans) ≡ true
-      → endsFit (c .settings .spans) (record { log = c .log; spans = spans }) ≡ false → Is (called (machineOf c spans repairs) samples) (refused (5 ∷ [])) (machineOf c spans repairs) samples
-  unfit-spans f r s e = by-number 5 (refusal-by c samples spans repairs true true true false _ _ _ f r s e refl refl refl) refl refl
+  module _ (z : unreadRefusal c (length samples) spans repairs ≡ 0) where
+    pub unusable-sample : (k : ℕ) → (anyUnusable (c .held) (newPart c samples) .holds ≡ true) × (unusableAt (c .held) (newPart c samples) ≡ c .held + k)
+        → Is (called (machineOf c spans repairs) samples) (refused (7 ∷ (c .held + k) ∷ [])) (machineOf c spans repairs) samples
+    unfolding returned
+    unusable-sample k u =
+        is-by (called (machineOf c spans repairs) samples) (refused (7 ∷ (c .held + k) ∷ [])) (machineOf c spans repairs) samples
+        (declined-by c samples spans repairs 7 (by-order true (u .0) ∙ ap (λ (n : ℕ). orUnusable n true) z) refl
+        ∙ ap (λ (n : ℕ). declined (machineOf c spans repairs) samples (7 ∷ n ∷ [])) (u .1))
 
-  module _ (t : Stored c spans repairs) where
-    by-slice : (h m u : Bool) → ltb (length samples) (c .held) ≡ h → tooMany (c .seen) (length samples - c .held) .holds ≡ m → anyUnusable (c .held) (newPart c samples) .holds ≡ u
-        → callRefusal c samples spans repairs ≡ callNumber true true true true h m u
-    by-slice h m u = refusal-by c samples spans repairs true true true true h m u (t .fits) (eq-eqb _ _ (t .repairs-long)) (eq-eqb _ _ (t .spans-long)) (t .ends)
+    pub accepted-call : anyUnusable (c .held) (newPart c samples) .holds ≡ false → called (machineOf c spans repairs) samples ≡ taken (machineOf c spans repairs) samples
+    accepted-call u = taken-by c samples spans repairs (by-order false u ∙ ap (λ (n : ℕ). orUnusable n false) z)
 
-    pub short-slice : length samples < c .held → Is (called (machineOf c spans repairs) samples) (refused (6 ∷ [])) (machineOf c spans repairs) samples
-    short-slice l = by-number 6 (by-slice true _ _ (lt-ltb _ _ l) refl refl) refl refl
-
-    module _ (long : c .held ≤ length samples) where
-      pub too-many-samples : tooMany (c .seen) (length samples - c .held) .holds ≡ true → Is (called (machineOf c spans repairs) samples) (refused (8 ∷ [])) (machineOf c spans repairs) samples
-      too-many-samples m = by-number 8 (by-slice false true _ (le-ltb _ _ long) m refl) refl refl
-
-      module _ (few : tooMany (c .seen) (length samples - c .held) .holds ≡ false) where
-        pub unusable-sample : (k : ℕ) → (anyUnusable (c .held) (newPart c samples) .holds ≡ true) × (unusableAt (c .held) (newPart c samples) ≡ c .held + k)
-            → Is (called (machineOf c spans repairs) samples) (refused (7 ∷ (c .held + k) ∷ [])) (machineOf c spans repairs) samples
-        unfolding returned
-        unusable-sample k u =
-            is-by (called (machineOf c spans repairs) samples) (refused (7 ∷ (c .held + k) ∷ [])) (machineOf c spans repairs) samples
-            (declined-by c samples spans repairs 7 (by-slice false false true (le-ltb _ _ long) few (u .0)) refl
-            ∙ ap (λ (n : ℕ). declined (machineOf c spans repairs) samples (7 ∷ n ∷ [])) (u .1))
-
-        pub acceptable : Acceptable c samples spans repairs
-        acceptable = let m = ltb-false (2 ^ 48) (c .seen + (length samples - c .held)) few in record { stored = t; held-in = long; few = omega arith }
-
-        pub accepted-call : anyUnusable (c .held) (newPart c samples) .holds ≡ false → called (machineOf c spans repairs) samples ≡ taken (machineOf c spans repairs) samples
-        accepted-call u = taken-by c samples spans repairs (by-slice false false false (le-ltb _ _ long) few u)
+    pub acceptable : length (c .log .rings) ≡ 12 → length (c .log .counts) ≡ 12 → Acceptable c samples spans repairs
+    acceptable rings counts =
+        let p = passes c (length samples) spans repairs z in
+        record { stored = record { fits = p .fits; rings = rings; counts = counts; repairs-long = p .repairs-long; spans-long = p .spans-long; ends = p .ends }; held-in = p .held-in; few = p .few }

@@ -2,15 +2,14 @@
 use mathlib.Core.Path.{_≡_, refl, ap, sym, _∙_, subst}
 use mathlib.Core.Bool.{Bool, true, false, cond, false≢true}
 use mathlib.Core.List.{List, [], _∷_, _++_, map, append-nil, append-assoc}
-use Prim.Native.Nat.{ℕ, suc, _+_, _-_, _*_, _^_, _≤_, _<_}
+use Prim.Native.Nat.{ℕ, _+_, _-_, _*_, _^_, _≤_, _<_}
 use native.Mathlib.Omega.{arith}
-use lib.Dec.{T, eqb, ltb}
+use lib.Dec.{eqb, ltb}
 use borrow.Author.Tests.{eq-eqb, eqb-true, lt-ltb, le-ltb}
 use lib.ListN.{length, length-drop, take, drop}
 use lib.Ieee.{Float}
 use Rattle.complex.specs.View.{view64}
 use Rattle.rules.specs.Dc.{corner, firstLevel, levelAfter, blockedAll}
-use Rattle.rules.specs.Guard.{usable, firstUnusableFrom}
 use Rattle.rules.specs.Iq.{off, isOff, settled, correctedBy}
 use Rattle.rules.specs.Log.{repairsOf}
 use Rattle.rules.specs.Monitor.{Hop, hopEnd}
@@ -35,7 +34,7 @@ use Rattle.chain.specs.Stages.{newPart, handsOn, loggedAfter, process}
 use Rattle.chain.specs.Processing.{hands-length}
 use Rattle.chain.specs.Calls as call
 use Rattle.chain.specs.Calls.{callRefusal, refused, ready, Outcome, taken, declined, called}
-use Rattle.chain.specs.CallTests.{callNumber, refusal-by, taken-by}
+use Rattle.chain.specs.CallTests.{callNumber, refusal-by, taken-by, scan-all}
 use Rattle.hops.specs.Hops as hop
 use Rattle.image.specs.declared.HopAnswer.{HopAnswer}
 use Rattle.image.specs.declared.HopAnswer.the-variants as answer
@@ -312,16 +311,6 @@ proper-append y (o ∷ os) ps p q = (p .0, proper-append (next y o) os ps (p .1)
 proper-hops : (y : Chain) (hs : List Hop) → Proper y (ownHops hs)
 proper-hops y [] = tt
 proper-hops y (h ∷ hs) = (found-hop y h, proper-hops (next y (list.hop own own own h)) hs)
-
--- where the scan goes to the end, nothing is unusable
-scan-all : (k : ℕ) (ws : List ℕ) → Usable ws → firstUnusableFrom k ws ≡ k + length ws
-unfolding firstUnusableFrom
-scan-all k [] u = omega arith
-scan-all k (w ∷ ws) u = go (usable w) (u .0) (scan-all (suc k) ws (u .1))
-  where
-    go : (b : Bool) → T b → firstUnusableFrom (suc k) ws ≡ suc k + length ws → cond b (firstUnusableFrom (suc k) ws) k ≡ k + length (w ∷ ws)
-    go true t e = omega (arith, e)
-    go false t e = absurd t
 
 -- hops in order, cut anywhere
 order-cut : (n end : ℕ) (hs es : List Hop) → InOrder n end (hs ++ es) → InOrder n end hs × InOrder n (lastEnd n end hs) es

@@ -70,7 +70,7 @@ fn feed(
     Played {
         state,
         replaced: std::num::wrapping_add_u64(played.replaced, fed.replaced),
-        number: feeding::call_number(answer),
+        number: calls::number(answer),
         size: 0,
     }
 }
