@@ -1,14 +1,15 @@
 -- A call by the answers of its tests. Assumes nothing.
 use mathlib.Core.Path.{_≡_, refl, sym, ap, _∙_}
 use mathlib.Core.Bool.{Bool, true, false, not, cond, false≢true}
-use mathlib.Core.List.{List, [], _∷_}
+use mathlib.Core.List.{List, [], _∷_, _++_}
 use Prim.Native.Nat.{ℕ, zero, suc, _+_, _-_, _*_, _^_, _≤_}
 use native.Mathlib.Omega.{arith}
 use lib.Dec.{T, eqb, ltb}
-use borrow.Author.Tests.{lt-ltb, le-ltb, eqb-true, ltb-true, ltb-false}
+use borrow.Author.Tests.{lt-ltb, le-ltb, eqb-true, ltb-true, ltb-false, not-false}
 use lib.ListN.{length, drop}
 use Rattle.rules.specs.Guard.{usable, firstUnusableFrom}
-use Rattle.rules.specs.Refusals.{firstOf, tooMany, unusableAt, anyUnusable}
+use Rattle.rules.specs.Refusals.{Cause, firstOf, tooMany, unusableAt, anyUnusable}
+use Rattle.rules.specs.SortLaws.{All}
 use Rattle.part_limit.specs.Limit.{returned}
 use Rattle.log.specs.Check.{endsFit}
 use Rattle.impulse.specs.Stage.{Usable}
@@ -18,17 +19,50 @@ use Rattle.sample_guard.specs.Found.{found, placeIn}
 use Rattle.state.specs.declared.InputConditioner.{InputConditioner}
 use Rattle.state.specs.Fits.{stateFits}
 use Rattle.chain.specs.Stages.{newPart, Machine, machineOf, Acceptable}
-use Rattle.chain.specs.Calls.{unreadRefusal, callRefusal, Said, refused, numberOf, toldUnread, Outcome, taken, declined, called}
+use Rattle.chain.specs.Calls.{unreadCauses, unreadRefusal, callRefusal, Said, refused, numberOf, toldUnread, Outcome, taken, declined, called}
+
+-- ---- the first cause of a list
+
+-- what each cause's number has, and 0
+number-in : (P : ℕ → Type 0) → P 0 → (l : List Cause) → All (λ c. P (c .number)) l → P (firstOf l)
+unfolding firstOf
+number-in P z [] a = z
+number-in P z (c ∷ l) a = go (c .holds) (number-in P z l (a .1))
+  where
+    go : (b : Bool) → P (firstOf l) → P (cond b (c .number) (firstOf l))
+    go true rest = a .0
+    go false rest = rest
+
+abbrev Numbered : List Cause → Type 0
+Numbered l = All (λ c. eqb (c .number) 0 ≡ false) l
+
+-- more causes behind them
+first-append : (l more : List Cause) → Numbered l → firstOf (l ++ more) ≡ cond (eqb (firstOf l) 0) (firstOf more) (firstOf l)
+unfolding firstOf
+first-append [] more a = refl
+first-append (c ∷ l) more a = go (c .holds) (first-append l more (a .1))
+  where
+    go : (b : Bool) → firstOf (l ++ more) ≡ cond (eqb (firstOf l) 0) (firstOf more) (firstOf l)
+        → cond b (c .number) (firstOf (l ++ more)) ≡ cond (eqb (cond b (c .number) (firstOf l)) 0) (firstOf more) (cond b (c .number) (firstOf l))
+    go true rest = sym (ap (λ (z : Bool). cond z (firstOf more) (c .number)) (a .0))
+    go false rest = rest
+
+-- at 0 none holds
+none-holds : (l : List Cause) → Numbered l → firstOf l ≡ 0 → All (λ c. c .holds ≡ false) l
+unfolding firstOf
+none-holds [] a z = tt
+none-holds (c ∷ l) a z = go (c .holds) refl (none-holds l (a .1)) z
+  where
+    go : (b : Bool) → c .holds ≡ b → (firstOf l ≡ 0 → All (λ d. d .holds ≡ false) l) → cond b (c .number) (firstOf l) ≡ 0 → All (λ d. d .holds ≡ false) (c ∷ l)
+    go true e rest q = absurd (false≢true (sym (a .0) ∙ ap (λ (n : ℕ). eqb n 0) q))
+    go false e rest q = (e, rest q)
+
+-- ---- a call's causes
 
 -- a call's number by the answers of its tests
 abbrev pub callNumber : Bool → Bool → Bool → Bool → Bool → Bool → Bool → ℕ
 callNumber fits repairs spans ends short many unusable =
     cond (not fits) 5 (cond (not repairs) 4 (cond (not spans) 4 (cond (not ends) 5 (cond short 6 (cond many 8 (cond unusable 7 0))))))
-
--- 7 behind another number
-abbrev orUnusable : ℕ → Bool → ℕ
-orUnusable zero u = cond u 7 0
-orUnusable (suc k) u = suc k
 
 -- the number of what is told unread
 pub told-number : (n k : ℕ) (s : Said) → s ≡ toldUnread n → k ≡ numberOf s → n ≡ k
@@ -59,31 +93,28 @@ module _ (c : InputConditioner) (len : ℕ) (spans repairs : List ℕ) where
     pub held-in : c .held ≤ len
     pub few : len - c .held ≤ 2 ^ 48 - c .seen
 
+  numbered : Numbered (unreadCauses c len spans repairs)
+  numbered = (refl, (refl, (refl, (refl, (refl, (refl, tt))))))
+
   pub passes : unreadRefusal c len spans repairs ≡ 0 → Passes
+  unfolding unreadRefusal
   passes z =
-      go (stateFits c) (eqb (length repairs) (6 * c .settings .repairs)) (eqb (length spans) (24 * c .settings .spans)) (endsFit (c .settings .spans) (record { log = c .log; spans = spans }))
-      (ltb len (c .held)) (tooMany (c .seen) (len - c .held) .holds)
-      refl refl refl refl refl refl (sym (unread-by _ _ _ _ _ _ refl refl refl refl refl refl) ∙ z)
-    where
-      go : (f r s e h t : Bool)
-          → stateFits c ≡ f
-          → eqb (length repairs) (6 * c .settings .repairs) ≡ r
-          → eqb (length spans) (24 * c .settings .spans) ≡ s
-          → endsFit (c .settings .spans) (record { log = c .log; spans = spans }) ≡ e
-          → ltb len (c .held) ≡ h
-          → tooMany (c .seen) (len - c .held) .holds ≡ t
-          → callNumber f r s e h t false ≡ 0
-          → Passes
-      go true true true true false false a1 a2 a3 a4 a5 a6 q =
-          let long = ltb-false len (c .held) a5 in
-          let few = ltb-false (2 ^ 48) (c .seen + (len - c .held)) a6 in
-          record { fits = a1; repairs-long = eqb-true _ _ a2; spans-long = eqb-true _ _ a3; ends = a4; held-in = omega arith; few = omega arith }
-      go true true true true false true a1 a2 a3 a4 a5 a6 q = absurd (omega arith)
-      go true true true true true t a1 a2 a3 a4 a5 a6 q = absurd (omega arith)
-      go true true true false h t a1 a2 a3 a4 a5 a6 q = absurd (omega arith)
-      go true true false e h t a1 a2 a3 a4 a5 a6 q = absurd (omega arith)
-      go true false s e h t a1 a2 a3 a4 a5 a6 q = absurd (omega arith)
-      go false r s e h t a1 a2 a3 a4 a5 a6 q = absurd (omega arith)
+      let a = none-holds (unreadCauses c len spans repairs) numbered z in
+      let long = ltb-false len (c .held) (a .1 .1 .1 .1 .0) in
+      let few = ltb-false (2 ^ 48) (c .seen + (len - c .held)) (a .1 .1 .1 .1 .1 .0) in
+      record {
+        fits = not-false _ (a .0);
+        repairs-long = eqb-true _ _ (not-false _ (a .1 .0));
+        spans-long = eqb-true _ _ (not-false _ (a .1 .1 .0));
+        ends = not-false _ (a .1 .1 .1 .0);
+        held-in = omega arith;
+        few = omega arith;
+      }
+
+  -- 7 is not among them
+  no-seven : eqb (unreadRefusal c len spans repairs) 7 ≡ false
+  unfolding unreadRefusal
+  no-seven = number-in (λ n. eqb n 7 ≡ false) refl (unreadCauses c len spans repairs) (refl, (refl, (refl, (refl, (refl, (refl, tt))))))
 
 module _ (c : InputConditioner) (samples spans repairs : List ℕ) where
   pub refusal-by : (f r s e h t u : Bool)
@@ -197,41 +228,20 @@ module _ (c : InputConditioner) (samples spans repairs : List ℕ) where
       ∙ ap (λ (b : Bool). declined (machineOf c spans repairs) samples (cond b (n ∷ unusableAt (c .held) (newPart c samples) ∷ []) (n ∷ []))) p)
 
   -- 7 is told last
-  by-order : (u : Bool) → anyUnusable (c .held) (newPart c samples) .holds ≡ u → callRefusal c samples spans repairs ≡ orUnusable (unreadRefusal c (length samples) spans repairs) u
-  by-order u q =
-      refusal-by c samples spans repairs _ _ _ _ _ _ u refl refl refl refl refl refl q
-      ∙ go (stateFits c) (eqb (length repairs) (6 * c .settings .repairs)) (eqb (length spans) (24 * c .settings .spans)) (endsFit (c .settings .spans) (record { log = c .log; spans = spans }))
-      (ltb (length samples) (c .held)) (tooMany (c .seen) (length samples - c .held) .holds)
-      ∙ ap (λ (n : ℕ). orUnusable n u) (sym (unread-by c (length samples) spans repairs _ _ _ _ _ _ refl refl refl refl refl refl))
-    where
-      go : (f r s e h t : Bool) → callNumber f r s e h t u ≡ orUnusable (callNumber f r s e h t false) u
-      go false r s e h t = refl
-      go true false s e h t = refl
-      go true true false e h t = refl
-      go true true true false h t = refl
-      go true true true true true t = refl
-      go true true true true false true = refl
-      go true true true true false false = refl
+  by-order : (n : ℕ) (u : Bool) → unreadRefusal c (length samples) spans repairs ≡ n → anyUnusable (c .held) (newPart c samples) .holds ≡ u
+      → callRefusal c samples spans repairs ≡ cond (eqb n 0) (cond u 7 0) n
+  unfolding callRefusal unreadRefusal firstOf
+  by-order n u e q =
+      first-append (unreadCauses c (length samples) spans repairs) (anyUnusable (c .held) (newPart c samples) ∷ []) (numbered c (length samples) spans repairs)
+      ∙ (λ i. cond (eqb (e i) 0) (cond (q i) 7 0) (e i))
 
-  -- what is refused unread is no 7
-  no-seven : (f r s e h t : Bool) → eqb (callNumber f r s e h t false) 7 ≡ false
-  no-seven false r s e h t = refl
-  no-seven true false s e h t = refl
-  no-seven true true false e h t = refl
-  no-seven true true true false h t = refl
-  no-seven true true true true true t = refl
-  no-seven true true true true false true = refl
-  no-seven true true true true false false = refl
-
-  -- and leaves all
-  pub unread-declined : (n : ℕ) → unreadRefusal c (length samples) spans repairs ≡ n → eqb n 0 ≡ false → Is (called (machineOf c spans repairs) samples) (toldUnread n) (machineOf c spans repairs) samples
+  -- what is refused unread leaves all
+  pub unread-declined : (n : ℕ) → unreadRefusal c (length samples) spans repairs ≡ n → eqb n 0 ≡ false
+      → Is (called (machineOf c spans repairs) samples) (toldUnread n) (machineOf c spans repairs) samples
   unread-declined zero e z = absurd (false≢true (sym z))
   unread-declined (suc k) e z =
-      let seven = ap (λ (m : ℕ). eqb m 7) (sym e ∙ unread-by c (length samples) spans repairs _ _ _ _ _ _ refl refl refl refl refl refl) in
-      by-number (suc k) (by-order _ refl ∙ ap (λ (m : ℕ). orUnusable m (anyUnusable (c .held) (newPart c samples) .holds)) e) z
-      (seven
-      ∙ no-seven (stateFits c) (eqb (length repairs) (6 * c .settings .repairs)) (eqb (length spans) (24 * c .settings .spans)) (endsFit (c .settings .spans) (record { log = c .log; spans = spans }))
-      (ltb (length samples) (c .held)) (tooMany (c .seen) (length samples - c .held) .holds))
+      let u = anyUnusable (c .held) (newPart c samples) .holds in
+      by-number (suc k) (by-order (suc k) u e refl ∙ ap (λ (b : Bool). cond b (cond u 7 0) (suc k)) z) z (ap (λ (m : ℕ). eqb m 7) (sym e) ∙ no-seven c (length samples) spans repairs)
 
   module _ (z : unreadRefusal c (length samples) spans repairs ≡ 0) where
     pub unusable-sample : (k : ℕ) → (anyUnusable (c .held) (newPart c samples) .holds ≡ true) × (unusableAt (c .held) (newPart c samples) ≡ c .held + k)
@@ -239,11 +249,11 @@ module _ (c : InputConditioner) (samples spans repairs : List ℕ) where
     unfolding returned
     unusable-sample k u =
         is-by (called (machineOf c spans repairs) samples) (refused (7 ∷ (c .held + k) ∷ [])) (machineOf c spans repairs) samples
-        (declined-by c samples spans repairs 7 (by-order true (u .0) ∙ ap (λ (n : ℕ). orUnusable n true) z) refl
+        (declined-by c samples spans repairs 7 (by-order 0 true z (u .0)) refl
         ∙ ap (λ (n : ℕ). declined (machineOf c spans repairs) samples (7 ∷ n ∷ [])) (u .1))
 
     pub accepted-call : anyUnusable (c .held) (newPart c samples) .holds ≡ false → called (machineOf c spans repairs) samples ≡ taken (machineOf c spans repairs) samples
-    accepted-call u = taken-by c samples spans repairs (by-order false u ∙ ap (λ (n : ℕ). orUnusable n false) z)
+    accepted-call u = taken-by c samples spans repairs (by-order 0 false z u)
 
     pub acceptable : length (c .log .rings) ≡ 12 → length (c .log .counts) ≡ 12 → Acceptable c samples spans repairs
     acceptable rings counts =
