@@ -276,24 +276,26 @@ fn too_many(seen: u64, new: usize) -> bool
 pub fn refusal(state: InputConditioner, len: usize, spans: &[u64], repairs: &[u64]) -> Conditioned
     ensures { λ r. ⌜ said r ≡ toldUnread (unreadRefusal state len (now (spans .entry)) (now (repairs .entry))) ⌝ }
 {
+    let set = state.settings;
+    let log = state.log;
+    let held = state.held;
+    let seen = state.seen;
     if !state.fits() {
         return Conditioned::BadState;
     }
-    let set = state.settings;
     if repairs.len() != 6 * set.repairs {
         return Conditioned::BadLength;
     }
     if spans.len() != 24 * set.spans {
         return Conditioned::BadLength;
     }
-    let log = state.log;
     if !log.ends_fit(spans, set.spans) {
         return Conditioned::BadState;
     }
-    if len < state.held {
+    if len < held {
         return Conditioned::Short;
     }
-    if too_many(state.seen, len - state.held) {
+    if too_many(seen, len - held) {
         return Conditioned::TooMany;
     }
     Conditioned::Ready(0)
