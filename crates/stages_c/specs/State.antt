@@ -1,6 +1,6 @@
 -- What a caller in another language keeps and hands over, in floats and numbers. Definitions only.
 use mathlib.Core.Bool.{Bool, cond}
-use mathlib.Core.List.{List}
+use mathlib.Core.List.{List, [], _∷_}
 use Prim.Native.Nat.{ℕ}
 use lib.Dec.{eqb}
 use lib.ListN.{getD, set}
@@ -38,3 +38,11 @@ settledRho s isOff = s
 settledRho s observing = s
 settledRho s (correcting z) = put s z
 settledRho s withheld = s
+
+-- ---- a word lent for a place
+
+-- the place that comes with a refusal's number; where there is none the word stays as it was
+abbrev pub placeIn : ℕ → List ℕ → ℕ
+placeIn was [] = was
+placeIn was (n ∷ []) = was
+placeIn was (n ∷ k ∷ l) = k
