@@ -25,8 +25,8 @@ use Rattle.impulse.specs.declared.Left.the-variants.{Neighbour, Missing}
 use Rattle.impulse.specs.declared.Gate.{Gate}
 use Rattle.impulse.specs.declared.Answer.{Answer}
 use Rattle.impulse.specs.declared.Answer.the-variants.{Released, Nothing}
-use Rattle.ordered.specs.Ordered.{ordered, flaggedBy}
-use Rattle.impulse.specs.Machine.{arrived, entered, grown, readRun, mendedWord, writeRun, neighbourOr, going, keptRun, mendedRun, closing, closingPending, ending, endingPending, Judgement, decided, judge, released, windowWith, sortedWith, pendingWith, verdict, push}
+use Rattle.ordered.specs.Ordered.{ordered}
+use Rattle.impulse.specs.Machine.{arrived, entered, grown, readRun, mendedWord, writeRun, neighbourOr, going, keptRun, mendedRun, closing, closingPending, ending, endingPending, Judgement, decided, judge, released, windowWith, sortedWith, pendingWith, verdict, push, flaggedBy}
 use Rattle.impulse.specs.Circle.{circle}
 use Rattle.impulse.specs.CircleLaws.{circle-push, circle-length, circle-read, circle-read-any, circle-blank, circle-is, circle-same, around, apart}
 use Rattle.impulse.specs.RunLaws.{read-run, write-length, write-other, write-in}

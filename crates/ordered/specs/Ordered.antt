@@ -1,17 +1,12 @@
 -- The ordered window: an array of w powers, those of the window in front, ascending, and then zeros. Definitions only.
-use mathlib.Core.Bool.{Bool, cond}
+use mathlib.Core.Bool.{cond}
 use mathlib.Core.List.{List, _++_}
-use Prim.Native.Nat.{ℕ, _+_, _-_, min}
+use Prim.Native.Nat.{ℕ, _+_, _-_}
 use lib.Dec.{ltb}
 use lib.ListN.{take, drop}
 use lib.Ieee.{Float, lt}
 use Rattle.rules.specs.Sort.{insert, remove}
-use Rattle.rules.specs.Impulse.{mean, standsOut}
 
 -- power p comes as the i-th (from 0), and once the window is full the oldest, `old`, goes
 unfoldable pub ordered : ℕ → ℕ → Float → Float → List Float → List Float
 ordered w i old p l = cond (ltb i w) (insert lt p (take i l) ++ drop (i + 1) l) (insert lt p (take (w - 1) (remove lt old l)))
-
--- a sample of power p is flagged, when n samples have come: the strongest `trim` of the window are left out of the mean
-unfoldable pub flaggedBy : ℕ → ℕ → ℕ → List Float → Float → Bool
-flaggedBy w trim n sorted p = standsOut (mean (take (min n w - trim) sorted)) p
