@@ -31,6 +31,8 @@ pub const CALL: u64 = 1;
 
 pub const HOP: u64 = 2;
 
+pub const UNDO: u64 = 3;
+
 // ---- whether all is as it was
 
 // Whether the words from `from` on are the same.

@@ -1,10 +1,11 @@
 // Document 01's causes of number 5, each by a chain that has it and by one just inside it. A line of the answer
-// has the cause, how a call and how a hop on that chain are answered, and `changed` behind an answer that did
-// not leave as it was what it must.
+// has the cause, how a call, a hop and repair undo on that chain are answered, and `changed` behind an answer
+// that did not leave as it was what it must.
 //
 // Standard input has a line for each: the letter of a chain, the cause, and the words that the chain is given,
 // as `a|block length 1001 of rate 1000.5|0=408f440000000000 8=3e9`. A word is its place in decimal and its bits in
-// hexadecimal. `state_words` has the places of a state; 170 to 217 is the span store, 218 to 249 the monitor's.
+// hexadecimal. `state_words` has the places of a state; 170 to 217 is the span store, 218 to 249 the monitor's, 250 to
+// 261 the repair store.
 
 use crate::bench::Bench;
 use crate::bench::Tried;
@@ -13,6 +14,7 @@ use crate::operations::asked;
 use crate::operations::call;
 use crate::operations::fresh;
 use crate::operations::hop;
+use crate::operations::undo;
 use iq::StageMode;
 use libc::STDIN_FILENO;
 use libc::STDOUT_FILENO;
@@ -57,7 +59,7 @@ fn chain(letter: u8) -> Bench {
     }
 }
 
-// ---- a call and a hop on a chain
+// ---- a call, a hop and repair undo on a chain
 
 fn say_changed(t: Tried) {
     if !t.good {
@@ -98,7 +100,23 @@ fn show_hop(b: Bench) {
     say_changed(t);
 }
 
-// How a call and a hop on this chain are answered, and the line's end.
+fn say_undo(number: u64) {
+    if number == ACCEPTED {
+        io::write_all(STDOUT_FILENO, b"restored");
+        return;
+    }
+    say(number);
+}
+
+// Over 64 samples (1, 0).
+fn show_undo(b: Bench) {
+    let t = undo(b, [ONE; 64], asked());
+    io::write_all(STDOUT_FILENO, b", undo ");
+    say_undo(t.number);
+    say_changed(t);
+}
+
+// How a call, a hop and repair undo on this chain are answered, and the line's end.
 fn show_chain(b: Bench) {
     let mut state = b.state;
     state_words::settle(&mut state);
@@ -106,6 +124,7 @@ fn show_chain(b: Bench) {
     given.state = state;
     show_call(given);
     show_hop(given);
+    show_undo(given);
     io::write_all(STDOUT_FILENO, b"\n");
 }
 
@@ -127,7 +146,7 @@ const LETTER: u64 = 0;
 const CAUSE: u64 = 1;
 
 // A place where no word stands.
-const NOWHERE: u64 = 250;
+const NOWHERE: u64 = 262;
 
 // The part of a line, and no word yet.
 fn in_part(part: u64, bench: Bench) -> Reading {
@@ -140,8 +159,8 @@ fn in_part(part: u64, bench: Bench) -> Reading {
     }
 }
 
-// The chain with the word that was read, of the state, of the span store or of the monitor's; as it is if there
-// was none.
+// The chain with the word that was read, of the state or of the span, the monitor's or the repair store; as it is if
+// there was none.
 fn given(r: Reading) -> Bench {
     let place = r.place as usize;
     let word = r.hexadecimal;
@@ -150,6 +169,7 @@ fn given(r: Reading) -> Bench {
         0..=169 => out.state[place] = word,
         170..=217 => out.spans[place - 170] = word,
         218..=249 => out.monitor[place - 218] = ieee::from_bits64(word),
+        250..=261 => out.repairs[place - 250] = word,
         _ => {}
     }
     out

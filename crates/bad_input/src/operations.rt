@@ -1,10 +1,11 @@
-// Making, a call and a hop.
+// Making, a call, a hop and repair undo.
 
 use crate::bench::Bench;
 use crate::bench::CALL;
 use crate::bench::HOP;
 use crate::bench::MAKING;
 use crate::bench::Tried;
+use crate::bench::UNDO;
 use crate::bench::ended;
 use crate::bench::same_behind;
 use config::ConditioningConfig;
@@ -130,4 +131,17 @@ pub fn hop(b: Bench, x: [u64; 64], count: usize, start: u64, lent: Lent) -> Trie
         monitor,
     };
     ended(HOP, told_hop(answer), b, left)
+}
+
+// ---- repair undo
+
+// Over these samples, numbered from 0.
+pub fn undo(b: Bench, given: [u64; 64], lent: Lent) -> Tried {
+    let state = b.state;
+    let repairs = b.repairs;
+    let mut samples = given;
+    let told = state_words::undo_repairs(&state, &repairs, lent.repairs, &mut samples, 0);
+    let mut out = ended(UNDO, told, b, b);
+    out.good = (told.number == ACCEPTED) | same_behind(&given, &samples, 0);
+    out
 }

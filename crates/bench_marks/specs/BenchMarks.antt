@@ -1,18 +1,28 @@
--- Document 01's bench marks that it marks P, as one theorem on the rules: `bench-marks`. Each part is computed. Assumes nothing.
+-- Document 01's bench marks that it marks P, as one theorem on the rules: `bench-marks`. Each part is computed but `lone` and `sixteen`, which hold for any
+-- such input. Assumes nothing.
+--
+-- The contracts cite definitions of their own, and these give the rules by theorems, for any input:
+--   of the whole chain   `one-record`, crates/record/specs/OneRecord.antt: its part `ruled` is `ByRules`, by `released`, `ringOf` and the others of rules/Chain
+--   impulse              `stage`, crates/impulse/specs/Stage.antt: pushed one by one, samples give `handedOn` and `happened`
+--   DC                   `any-cutting`, crates/dc/specs/Cutting.antt: call by call, samples give `blockedAll` and `levelAfter`
+--   IQ                   none is needed: the contract of `settle`, crates/iq/src/lib.rt, cites `settled`
 use mathlib.Core.Path.{_≡_, refl, ap, _∙_}
+use mathlib.Core.Logic.{_≢_}
 use mathlib.Core.Bool.{Bool, true, false, _&&_, _||_}
 use mathlib.Core.List.{List, [], _∷_, _++_}
 use Prim.Native.Nat.{ℕ, _+_, _-_}
 use native.Mathlib.Omega.{arith}
-use lib.Dec.{leb, ltb, eqb, lit≤}
+use lib.Dec.{leb, ltb, eqb, lit≤, lit<}
 use lib.ListN.{length, replicate}
 use lib.Ieee.{Float, binary64, ofBits}
-use Rattle.rules.specs.Lists.{upTo}
+use Rattle.rules.specs.Lists.{at, upTo}
+use Rattle.rules.specs.Guard.{usable}
 use Rattle.rules.specs.Impulse.{Setting, standard, window, reference, flagged, kept, mended, uncertain, events, value, happened, handedOn}
 use Rattle.rules.specs.Dc.{corner, firstLevel, levelAfter, blockedAll}
-use Rattle.rules.specs.Iq.{Calibration, apply, with, withheld, correcting, coefficient, settled}
+use Rattle.rules.specs.Iq.{Calibration, apply, with, Withheld, Correcting, coefficient, settled}
 use Rattle.rules.specs.ByFlags.{from, flagsOf, quickFlags, quick-flags, happened-by, handed-by}
 use Rattle.rules.specs.Computing.{floats, impulseRules, dcRules, iqRules}
+use Rattle.bench_marks.specs.Lone.{lone-unflagged}
 
 -- ---- samples (n, 0), as words
 abbrev pub n0 : ℕ
@@ -59,8 +69,8 @@ among ws = times 20 n1 ++ (ws ++ times 22 n1)
 abbrev pub usual : Setting
 usual = standard 48000 true
 
-abbrev pub thousand : Setting
-thousand = standard 1000 true
+abbrev pub byThousand : Setting
+byThousand = standard 1000 true
 
 -- clicks in block 0, and one in block 1, at 1100
 abbrev pub oneFlagged : List ℕ
@@ -81,7 +91,7 @@ pub record BenchMarks : Type 0 where
   -- 'among ones, (12,0) unflagged, (13,0) flagged; all zeros but one: unflagged'
   pub twelve : flagged usual (among (n12 ∷ [])) 20 ≡ false
   pub thirteen : flagged usual (among (n13 ∷ [])) 20 ≡ true
-  pub lone : flagged usual (times 20 n0 ++ (n100 ∷ times 22 n0)) 20 ≡ false
+  pub lone : (xs : List ℕ) (k : ℕ) → usable (at xs k) ≡ true → ((i : ℕ) → i ≢ k → at xs i ≡ n0) → (j : ℕ) → flagged usual xs j ≡ false
   -- 'four (100,0) in a row repaired'
   pub four : happened usual (among (times 4 n100)) ≡ mended 20 4 (times 4 n100) ∷ []
   pub four-handed : handedOn usual (among (times 4 n100)) ≡ times 25 n1
@@ -96,16 +106,18 @@ pub record BenchMarks : Type 0 where
   -- '1, three (100,0), 5 mends to 2, 3, 4'
   pub bridge : handedOn usual (among (times 3 n100 ++ times 1 n5)) ≡ times 20 n1 ++ (n2 ∷ n3 ∷ n4 ∷ n5 ∷ times 1 n1)
   -- 'block 1000: one flagged goes on, two pause'
-  pub goes-on : happened thousand oneFlagged ≡ mended 500 1 (n100 ∷ []) ∷ mended 1100 1 (n100 ∷ []) ∷ []
-  pub pauses : happened thousand twoFlagged ≡ mended 300 1 (n100 ∷ []) ∷ mended 500 1 (n100 ∷ []) ∷ (upTo (λ i. uncertain (1000 + i)) 102 ++ (kept 1100 1 false ∷ upTo (λ i. uncertain (1102 + i)) 4))
+  pub goes-on : happened byThousand oneFlagged ≡ mended 500 1 (n100 ∷ []) ∷ mended 1100 1 (n100 ∷ []) ∷ []
+  pub pauses : happened byThousand twoFlagged ≡ mended 300 1 (n100 ∷ []) ∷ mended 500 1 (n100 ∷ []) ∷ (upTo (λ i. uncertain (1000 + i)) 102 ++ (kept 1100 1 false ∷ upTo (λ i. uncertain (1102 + i)) 4))
   -- '16 samples judge none'
   pub sixteen : (xs : List ℕ) → length xs ≡ 16 → happened usual xs ≡ []
   -- 'fs 48000, DC first (2,0) gives level (1,0); (0.5,0) twice gives 0.5, 0'
   pub dc-two : levelAfter (corner rate) firstLevel (n2 ∷ []) .level ≡ record { re = ofBits binary64 0x3ff0_0000_0000_0000; im = ofBits binary64 0 }
   pub dc-half : blockedAll (corner rate) firstLevel (nHalf ∷ nHalf ∷ []) ≡ nHalf ∷ n0 ∷ []
   -- 'centre off by 1.0 corrects, by 1.5 withholds'
-  pub centre-near : settled apply (with calibrated) (ofBits binary64 0x4197_d784_0400_0000) ≡ correcting (coefficient calibrated)
-  pub centre-far : settled apply (with calibrated) (ofBits binary64 0x4197_d784_0600_0000) ≡ withheld
+  pub centre-near-above : settled apply (with calibrated) (ofBits binary64 0x4197_d784_0400_0000) ≡ Correcting (coefficient calibrated)
+  pub centre-near-below : settled apply (with calibrated) (ofBits binary64 0x4197_d783_fc00_0000) ≡ Correcting (coefficient calibrated)
+  pub centre-far-above : settled apply (with calibrated) (ofBits binary64 0x4197_d784_0600_0000) ≡ Withheld
+  pub centre-far-below : settled apply (with calibrated) (ofBits binary64 0x4197_d783_fa00_0000) ≡ Withheld
 
 -- ---- the flags, each worked out once
 abbrev inRun : ℕ → ℕ → ℕ → Bool
@@ -137,11 +149,11 @@ oneAt j = eqb j 500 || eqb j 1100
 abbrev twoAt : ℕ → Bool
 twoAt j = eqb j 300 || (eqb j 500 || eqb j 1100)
 
-one-quick : quickFlags thousand oneFlagged ≡ from oneAt 1106 0
+one-quick : quickFlags byThousand oneFlagged ≡ from oneAt 1106 0
 unfolding floats impulseRules quickFlags from
 one-quick = refl
 
-two-quick : quickFlags thousand twoFlagged ≡ from twoAt 1106 0
+two-quick : quickFlags byThousand twoFlagged ≡ from twoAt 1106 0
 unfolding floats impulseRules quickFlags from
 two-quick = refl
 
@@ -174,11 +186,11 @@ bridge-values : upTo (value usual (inRun 20 3) (among (times 3 n100 ++ times 1 n
 unfolding floats impulseRules
 bridge-values = refl
 
-one-events : events thousand oneAt oneFlagged 1106 ≡ mended 500 1 (n100 ∷ []) ∷ mended 1100 1 (n100 ∷ []) ∷ []
+one-events : events byThousand oneAt oneFlagged 1106 ≡ mended 500 1 (n100 ∷ []) ∷ mended 1100 1 (n100 ∷ []) ∷ []
 unfolding floats impulseRules
 one-events = refl
 
-two-events : events thousand twoAt twoFlagged 1106 ≡ mended 300 1 (n100 ∷ []) ∷ mended 500 1 (n100 ∷ []) ∷ (upTo (λ i. uncertain (1000 + i)) 102 ++ (kept 1100 1 false ∷ upTo (λ i. uncertain (1102 + i)) 4))
+two-events : events byThousand twoAt twoFlagged 1106 ≡ mended 300 1 (n100 ∷ []) ∷ mended 500 1 (n100 ∷ []) ∷ (upTo (λ i. uncertain (1000 + i)) 102 ++ (kept 1100 1 false ∷ upTo (λ i. uncertain (1102 + i)) 4))
 unfolding floats impulseRules
 two-events = refl
 
@@ -190,10 +202,6 @@ is-twelve = refl
 is-thirteen : flagged usual (among (n13 ∷ [])) 20 ≡ true
 unfolding floats impulseRules
 is-thirteen = refl
-
-is-lone : flagged usual (times 20 n0 ++ (n100 ∷ times 22 n0)) 20 ≡ false
-unfolding floats impulseRules
-is-lone = refl
 
 is-nine-reference : reference usual (window usual (among (times 9 n100)) 24) ≡ ofBits binary64 0x4079_0f5c_28f5_c28f
 unfolding floats impulseRules
@@ -211,20 +219,28 @@ is-dc-half : blockedAll (corner rate) firstLevel (nHalf ∷ nHalf ∷ []) ≡ nH
 unfolding floats dcRules
 is-dc-half = refl
 
-is-centre-near : settled apply (with calibrated) (ofBits binary64 0x4197_d784_0400_0000) ≡ correcting (coefficient calibrated)
+is-centre-near-above : settled apply (with calibrated) (ofBits binary64 0x4197_d784_0400_0000) ≡ Correcting (coefficient calibrated)
 unfolding floats iqRules
-is-centre-near = refl
+is-centre-near-above = refl
 
-is-centre-far : settled apply (with calibrated) (ofBits binary64 0x4197_d784_0600_0000) ≡ withheld
+is-centre-near-below : settled apply (with calibrated) (ofBits binary64 0x4197_d783_fc00_0000) ≡ Correcting (coefficient calibrated)
 unfolding floats iqRules
-is-centre-far = refl
+is-centre-near-below = refl
+
+is-centre-far-above : settled apply (with calibrated) (ofBits binary64 0x4197_d784_0600_0000) ≡ Withheld
+unfolding floats iqRules
+is-centre-far-above = refl
+
+is-centre-far-below : settled apply (with calibrated) (ofBits binary64 0x4197_d783_fa00_0000) ≡ Withheld
+unfolding floats iqRules
+is-centre-far-below = refl
 
 pub bench-marks : BenchMarks
 bench-marks =
     record {
       twelve = is-twelve;
       thirteen = is-thirteen;
-      lone = is-lone;
+      lone = lone-unflagged usual (lit< tt);
       four = happened-by usual (among (times 4 n100)) (inRun 20 4) four-flags ∙ four-events;
       four-handed = handed-by usual (among (times 4 n100)) (inRun 20 4) four-flags ∙ four-values;
       five = happened-by usual (among (times 5 n100)) (inRun 20 5) five-flags ∙ five-events;
@@ -233,11 +249,13 @@ bench-marks =
       nine-reference = is-nine-reference;
       first = handed-by usual (n100 ∷ times 22 n1) (inRun 0 1) first-flags ∙ first-values;
       bridge = handed-by usual (among (times 3 n100 ++ times 1 n5)) (inRun 20 3) bridge-flags ∙ bridge-values;
-      goes-on = happened-by thousand oneFlagged oneAt (quick-flags thousand oneFlagged (lit≤ tt) ∙ one-quick) ∙ one-events;
-      pauses = happened-by thousand twoFlagged twoAt (quick-flags thousand twoFlagged (lit≤ tt) ∙ two-quick) ∙ two-events;
+      goes-on = happened-by byThousand oneFlagged oneAt (quick-flags byThousand oneFlagged (lit≤ tt) ∙ one-quick) ∙ one-events;
+      pauses = happened-by byThousand twoFlagged twoAt (quick-flags byThousand twoFlagged (lit≤ tt) ∙ two-quick) ∙ two-events;
       sixteen = none-judged;
       dc-two = is-dc-two;
       dc-half = is-dc-half;
-      centre-near = is-centre-near;
-      centre-far = is-centre-far;
+      centre-near-above = is-centre-near-above;
+      centre-near-below = is-centre-near-below;
+      centre-far-above = is-centre-far-above;
+      centre-far-below = is-centre-far-below;
     }

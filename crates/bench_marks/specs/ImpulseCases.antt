@@ -7,7 +7,7 @@ use mathlib.Core.List.{List, [], _∷_}
 use Prim.Native.Nat.{ℕ}
 use Rattle.rules.specs.Lists.{upTo}
 use Rattle.rules.specs.Impulse.{Setting, standard, Event, value, events, happened, handedOn}
-use Rattle.rules.specs.Log.{marked, repaired, isRepaired, isFlagged, isUncertain, marksOf, repairsOf, longRuns}
+use Rattle.rules.specs.Log.{marked, repaired, Repaired, Flagged, Uncertain, marksOf, repairsOf, longRuns}
 use Rattle.rules.specs.ByFlags.{from, flagsOf, look, happened-by, handed-by}
 use Rattle.rules.specs.Computing.{floats, impulseRules, logRules}
 
@@ -45,32 +45,32 @@ paused-long-known = refl
 pub paused-long : longRuns (happened pausedSetting pausedInput) ≡ 0
 paused-long = ap (λ (es : List Event). longRuns es) (happened-by pausedSetting pausedInput (look pausedFlags) paused-flags) ∙ paused-long-known
 
-paused-repaired-known : marked 2 (marksOf isRepaired (events pausedSetting (look pausedFlags) pausedInput 42)) ≡ record { count = 3; ring = record { head = 0; len = 2; dropped = 0; words = 0x9 ∷ 0x1 ∷ 0x26 ∷ 0x2 ∷ [] } }
+paused-repaired-known : marked 2 (marksOf Repaired (events pausedSetting (look pausedFlags) pausedInput 42)) ≡ record { samples = 3; ring = record { head = 0; count = 2; dropped = 0; words = 0x9 ∷ 0x1 ∷ 0x26 ∷ 0x2 ∷ [] } }
 unfolding floats impulseRules logRules
 paused-repaired-known = refl
 
-pub paused-repaired : marked 2 (marksOf isRepaired (happened pausedSetting pausedInput)) ≡ record { count = 3; ring = record { head = 0; len = 2; dropped = 0; words = 0x9 ∷ 0x1 ∷ 0x26 ∷ 0x2 ∷ [] } }
-paused-repaired = ap (λ (es : List Event). marked 2 (marksOf isRepaired es)) (happened-by pausedSetting pausedInput (look pausedFlags) paused-flags) ∙ paused-repaired-known
+pub paused-repaired : marked 2 (marksOf Repaired (happened pausedSetting pausedInput)) ≡ record { samples = 3; ring = record { head = 0; count = 2; dropped = 0; words = 0x9 ∷ 0x1 ∷ 0x26 ∷ 0x2 ∷ [] } }
+paused-repaired = ap (λ (es : List Event). marked 2 (marksOf Repaired es)) (happened-by pausedSetting pausedInput (look pausedFlags) paused-flags) ∙ paused-repaired-known
 
-paused-flagged-known : marked 2 (marksOf isFlagged (events pausedSetting (look pausedFlags) pausedInput 42)) ≡ record { count = 0; ring = record { head = 0; len = 0; dropped = 0; words = 0x0 ∷ 0x0 ∷ 0x0 ∷ 0x0 ∷ [] } }
+paused-flagged-known : marked 2 (marksOf Flagged (events pausedSetting (look pausedFlags) pausedInput 42)) ≡ record { samples = 0; ring = record { head = 0; count = 0; dropped = 0; words = 0x0 ∷ 0x0 ∷ 0x0 ∷ 0x0 ∷ [] } }
 unfolding floats impulseRules logRules
 paused-flagged-known = refl
 
-pub paused-flagged : marked 2 (marksOf isFlagged (happened pausedSetting pausedInput)) ≡ record { count = 0; ring = record { head = 0; len = 0; dropped = 0; words = 0x0 ∷ 0x0 ∷ 0x0 ∷ 0x0 ∷ [] } }
-paused-flagged = ap (λ (es : List Event). marked 2 (marksOf isFlagged es)) (happened-by pausedSetting pausedInput (look pausedFlags) paused-flags) ∙ paused-flagged-known
+pub paused-flagged : marked 2 (marksOf Flagged (happened pausedSetting pausedInput)) ≡ record { samples = 0; ring = record { head = 0; count = 0; dropped = 0; words = 0x0 ∷ 0x0 ∷ 0x0 ∷ 0x0 ∷ [] } }
+paused-flagged = ap (λ (es : List Event). marked 2 (marksOf Flagged es)) (happened-by pausedSetting pausedInput (look pausedFlags) paused-flags) ∙ paused-flagged-known
 
-paused-uncertain-known : marked 2 (marksOf isUncertain (events pausedSetting (look pausedFlags) pausedInput 42)) ≡ record { count = 7; ring = record { head = 0; len = 1; dropped = 0; words = 0xe ∷ 0x7 ∷ 0x0 ∷ 0x0 ∷ [] } }
+paused-uncertain-known : marked 2 (marksOf Uncertain (events pausedSetting (look pausedFlags) pausedInput 42)) ≡ record { samples = 7; ring = record { head = 0; count = 1; dropped = 0; words = 0xe ∷ 0x7 ∷ 0x0 ∷ 0x0 ∷ [] } }
 unfolding floats impulseRules logRules
 paused-uncertain-known = refl
 
-pub paused-uncertain : marked 2 (marksOf isUncertain (happened pausedSetting pausedInput)) ≡ record { count = 7; ring = record { head = 0; len = 1; dropped = 0; words = 0xe ∷ 0x7 ∷ 0x0 ∷ 0x0 ∷ [] } }
-paused-uncertain = ap (λ (es : List Event). marked 2 (marksOf isUncertain es)) (happened-by pausedSetting pausedInput (look pausedFlags) paused-flags) ∙ paused-uncertain-known
+pub paused-uncertain : marked 2 (marksOf Uncertain (happened pausedSetting pausedInput)) ≡ record { samples = 7; ring = record { head = 0; count = 1; dropped = 0; words = 0xe ∷ 0x7 ∷ 0x0 ∷ 0x0 ∷ [] } }
+paused-uncertain = ap (λ (es : List Event). marked 2 (marksOf Uncertain es)) (happened-by pausedSetting pausedInput (look pausedFlags) paused-flags) ∙ paused-uncertain-known
 
-paused-ring-known : repaired 3 (repairsOf (events pausedSetting (look pausedFlags) pausedInput 42)) ≡ record { head = 0; len = 2; dropped = 0; words = 0x9 ∷ 0x1 ∷ 0xc1a0000042c80000 ∷ 0x0 ∷ 0x0 ∷ 0x0 ∷ 0x26 ∷ 0x2 ∷ 0xc1a0000042c80000 ∷ 0xc1a0000042c80000 ∷ 0x0 ∷ 0x0 ∷ 0x0 ∷ 0x0 ∷ 0x0 ∷ 0x0 ∷ 0x0 ∷ 0x0 ∷ [] }
+paused-ring-known : repaired 3 (repairsOf (events pausedSetting (look pausedFlags) pausedInput 42)) ≡ record { head = 0; count = 2; dropped = 0; words = 0x9 ∷ 0x1 ∷ 0xc1a0000042c80000 ∷ 0x0 ∷ 0x0 ∷ 0x0 ∷ 0x26 ∷ 0x2 ∷ 0xc1a0000042c80000 ∷ 0xc1a0000042c80000 ∷ 0x0 ∷ 0x0 ∷ 0x0 ∷ 0x0 ∷ 0x0 ∷ 0x0 ∷ 0x0 ∷ 0x0 ∷ [] }
 unfolding floats impulseRules logRules
 paused-ring-known = refl
 
-pub paused-ring : repaired 3 (repairsOf (happened pausedSetting pausedInput)) ≡ record { head = 0; len = 2; dropped = 0; words = 0x9 ∷ 0x1 ∷ 0xc1a0000042c80000 ∷ 0x0 ∷ 0x0 ∷ 0x0 ∷ 0x26 ∷ 0x2 ∷ 0xc1a0000042c80000 ∷ 0xc1a0000042c80000 ∷ 0x0 ∷ 0x0 ∷ 0x0 ∷ 0x0 ∷ 0x0 ∷ 0x0 ∷ 0x0 ∷ 0x0 ∷ [] }
+pub paused-ring : repaired 3 (repairsOf (happened pausedSetting pausedInput)) ≡ record { head = 0; count = 2; dropped = 0; words = 0x9 ∷ 0x1 ∷ 0xc1a0000042c80000 ∷ 0x0 ∷ 0x0 ∷ 0x0 ∷ 0x26 ∷ 0x2 ∷ 0xc1a0000042c80000 ∷ 0xc1a0000042c80000 ∷ 0x0 ∷ 0x0 ∷ 0x0 ∷ 0x0 ∷ 0x0 ∷ 0x0 ∷ 0x0 ∷ 0x0 ∷ [] }
 paused-ring = ap (λ (es : List Event). repaired 3 (repairsOf es)) (happened-by pausedSetting pausedInput (look pausedFlags) paused-flags) ∙ paused-ring-known
 
 abbrev noiseSetting : Setting
@@ -107,30 +107,30 @@ noise-long-known = refl
 pub noise-long : longRuns (happened noiseSetting noiseInput) ≡ 0
 noise-long = ap (λ (es : List Event). longRuns es) (happened-by noiseSetting noiseInput (look noiseFlags) noise-flags) ∙ noise-long-known
 
-noise-repaired-known : marked 3 (marksOf isRepaired (events noiseSetting (look noiseFlags) noiseInput 44)) ≡ record { count = 7; ring = record { head = 2; len = 3; dropped = 2; words = 0x1e ∷ 0x3 ∷ 0x28 ∷ 0x1 ∷ 0xe ∷ 0x1 ∷ [] } }
+noise-repaired-known : marked 3 (marksOf Repaired (events noiseSetting (look noiseFlags) noiseInput 44)) ≡ record { samples = 7; ring = record { head = 2; count = 3; dropped = 2; words = 0x1e ∷ 0x3 ∷ 0x28 ∷ 0x1 ∷ 0xe ∷ 0x1 ∷ [] } }
 unfolding floats impulseRules logRules
 noise-repaired-known = refl
 
-pub noise-repaired : marked 3 (marksOf isRepaired (happened noiseSetting noiseInput)) ≡ record { count = 7; ring = record { head = 2; len = 3; dropped = 2; words = 0x1e ∷ 0x3 ∷ 0x28 ∷ 0x1 ∷ 0xe ∷ 0x1 ∷ [] } }
-noise-repaired = ap (λ (es : List Event). marked 3 (marksOf isRepaired es)) (happened-by noiseSetting noiseInput (look noiseFlags) noise-flags) ∙ noise-repaired-known
+pub noise-repaired : marked 3 (marksOf Repaired (happened noiseSetting noiseInput)) ≡ record { samples = 7; ring = record { head = 2; count = 3; dropped = 2; words = 0x1e ∷ 0x3 ∷ 0x28 ∷ 0x1 ∷ 0xe ∷ 0x1 ∷ [] } }
+noise-repaired = ap (λ (es : List Event). marked 3 (marksOf Repaired es)) (happened-by noiseSetting noiseInput (look noiseFlags) noise-flags) ∙ noise-repaired-known
 
-noise-flagged-known : marked 3 (marksOf isFlagged (events noiseSetting (look noiseFlags) noiseInput 44)) ≡ record { count = 0; ring = record { head = 0; len = 0; dropped = 0; words = 0x0 ∷ 0x0 ∷ 0x0 ∷ 0x0 ∷ 0x0 ∷ 0x0 ∷ [] } }
+noise-flagged-known : marked 3 (marksOf Flagged (events noiseSetting (look noiseFlags) noiseInput 44)) ≡ record { samples = 0; ring = record { head = 0; count = 0; dropped = 0; words = 0x0 ∷ 0x0 ∷ 0x0 ∷ 0x0 ∷ 0x0 ∷ 0x0 ∷ [] } }
 unfolding floats impulseRules logRules
 noise-flagged-known = refl
 
-pub noise-flagged : marked 3 (marksOf isFlagged (happened noiseSetting noiseInput)) ≡ record { count = 0; ring = record { head = 0; len = 0; dropped = 0; words = 0x0 ∷ 0x0 ∷ 0x0 ∷ 0x0 ∷ 0x0 ∷ 0x0 ∷ [] } }
-noise-flagged = ap (λ (es : List Event). marked 3 (marksOf isFlagged es)) (happened-by noiseSetting noiseInput (look noiseFlags) noise-flags) ∙ noise-flagged-known
+pub noise-flagged : marked 3 (marksOf Flagged (happened noiseSetting noiseInput)) ≡ record { samples = 0; ring = record { head = 0; count = 0; dropped = 0; words = 0x0 ∷ 0x0 ∷ 0x0 ∷ 0x0 ∷ 0x0 ∷ 0x0 ∷ [] } }
+noise-flagged = ap (λ (es : List Event). marked 3 (marksOf Flagged es)) (happened-by noiseSetting noiseInput (look noiseFlags) noise-flags) ∙ noise-flagged-known
 
-noise-uncertain-known : marked 3 (marksOf isUncertain (events noiseSetting (look noiseFlags) noiseInput 44)) ≡ record { count = 0; ring = record { head = 0; len = 0; dropped = 0; words = 0x0 ∷ 0x0 ∷ 0x0 ∷ 0x0 ∷ 0x0 ∷ 0x0 ∷ [] } }
+noise-uncertain-known : marked 3 (marksOf Uncertain (events noiseSetting (look noiseFlags) noiseInput 44)) ≡ record { samples = 0; ring = record { head = 0; count = 0; dropped = 0; words = 0x0 ∷ 0x0 ∷ 0x0 ∷ 0x0 ∷ 0x0 ∷ 0x0 ∷ [] } }
 unfolding floats impulseRules logRules
 noise-uncertain-known = refl
 
-pub noise-uncertain : marked 3 (marksOf isUncertain (happened noiseSetting noiseInput)) ≡ record { count = 0; ring = record { head = 0; len = 0; dropped = 0; words = 0x0 ∷ 0x0 ∷ 0x0 ∷ 0x0 ∷ 0x0 ∷ 0x0 ∷ [] } }
-noise-uncertain = ap (λ (es : List Event). marked 3 (marksOf isUncertain es)) (happened-by noiseSetting noiseInput (look noiseFlags) noise-flags) ∙ noise-uncertain-known
+pub noise-uncertain : marked 3 (marksOf Uncertain (happened noiseSetting noiseInput)) ≡ record { samples = 0; ring = record { head = 0; count = 0; dropped = 0; words = 0x0 ∷ 0x0 ∷ 0x0 ∷ 0x0 ∷ 0x0 ∷ 0x0 ∷ [] } }
+noise-uncertain = ap (λ (es : List Event). marked 3 (marksOf Uncertain es)) (happened-by noiseSetting noiseInput (look noiseFlags) noise-flags) ∙ noise-uncertain-known
 
-noise-ring-known : repaired 3 (repairsOf (events noiseSetting (look noiseFlags) noiseInput 44)) ≡ record { head = 2; len = 3; dropped = 2; words = 0x1e ∷ 0x3 ∷ 0xc0f0000042700000 ∷ 0xc0f0000042740000 ∷ 0xc0f0000042780000 ∷ 0x0 ∷ 0x28 ∷ 0x1 ∷ 0xc0f00000428c0000 ∷ 0x0 ∷ 0x0 ∷ 0x0 ∷ 0xe ∷ 0x1 ∷ 0xc0f0000042300000 ∷ 0x0 ∷ 0x0 ∷ 0x0 ∷ [] }
+noise-ring-known : repaired 3 (repairsOf (events noiseSetting (look noiseFlags) noiseInput 44)) ≡ record { head = 2; count = 3; dropped = 2; words = 0x1e ∷ 0x3 ∷ 0xc0f0000042700000 ∷ 0xc0f0000042740000 ∷ 0xc0f0000042780000 ∷ 0x0 ∷ 0x28 ∷ 0x1 ∷ 0xc0f00000428c0000 ∷ 0x0 ∷ 0x0 ∷ 0x0 ∷ 0xe ∷ 0x1 ∷ 0xc0f0000042300000 ∷ 0x0 ∷ 0x0 ∷ 0x0 ∷ [] }
 unfolding floats impulseRules logRules
 noise-ring-known = refl
 
-pub noise-ring : repaired 3 (repairsOf (happened noiseSetting noiseInput)) ≡ record { head = 2; len = 3; dropped = 2; words = 0x1e ∷ 0x3 ∷ 0xc0f0000042700000 ∷ 0xc0f0000042740000 ∷ 0xc0f0000042780000 ∷ 0x0 ∷ 0x28 ∷ 0x1 ∷ 0xc0f00000428c0000 ∷ 0x0 ∷ 0x0 ∷ 0x0 ∷ 0xe ∷ 0x1 ∷ 0xc0f0000042300000 ∷ 0x0 ∷ 0x0 ∷ 0x0 ∷ [] }
+pub noise-ring : repaired 3 (repairsOf (happened noiseSetting noiseInput)) ≡ record { head = 2; count = 3; dropped = 2; words = 0x1e ∷ 0x3 ∷ 0xc0f0000042700000 ∷ 0xc0f0000042740000 ∷ 0xc0f0000042780000 ∷ 0x0 ∷ 0x28 ∷ 0x1 ∷ 0xc0f00000428c0000 ∷ 0x0 ∷ 0x0 ∷ 0x0 ∷ 0xe ∷ 0x1 ∷ 0xc0f0000042300000 ∷ 0x0 ∷ 0x0 ∷ 0x0 ∷ [] }
 noise-ring = ap (λ (es : List Event). repaired 3 (repairsOf es)) (happened-by noiseSetting noiseInput (look noiseFlags) noise-flags) ∙ noise-ring-known

@@ -1,12 +1,12 @@
 -- How a call is answered, in document 01's words: what the table returns, or how many samples are ready. Definitions only.
 use Prim.Native.Nat.{ℕ}
 use mathlib.Core.List.{[], _∷_}
-use Rattle.chain.specs.Calls.{Said, refused, ready}
+use Rattle.rules.specs.Answers.{Said, accepted, refused}
 use Rattle.calls.specs.declared.Conditioned.{Conditioned}
 use Rattle.calls.specs.declared.Conditioned.the-variants as answer
 
-abbrev pub said : Conditioned → Said
-said (answer.Ready k) = ready k
+abbrev pub said : Conditioned → Said ℕ
+said (answer.Ready k) = accepted k
 said answer.BadState = refused (5 ∷ [])
 said answer.BadLength = refused (4 ∷ [])
 said answer.Short = refused (6 ∷ [])

@@ -6,14 +6,15 @@ ghost use Prim.Native.Nat.{_+_, _^_, _≤_, _<_};
 ghost use lib.ListN.{length, take, drop};
 ghost use Rattle.rules.specs.Log.{spanOf};
 ghost use Rattle.rules.specs.Iq.{correctedBy};
+ghost use Rattle.rules.specs.Answers.{accepted, numberOf};
 ghost use Rattle.rules.specs.Refusals.{tooMany};
 ghost use Rattle.log.specs.View.{Logged};
 ghost use Rattle.log.specs.CheckLaws.{Bounded};
 ghost use Rattle.impulse.specs.View.{suppressorOf};
 ghost use Rattle.iq.specs.View.{modeOf, settledOf};
 ghost use Rattle.impulse_run.specs.Noted.{notedOf, noteAll, over};
-ghost use Rattle.chain.specs.Stages.{machineOf, notesIn, newPart, impulseAfter, impulseOut, impulseTold, blockerAfterBy, blockedBy, notedDc, notedIq, handsOn, process, Stored, Acceptable};
-ghost use Rattle.chain.specs.Calls.{ready, called};
+ghost use Rattle.chain.specs.Stages.{machineOf, notesIn, newPart, impulseAfter, impulseOut, impulseTold, blockerAfterBy, blockedBy, notedDc, notedIq, handsOn, process, Acceptable};
+ghost use Rattle.chain.specs.Calls.{unreadRefusal, toldUnread, called};
 ghost use Rattle.calls.specs.Said.{said};
 use dc::DcBlocker;
 use impulse::ImpulseSuppressor;
@@ -193,14 +194,14 @@ fn mark_released(
 }
 
 // The stages one after another, over a slice that is not refused.
-fn accept(
+pub fn accept(
     state: InputConditioner,
     samples: &mut [u64],
     spans: &mut [u64],
     repairs: &mut [u64],
 ) -> Called
-    requires { ⌜ Acceptable state (now samples) (now spans) (now repairs) ⌝ }
-    ensures answer { λ r. ⌜ said (r .answer) ≡ ready (length (handsOn state (newPart state (now (samples .entry))))) ⌝ }
+    requires { ⌜ unreadRefusal state (length (now samples)) (now spans) (now repairs) ≡ 0 ⌝ }
+    ensures answer { λ r. ⌜ said (r .answer) ≡ accepted (length (handsOn state (newPart state (now (samples .entry))))) ⌝ }
     ensures chain { λ r. ⌜ machineOf (r .state) (now (spans .exit)) (now (repairs .exit)) ≡ process (machineOf state (now (spans .entry)) (now (repairs .entry))) (newPart state (now (samples .entry))) ⌝ }
     ensures written { λ r. ⌜ now (samples .exit) ≡ over (handsOn state (newPart state (now (samples .entry)))) (now (samples .entry)) ⌝ }
 {
@@ -271,39 +272,48 @@ fn too_many(seen: u64, new: usize) -> bool
     TOTAL_LIMIT - seen < new as u64
 }
 
-// A call whose state and stores are fit.
-fn take_slice(
-    state: InputConditioner,
-    samples: &mut [u64],
-    spans: &mut [u64],
-    repairs: &mut [u64],
-) -> Called
-    requires { ⌜ Stored state (now spans) (now repairs) ⌝ }
-    ensures answer { λ r. ⌜ said (r .answer) ≡ called (machineOf state (now (spans .entry)) (now (repairs .entry))) (now (samples .entry)) .said ⌝ }
-    ensures chain { λ r. ⌜ machineOf (r .state) (now (spans .exit)) (now (repairs .exit)) ≡ called (machineOf state (now (spans .entry)) (now (repairs .entry))) (now (samples .entry)) .machine ⌝ }
-    ensures written { λ r. ⌜ now (samples .exit) ≡ called (machineOf state (now (spans .entry)) (now (repairs .entry))) (now (samples .entry)) .samples ⌝ }
+// What refuses a call before a sample is read: 5, 4, 6 or 8, by the state, the length of the slice and
+// the stores. `Ready(0)` where nothing does.
+pub fn refusal(state: InputConditioner, len: usize, spans: &[u64], repairs: &[u64]) -> Conditioned
+    ensures { λ r. ⌜ said r ≡ toldUnread (unreadRefusal state len (now (spans .entry)) (now (repairs .entry))) ⌝ }
 {
+    let set = state.settings;
+    let log = state.log;
     let held = state.held;
-    if samples.len() < held {
-        return Called {
-            state,
-            answer: Conditioned::Short,
-        };
+    let seen = state.seen;
+    if !state.fits() {
+        return Conditioned::BadState;
     }
-    if too_many(state.seen, samples.len() - held) {
-        return Called {
-            state,
-            answer: Conditioned::TooMany,
-        };
+    if repairs.len() != 6 * set.repairs {
+        return Conditioned::BadLength;
     }
-    let found = sample_guard::first_unusable(&samples[held..]);
-    if let Found::At(k) = found {
-        return Called {
-            state,
-            answer: Conditioned::Unusable(held + k),
-        };
+    if spans.len() != 24 * set.spans {
+        return Conditioned::BadLength;
     }
-    accept(state, samples, spans, repairs)
+    if !log.ends_fit(spans, set.spans) {
+        return Conditioned::BadState;
+    }
+    if len < held {
+        return Conditioned::Short;
+    }
+    if too_many(seen, len - held) {
+        return Conditioned::TooMany;
+    }
+    Conditioned::Ready(0)
+}
+
+// Document 01's number of a refusal, and 0 where there is none.
+pub fn number(answer: Conditioned) -> u64
+    ensures { λ r. ⌜ r ≡ numberOf (said answer) ⌝ }
+{
+    match answer {
+        Conditioned::Ready(_) => 0,
+        Conditioned::BadState => 5,
+        Conditioned::BadLength => 4,
+        Conditioned::Short => 6,
+        Conditioned::TooMany => 8,
+        Conditioned::Unusable(_) => 7,
+    }
 }
 
 // Conditions a slice in place: the held samples, which are not read, and then the new ones. What is
@@ -318,31 +328,20 @@ pub fn condition(
     ensures chain { λ r. ⌜ machineOf (r .state) (now (spans .exit)) (now (repairs .exit)) ≡ called (machineOf state (now (spans .entry)) (now (repairs .entry))) (now (samples .entry)) .machine ⌝ }
     ensures written { λ r. ⌜ now (samples .exit) ≡ called (machineOf state (now (spans .entry)) (now (repairs .entry))) (now (samples .entry)) .samples ⌝ }
 {
-    if !state.fits() {
+    let unread = refusal(state, samples.len(), spans, repairs);
+    if number(unread) != 0 {
         return Called {
             state,
-            answer: Conditioned::BadState,
+            answer: unread,
         };
     }
-    let set = state.settings;
-    if repairs.len() != 6 * set.repairs {
+    let held = state.held;
+    let found = sample_guard::first_unusable(&samples[held..]);
+    if let Found::At(k) = found {
         return Called {
             state,
-            answer: Conditioned::BadLength,
+            answer: Conditioned::Unusable(held + k),
         };
     }
-    if spans.len() != 24 * set.spans {
-        return Called {
-            state,
-            answer: Conditioned::BadLength,
-        };
-    }
-    let log = state.log;
-    if !log.ends_fit(spans, set.spans) {
-        return Called {
-            state,
-            answer: Conditioned::BadState,
-        };
-    }
-    take_slice(state, samples, spans, repairs)
+    accept(state, samples, spans, repairs)
 }

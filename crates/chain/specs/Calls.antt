@@ -1,10 +1,11 @@
 -- A call: what it declines, and what it makes of the state, the samples and the stores. Definitions only.
 use mathlib.Core.Bool.{cond}
 use mathlib.Core.List.{List, [], _∷_, _++_}
-use Prim.Native.Nat.{ℕ, _-_, _*_}
+use Prim.Native.Nat.{ℕ, zero, suc, _-_, _*_}
 use lib.Dec.{eqb}
 use lib.ListN.{length, drop}
-use Rattle.rules.specs.Refusals.{firstOf, badLength, shortSlice, tooMany, unusableAt, anyUnusable}
+use Rattle.rules.specs.Answers.{Said, accepted, refused}
+use Rattle.rules.specs.Refusals.{Cause, firstOf, badLength, shortSlice, tooMany, unusableAt, anyUnusable}
 use Rattle.part_limit.specs.Limit.{returned}
 use Rattle.state.specs.declared.InputConditioner.{InputConditioner}
 use Rattle.state.specs.Causes.{badState, badSpans}
@@ -12,28 +13,35 @@ use Rattle.chain.specs.Stages.{newPart, Machine, handsOn, process}
 
 -- ---- what a call declines: '5, 4', 5's rule on lent words straight after, '6, 8, 7'
 
-unfoldable pub callRefusal : InputConditioner → List ℕ → List ℕ → List ℕ → ℕ
-callRefusal c samples spans repairs =
-    firstOf
-    (badState c
+-- what is told before a sample is read: of the state, the length of the slice, and the stores
+abbrev pub unreadCauses : InputConditioner → ℕ → List ℕ → List ℕ → List Cause
+unreadCauses c len spans repairs =
+    badState c
     ∷ badLength (6 * c .settings .repairs) (length repairs)
     ∷ badLength (24 * c .settings .spans) (length spans)
     ∷ badSpans c spans
-    ∷ shortSlice (c .held) (length samples)
-    ∷ tooMany (c .seen) (length samples - c .held)
-    ∷ anyUnusable (c .held) (newPart c samples)
-    ∷ [])
+    ∷ shortSlice (c .held) len
+    ∷ tooMany (c .seen) (len - c .held)
+    ∷ []
+
+unfoldable pub unreadRefusal : InputConditioner → ℕ → List ℕ → List ℕ → ℕ
+unreadRefusal c len spans repairs = firstOf (unreadCauses c len spans repairs)
+
+-- 7 is told last
+unfoldable pub callRefusal : InputConditioner → List ℕ → List ℕ → List ℕ → ℕ
+callRefusal c samples spans repairs =
+    firstOf (unreadCauses c (length samples) spans repairs ++ (anyUnusable (c .held) (newPart c samples) ∷ []))
 
 -- ---- a call
 
--- in document 01's words: what the table returns, or how many samples are ready
-pub data Said : Type 0 where
-  refused : List ℕ → Said
-  ready : ℕ → Said
+-- what is told before a sample is read: a refusal, or that none is ready
+abbrev pub toldUnread : ℕ → Said ℕ
+toldUnread zero = accepted 0
+toldUnread (suc k) = refused (suc k ∷ [])
 
--- the answer, the chain, and the slice
+-- the answer, with how many samples are ready, the chain, and the slice
 pub record Outcome : Type 0 where
-  pub said : Said
+  pub said : Said ℕ
   pub machine : Machine
   pub samples : List ℕ
 
@@ -41,7 +49,7 @@ pub record Outcome : Type 0 where
 abbrev pub taken : Machine → List ℕ → Outcome
 taken m samples =
     let ys = handsOn (m .state) (newPart (m .state) samples) in
-    record { said = ready (length ys); machine = process m (newPart (m .state) samples); samples = ys ++ drop (length ys) samples }
+    record { said = accepted (length ys); machine = process m (newPart (m .state) samples); samples = ys ++ drop (length ys) samples }
 
 abbrev pub declined : Machine → List ℕ → List ℕ → Outcome
 declined m samples r = record { said = refused r; machine = m; samples = samples }

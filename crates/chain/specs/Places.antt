@@ -4,15 +4,16 @@ use mathlib.Core.List.{List}
 use Prim.Native.Nat.{ℕ}
 use lib.ListN.{length, take, drop}
 use lib.Seq.{take-at, drop-at}
+use Rattle.rules.specs.Answers.{accepted}
 use Rattle.chain.specs.Stages.{newPart, Machine, handsOn}
-use Rattle.chain.specs.Calls.{ready, taken}
+use Rattle.chain.specs.Calls.{taken}
 
 module _ (m : Machine) (samples : List ℕ) where
   abbrev released : List ℕ
   released = handsOn (m .state) (newPart (m .state) samples)
 
   -- 'Ready is how many samples a call releases, from its first place on'
-  pub ready-many : taken m samples .said ≡ ready (length released)
+  pub ready-many : taken m samples .said ≡ accepted (length released)
   ready-many = refl
 
   pub in-front : take (length released) (taken m samples .samples) ≡ released

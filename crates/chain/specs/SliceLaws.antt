@@ -49,7 +49,7 @@ module _ (c : InputConditioner) (samples spans repairs : List ℕ) (a : Acceptab
       let r = ring-range (c .settings .repairs) (c .repairs) (c .longruns) (fit .repairs) in
       record {
         spans = fits-bounded (c .settings .spans) (record { log = c .log; spans = spans }) call-twelve (fit .log);
-        repairs = record { some = fit .settings .some-repairs; long = a .stored .repairs-long; headIn = r .headIn; lenIn = r .lenIn };
+        repairs = record { some = fit .settings .some-repairs; long = a .stored .repairs-long; headIn = r .headIn; countIn = r .countIn };
         dropped = r .dropped;
         longruns = r .count;
       }

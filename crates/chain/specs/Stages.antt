@@ -5,8 +5,8 @@ use mathlib.Core.List.{List, [], map}
 use Prim.Native.Nat.{ℕ, _+_, _-_, _*_, _^_, _≤_}
 use lib.ListN.{length, drop}
 use Rattle.rules.specs.Impulse.{Setting, Event}
-use Rattle.rules.specs.Iq.{Mode, off, observe, apply, Settled, isOff, observing, withheld, correcting, correctedBy}
-use Rattle.rules.specs.Log.{Span, spanOf, ringNumber, dc, iq, isCorrected, isUncertain}
+use Rattle.rules.specs.Iq.{Mode, off, observe, apply, Settled, Off, Observing, Withheld, Correcting, correctedBy}
+use Rattle.rules.specs.Log.{Span, spanOf, ringNumber, dc, iq, Corrected, Uncertain}
 use Rattle.log.specs.View.{Logged, ringIn, bare, markedAt}
 use Rattle.log.specs.Check.{endsFit}
 use Rattle.impulse.specs.declared.ImpulseSuppressor.{ImpulseSuppressor}
@@ -50,14 +50,14 @@ blockedBy apply b ys = processedAll b ys
 abbrev pub notedDc : ℕ → Mode → Logged → Span → Logged
 notedDc cap off x m = x
 notedDc cap observe x m = x
-notedDc cap apply x m = markedAt cap x (ringNumber dc isCorrected) m
+notedDc cap apply x m = markedAt cap x (ringNumber dc Corrected) m
 
 -- 'Correcting marks released samples Corrected, withheld Uncertain.'
 abbrev pub notedIq : ℕ → Settled → Logged → Span → Logged
-notedIq cap isOff x m = x
-notedIq cap observing x m = x
-notedIq cap withheld x m = markedAt cap x (ringNumber iq isUncertain) m
-notedIq cap (correcting r) x m = markedAt cap x (ringNumber iq isCorrected) m
+notedIq cap Off x m = x
+notedIq cap Observing x m = x
+notedIq cap Withheld x m = markedAt cap x (ringNumber iq Uncertain) m
+notedIq cap (Correcting r) x m = markedAt cap x (ringNumber iq Corrected) m
 
 -- ---- 'Stages run impulse, DC, IQ.'
 

@@ -5,12 +5,13 @@ use Prim.Native.Nat.{ℕ, zero, suc, _+_, _-_, _/_, min}
 use lib.Dec.{eqb, ltb}
 use lib.ListN.{length, take, drop}
 use lib.Ieee.{Float}
+use Rattle.rules.specs.Answers.{Said, accepted, nothing, refused}
 use Rattle.iq.specs.declared.IqCalibration.{IqCalibration}
 use Rattle.config.specs.declared.ConditioningConfig.{ConditioningConfig}
 use Rattle.state.specs.declared.InputConditioner.{InputConditioner}
 use Rattle.making.specs.Making.{freshState, madeWords}
 use Rattle.chain.specs.Stages.{Machine, machineOf}
-use Rattle.chain.specs.Calls.{Said, refused, ready, Outcome, called}
+use Rattle.chain.specs.Calls.{Outcome, called}
 use Rattle.chain_c.specs.Chains.{appliedChain, saidOf, madeNumber}
 
 -- ---- a part of a list: n elements from a place on
@@ -24,16 +25,18 @@ withPartAt at n xs ys = take at xs ++ (ys ++ drop n (drop at xs))
 
 -- ---- what a call says: how many samples are ready, and a refusal's number, or 0
 
-abbrev pub readyIn : Said → ℕ
-readyIn (ready k) = k
+abbrev pub readyIn : Said ℕ → ℕ
+readyIn (accepted k) = k
+readyIn nothing = 0
 readyIn (refused r) = 0
 
 abbrev firstIn : List ℕ → ℕ
 firstIn [] = 0
 firstIn (n ∷ l) = n
 
-abbrev pub numberIn : Said → ℕ
-numberIn (ready k) = 0
+abbrev pub numberIn : Said ℕ → ℕ
+numberIn (accepted k) = 0
+numberIn nothing = 0
 numberIn (refused r) = firstIn r
 
 -- ---- call after call

@@ -9,7 +9,7 @@ use lib.ListN.{length, getD, take, drop, set, length-set, length-append, length-
 use lib.Seq.{take-all, take-suc, drop-cons, take-append-le, take-at, drop-at, getD-append-add, set-split, take-suc-set, drop-set-lt, getD-take, take-take, length-take-le}
 use lib.Ieee.{Float, nan, binary64, lt, add, mul}
 use borrow.Rule.Slice.PartMut.{midOf, postOf, putMid}
-use Rattle.rules.specs.Constants.{zeroF, half}
+use Rattle.rules.specs.Constants.{zeroF, oneHalf}
 use Rattle.rules.specs.Monitor.{floorOf}
 use Rattle.rules.specs.Sort.{insert, sort}
 use Rattle.rules.specs.ListLaws.{read-any}
@@ -190,12 +190,12 @@ pub sorted-in-place : (n : ℕ) (ws copied sorted : List Float) → length ws �
 sorted-in-place n ws copied sorted len e s = put-back n ws copied len e sorted ∙ ap (λ (l : List Float). take (3 * n) ws ++ l) (s ∙ ap (sort lt) (lent-powers n ws copied len e))
 
 pub floor-read : (n : ℕ) (ws final : List Float) → 0 < n → length ws ≡ 4 * n → final ≡ take (3 * n) ws ++ sort lt (take n ws)
-    → mul binary64 (add binary64 (getD final (3 * n + (n - 1) / 2) nan) (getD final (3 * n + n / 2) nan)) half ≡ floorOf (take n ws)
+    → mul binary64 (add binary64 (getD final (3 * n + (n - 1) / 2) nan) (getD final (3 * n + n / 2) nan)) oneHalf ≡ floorOf (take n ws)
 unfolding floorOf
 floor-read n ws final h len e =
-    ap (λ (x : Float). mul binary64 (add binary64 x (getD final (3 * n + n / 2) nan)) half) (place ((n - 1) / 2) (omega arith))
-    ∙ ap (λ (x : Float). mul binary64 (add binary64 (getD s ((n - 1) / 2) zeroF) x) half) (place (n / 2) (omega arith))
-    ∙ ap (λ (m : ℕ). mul binary64 (add binary64 (getD s ((m - 1) / 2) zeroF) (getD s (m / 2) zeroF)) half) (sym count)
+    ap (λ (x : Float). mul binary64 (add binary64 x (getD final (3 * n + n / 2) nan)) oneHalf) (place ((n - 1) / 2) (omega arith))
+    ∙ ap (λ (x : Float). mul binary64 (add binary64 (getD s ((n - 1) / 2) zeroF) x) oneHalf) (place (n / 2) (omega arith))
+    ∙ ap (λ (m : ℕ). mul binary64 (add binary64 (getD s ((m - 1) / 2) zeroF) (getD s (m / 2) zeroF)) oneHalf) (sym count)
   where
     s : List Float
     s = sort lt (take n ws)

@@ -15,7 +15,7 @@ use borrow.Rule.Slice.PartMut.{midOf, putMid}
 use mir.Val.{boolByte}
 use Rattle.ieee.specs.Plain.{signClear, Plain}
 use Rattle.ieee.specs.Order.{plain-irrefl}
-use Rattle.rules.specs.Constants.{zeroF, half}
+use Rattle.rules.specs.Constants.{zeroF, oneHalf}
 use Rattle.rules.specs.Monitor.{floorOf}
 use Rattle.rules.specs.Sort.{insert, sort}
 use borrow.Author.Tests.{not-true}
@@ -524,7 +524,7 @@ module _ (n : ℕ) (ws copied m : List Float) (s : Search) (len : length ws ≡ 
       ∙ ap (λ (i : ℕ). getD (sort lt (take n l)) i nan) (add-zero ((n - 1) / 2))
 
   pub floor-found : (q : Float) → q ≡ getD (sort lt (take n (putMid (3 * n) (length copied - 3 * n) copied m))) (n / 2) nan
-      → mul binary64 (add binary64 (getD (putMid (3 * n) (length copied - 3 * n) copied m) (3 * n + s .place) nan) q) half ≡ floorOf (take n ws)
+      → mul binary64 (add binary64 (getD (putMid (3 * n) (length copied - 3 * n) copied m) (3 * n + s .place) nan) q) oneHalf ≡ floorOf (take n ws)
   unfolding floorOf
   floor-found q f =
       let l = sort lt (take n ws) in
@@ -532,9 +532,9 @@ module _ (n : ℕ) (ws copied m : List Float) (s : Search) (len : length ws ≡ 
       let k = sort-length lt (take n ws) in
       let x = lower-power ∙ ap (λ (t : List Float). getD (sort lt t) ((n - 1) / 2) nan) powers-kept ∙ read-any l ((n - 1) / 2) nan zeroF (omega arith) in
       let y = f ∙ ap (λ (t : List Float). getD (sort lt t) (n / 2) nan) powers-kept ∙ read-any l (n / 2) nan zeroF (omega arith) in
-      ap (λ (a : Float). mul binary64 (add binary64 a q) half) x
-      ∙ ap (λ (a : Float). mul binary64 (add binary64 (getD l ((n - 1) / 2) zeroF) a) half) y
-      ∙ ap (λ (i : ℕ). mul binary64 (add binary64 (getD l ((i - 1) / 2) zeroF) (getD l (i / 2) zeroF)) half) (sym c)
+      ap (λ (a : Float). mul binary64 (add binary64 a q) oneHalf) x
+      ∙ ap (λ (a : Float). mul binary64 (add binary64 (getD l ((n - 1) / 2) zeroF) a) oneHalf) y
+      ∙ ap (λ (i : ℕ). mul binary64 (add binary64 (getD l ((i - 1) / 2) zeroF) (getD l (i / 2) zeroF)) oneHalf) (sym c)
 
 -- what the test of the powers says
 pub all-are-plain : (l : List Float) → allOf signClear l ≡ true → All (λ x. T (fits binary64 x)) l → All (Plain binary64) l

@@ -5,22 +5,17 @@ use mathlib.Core.List.{List, [], foldl}
 use Prim.Native.Nat.{ℕ, zero, suc}
 use lib.Ieee.{Float}
 use Rattle.rules.specs.Log.{Span}
+use Rattle.rules.specs.Answers.{isAccepted}
 use Rattle.rules.specs.Refusals.{badStart, anyBeyond, firstBeyondFrom}
 use Rattle.log.specs.View.{Logged}
 use Rattle.iq.specs.View.{settledOf}
 use Rattle.image.specs.declared.HopAnswer.{HopAnswer}
 use Rattle.image.specs.declared.HopAnswer.the-variants as monitor
-use Rattle.image.specs.Observe.{Said, nothing, refused, answered, Seen, firstOr, endOf, full, closing, adding, acceptedOf, leaving, isNone, observed}
+use Rattle.image.specs.Observe.{Seen, firstOr, endOf, full, closing, adding, acceptedOf, leaving, isNone, observed}
 use Rattle.image.specs.ObserveLaws.{observed-by, accepted-by}
 use Rattle.state.specs.declared.InputConditioner.{InputConditioner}
 use Rattle.hops.specs.Hops.{hopRefusal, saidHop, answerOf, isOffIq, isObserving, watched, suspectedBy, uncertain, Hopped, followed, taken, byNumber, hopOf}
 use Rattle.hops.specs.HopLaws.{watched-by}
-
--- an accepted hop's answer
-abbrev pub isAnswered : Said → Bool
-isAnswered nothing = false
-isAnswered (refused l) = false
-isAnswered (answered a) = true
 
 -- all as it was
 pub record Keeps (c : InputConditioner) (store : List ℕ) (ws : List Float) (h : Hopped) : Type 0 where
@@ -57,7 +52,7 @@ module _ (c : InputConditioner) (xs : List ℕ) (start : ℕ) (spans : List ℕ)
 
   -- not an accepted hop's answer, and so all is kept
   abbrev Kept : Seen → Type 0
-  Kept s = isAnswered (saidHop (answerOf (s .seen .answer))) ≡ false → Keeps c spans ws (followed c spans s)
+  Kept s = isAccepted (saidHop (answerOf (s .seen .answer))) ≡ false → Keeps c spans ws (followed c spans s)
 
   kept-accepted : (t : Bool) → Kept (cond t (closing (c .monitor) xs start ws) (adding (c .monitor) xs start ws))
   kept-accepted true e = absurd (false≢true (sym e))
@@ -83,11 +78,11 @@ module _ (c : InputConditioner) (xs : List ℕ) (start : ℕ) (spans : List ℕ)
   kept-watched : Kept (watched c xs start ws)
   kept-watched = let t = isOffIq (settledOf (c .settings .iq)) in subst Kept (sym (watched-by c xs start ws t refl)) (kept-off t)
 
-  kept-number : (k : ℕ) → let h = byNumber k c spans ws (taken c xs start spans ws) in isAnswered (saidHop (h .called .answer)) ≡ false → Keeps c spans ws h
+  kept-number : (k : ℕ) → let h = byNumber k c spans ws (taken c xs start spans ws) in isAccepted (saidHop (h .called .answer)) ≡ false → Keeps c spans ws h
   unfolding taken
   kept-number zero = kept-watched
   kept-number (suc k) = λ e. record { state = refl; spans = refl; words = refl }
 
-  pub hop-keeps : isAnswered (saidHop (hopOf c xs start spans ws .called .answer)) ≡ false → Keeps c spans ws (hopOf c xs start spans ws)
+  pub hop-keeps : isAccepted (saidHop (hopOf c xs start spans ws .called .answer)) ≡ false → Keeps c spans ws (hopOf c xs start spans ws)
   unfolding hopOf
   hop-keeps = kept-number (hopRefusal c spans ws)

@@ -10,6 +10,7 @@ use lib.ListN.{length}
 use lib.Ieee.{Float}
 use Rattle.rules.specs.Monitor.{reported}
 use Rattle.rules.specs.Log.{spanOf}
+use Rattle.rules.specs.Answers.{nothing, refused}
 use Rattle.rules.specs.Refusals.{firstOf, badStart, anyBeyond, firstBeyondFrom}
 use Rattle.log.specs.declared.Log.{Log}
 use Rattle.log.specs.View.{Logged, marksAt}
@@ -24,7 +25,7 @@ use Rattle.image.specs.declared.HopAnswer.the-variants as monitor
 use Rattle.image.specs.declared.ImageMonitor.{ImageMonitor}
 use Rattle.image.specs.declared.Observed.{Observed}
 use Rattle.image.specs.Words.{wordsFit}
-use Rattle.image.specs.Observe.{nothing, refused, said, Seen, reportIn, firstOr, endOf, full, closing, adding, acceptedOf, leaving, isNone, observed, hopSaid}
+use Rattle.image.specs.Observe.{said, Seen, reportIn, firstOr, endOf, full, closing, adding, acceptedOf, leaving, isNone, observed, hopSaid}
 use Rattle.image.specs.ObserveLaws.{observed-by, accepted-by, said-is, is-some, is-next}
 use Rattle.state.specs.declared.InputConditioner.{InputConditioner}
 use Rattle.state.specs.Fits.{begunFits, stateFits}

@@ -5,9 +5,10 @@ use Prim.Native.Nat.{ℕ, zero, suc, _*_}
 use lib.Dec.{eqb}
 use lib.ListN.{length}
 use lib.Ieee.{Float}
-use Rattle.rules.specs.Iq.{Settled, isOff, observing, withheld, correcting}
-use Rattle.rules.specs.Log.{Span, ringNumber, iq, isUncertain}
-use Rattle.rules.specs.Monitor.{noReport, report, suspectedSpan}
+use Rattle.rules.specs.Iq.{Settled, Off, Observing, Withheld, Correcting}
+use Rattle.rules.specs.Log.{Span, ringNumber, iq, Uncertain}
+use Rattle.rules.specs.Monitor.{Answer, noReport, report, suspectedSpan}
+use Rattle.rules.specs.Answers.{Said, accepted, nothing, refused}
 use Rattle.rules.specs.Refusals.{Cause, firstOf, badLength}
 use Rattle.log.specs.declared.Log.{Log}
 use Rattle.log.specs.View.{Logged, markedAt}
@@ -16,7 +17,7 @@ use Rattle.image.specs.declared.HopAnswer.{HopAnswer}
 use Rattle.image.specs.declared.HopAnswer.the-variants as monitor
 use Rattle.image.specs.declared.ImageMonitor.{ImageMonitor}
 use Rattle.image.specs.Words.{wordsFit}
-use Rattle.image.specs.Observe.{Said, nothing, refused, answered, reportFrom, Seen, leaving, observed, hopSaid}
+use Rattle.image.specs.Observe.{reportFrom, Seen, leaving, observed, hopSaid}
 use Rattle.state.specs.declared.InputConditioner.{InputConditioner}
 use Rattle.state.specs.Causes.{badState, badSpans}
 use Rattle.hops.specs.declared.HopFitness.{HopFitness}
@@ -51,10 +52,10 @@ fitnessNumber fitness.BadLength = 4
 -- ---- the answer
 
 -- document 01's number and values for each
-abbrev pub saidHop : HopSaid → Said
+abbrev pub saidHop : HopSaid → Said Answer
 saidHop hop.Nothing = nothing
-saidHop hop.NoReport = answered noReport
-saidHop (hop.Report e) = answered (report (reportFrom e))
+saidHop hop.NoReport = accepted noReport
+saidHop (hop.Report e) = accepted (report (reportFrom e))
 saidHop hop.BadState = refused (5 ∷ [])
 saidHop hop.BadLength = refused (4 ∷ [])
 saidHop hop.Early = refused (9 ∷ [])
@@ -69,23 +70,23 @@ answerOf monitor.Early = hop.Early
 answerOf (monitor.Beyond k) = hop.Beyond k
 
 abbrev pub isOffIq : Settled → Bool
-isOffIq isOff = true
-isOffIq observing = false
-isOffIq (correcting r) = false
-isOffIq withheld = false
+isOffIq Off = true
+isOffIq Observing = false
+isOffIq (Correcting r) = false
+isOffIq Withheld = false
 
 abbrev pub isObserving : Settled → Bool
-isObserving isOff = false
-isObserving observing = true
-isObserving (correcting r) = false
-isObserving withheld = false
+isObserving Off = false
+isObserving Observing = true
+isObserving (Correcting r) = false
+isObserving Withheld = false
 
-abbrev numbered : ℕ → Said → Said
+abbrev numbered : ℕ → Said Answer → Said Answer
 numbered zero s = s
 numbered (suc k) s = refused (suc k ∷ [])
 
 -- '5, 4; IQ off, wrong length or n < 8 answers nothing; then 9, 7'
-unfoldable pub hopTold : InputConditioner → List ℕ → ℕ → List ℕ → List Float → Said
+unfoldable pub hopTold : InputConditioner → List ℕ → ℕ → List ℕ → List Float → Said Answer
 hopTold c xs start spans ws =
     let s = c .settings in
     numbered (hopRefusal c spans ws) (cond (isOffIq (settledOf (s .iq))) nothing (hopSaid (c .monitor) (s .fs) (s .n) xs start ws))
@@ -107,7 +108,7 @@ suspectedBy monitor.Early = []
 suspectedBy (monitor.Beyond k) = []
 
 abbrev pub uncertain : ℕ → Logged → Span → Logged
-uncertain cap x m = markedAt cap x (ringNumber iq isUncertain) m
+uncertain cap x m = markedAt cap x (ringNumber iq Uncertain) m
 
 -- 'A suspected window is marked Uncertain only while observing.'
 abbrev pub noted : ℕ → Bool → HopAnswer → Logged → Logged

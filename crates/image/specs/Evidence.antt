@@ -9,6 +9,7 @@ use lib.ListN.{length, getD, replicate, List·getD-append}
 use lib.Seq.{getD-append-add}
 use lib.Ieee.{Float, nan, lt}
 use Rattle.complex.specs.Complex.{Complex}
+use Rattle.rules.specs.Answers.{Said, accepted}
 use Rattle.rules.specs.Constants.{zeroF}
 use Rattle.rules.specs.Lists.{upTo}
 use Rattle.rules.specs.ListLaws.{length-upTo, getD-upTo}
@@ -17,7 +18,7 @@ use Rattle.rules.specs.Refusals.{badStart}
 use Rattle.image.specs.declared.Begun.the-variants.{Never, At}
 use Rattle.image.specs.declared.HopAnswer.the-variants as answer
 use Rattle.image.specs.WordsLaws.{added-words, no-words, powers-are}
-use Rattle.image.specs.Observe.{Seen, Said, answered, said, powerAt, crossIn, reportIn, evidence, fresh, firstOr, monitorOf, full, closing, adding, acceptedOf, observed}
+use Rattle.image.specs.Observe.{Seen, said, powerAt, crossIn, reportIn, evidence, fresh, firstOr, monitorOf, full, closing, adding, acceptedOf, observed}
 use Rattle.image.specs.ObserveLaws.{accepted-by, observed-by, is-some}
 use Rattle.image.specs.Hops.{Accepted, InOrder, lastEnd, followed, watched, answerOf, windowState, byRules}
 
@@ -100,9 +101,9 @@ seenBy n t w h =
     record { seen = record { monitor = windowState next (hopEnd n h); answer = answerOf (cond t (report (reportOf n w h)) noReport) }; words = monitorWords n next }
 
 abbrev pub stepped : ℕ → ℕ → List Hop → Hop → Seen
-stepped n length w h =
-    let next = nextWindow n length w h in
-    record { seen = record { monitor = windowState next (hopEnd n h); answer = answerOf (answerTo n length w h) }; words = monitorWords n next }
+stepped n enough w h =
+    let next = nextWindow n enough w h in
+    record { seen = record { monitor = windowState next (hopEnd n h); answer = answerOf (answerTo n enough w h) }; words = monitorWords n next }
 
 start-is : (w : List Hop) (end : ℕ) (h : Hop) → firstOr (windowState w end .first) (h .start) ≡ windowStart (w ++ (h ∷ []))
 start-is [] end h = refl
@@ -152,32 +153,32 @@ pub hops-seen : (fs : Float) (n : ℕ) (w : List Hop) (end : ℕ) (hs : List Hop
 unfolding watched answers openWindow lastEnd
 hops-seen fs n w end [] o = refl
 hops-seen fs n w end (h ∷ hs) o =
-    let length = windowLength fs in
+    let enough = windowLength fs in
     ap (λ (s : Seen). followed s (watched fs n (s .seen .monitor) (s .words) hs)) (one-hop fs n w end h (o .0))
-    ∙ ap (followed (stepped n length w h)) (hops-seen fs n (nextWindow n length w h) (hopEnd n h) hs (o .1))
+    ∙ ap (followed (stepped n enough w h)) (hops-seen fs n (nextWindow n enough w h) (hopEnd n h) hs (o .1))
 
 -- THE EVIDENCE, from a fresh monitor and words of 0
 pub evidence-is : (fs : Float) (n : ℕ) (hs : List Hop) → InOrder n 0 hs → watched fs n fresh (replicate (4 * n) zeroF) hs ≡ byRules fs n [] 0 hs
 evidence-is fs n hs o = ap (λ (ws : List Float). watched fs n fresh ws hs) (sym (no-words n)) ∙ hops-seen fs n [] 0 hs o
 
 -- in document 01's words
-pub said-answers : (l : List Answer) → map said (map answerOf l) ≡ map answered l
+pub said-answers : (l : List Answer) → map said (map answerOf l) ≡ map accepted l
 said-answers [] = refl
-said-answers (noReport ∷ l) = ap (λ (t : List Said). answered noReport ∷ t) (said-answers l)
-said-answers (report r ∷ l) = ap (λ (t : List Said). answered (report r) ∷ t) (said-answers l)
+said-answers (noReport ∷ l) = ap (λ (t : List (Said Answer)). accepted noReport ∷ t) (said-answers l)
+said-answers (report r ∷ l) = ap (λ (t : List (Said Answer)). accepted (report r) ∷ t) (said-answers l)
 
 -- ---- hops after hops, by the rules
 
-module _ (n length : ℕ) where
-  pub answers-append : (w hs gs : List Hop) → answers n length w (hs ++ gs) ≡ answers n length w hs ++ answers n length (openWindow n length w hs) gs
+module _ (n enough : ℕ) where
+  pub answers-append : (w hs gs : List Hop) → answers n enough w (hs ++ gs) ≡ answers n enough w hs ++ answers n enough (openWindow n enough w hs) gs
   unfolding answers openWindow
   answers-append w [] gs = refl
-  answers-append w (h ∷ hs) gs = ap (λ (l : List Answer). answerTo n length w h ∷ l) (answers-append (nextWindow n length w h) hs gs)
+  answers-append w (h ∷ hs) gs = ap (λ (l : List Answer). answerTo n enough w h ∷ l) (answers-append (nextWindow n enough w h) hs gs)
 
-  pub window-append : (w hs gs : List Hop) → openWindow n length w (hs ++ gs) ≡ openWindow n length (openWindow n length w hs) gs
+  pub window-append : (w hs gs : List Hop) → openWindow n enough w (hs ++ gs) ≡ openWindow n enough (openWindow n enough w hs) gs
   unfolding openWindow
   window-append w [] gs = refl
-  window-append w (h ∷ hs) gs = window-append (nextWindow n length w h) hs gs
+  window-append w (h ∷ hs) gs = window-append (nextWindow n enough w h) hs gs
 
 pub end-append : (n end : ℕ) (hs gs : List Hop) → lastEnd n end (hs ++ gs) ≡ lastEnd n (lastEnd n end hs) gs
 unfolding lastEnd

@@ -9,6 +9,7 @@ use lib.Ieee.{Float, nan}
 use Rattle.complex.specs.Complex.{Complex}
 use Rattle.rules.specs.Constants.{zeroF}
 use Rattle.rules.specs.Monitor.{Choice, nobody, channelAt, eligible, stronger, Report, Pair, pairOf, reported, windowLength, Answer, noReport, report}
+use Rattle.rules.specs.Answers.{Said, accepted, nothing, refused}
 use Rattle.rules.specs.Refusals.{firstOf, badStart, anyBeyond, firstBeyondFrom}
 use Rattle.part_limit.specs.Limit.{returned}
 use Rattle.image.specs.declared.Strongest.{Strongest}
@@ -41,16 +42,11 @@ evidence r = record { start = r .start; end = r .end; suspected = r .suspected; 
 abbrev pub reportFrom : Evidence → Report
 reportFrom e = record { start = e .start; end = e .end; suspected = e .suspected; coherence = e .coherence; floor = e .floor; strongest = e .strongest; mirror = e .mirror }
 
--- a hop's answer in document 01's words: nothing, what the table returns, or an accepted hop's answer
-pub data Said : Type 0 where
-  nothing : Said
-  refused : List ℕ → Said
-  answered : Answer → Said
-
-abbrev pub said : HopAnswer → Said
+-- a hop's answer in document 01's words
+abbrev pub said : HopAnswer → Said Answer
 said answer.Nothing = nothing
-said answer.NoReport = answered noReport
-said (answer.Report e) = answered (report (reportFrom e))
+said answer.NoReport = accepted noReport
+said (answer.Report e) = accepted (report (reportFrom e))
 said answer.Early = refused (9 ∷ [])
 said (answer.Beyond k) = refused (7 ∷ k ∷ [])
 
@@ -150,9 +146,9 @@ answerIn m fs xs start ws =
     let end = endOf xs start in
     cond (full fs first end) (report (reportIn n (addedHop xs ws n) first end)) noReport
 
-abbrev pub refusedOr : List ℕ → Answer → Said
-refusedOr [] a = answered a
+abbrev pub refusedOr : List ℕ → Answer → Said Answer
+refusedOr [] a = accepted a
 refusedOr (n ∷ place) a = refused (n ∷ place)
 
-unfoldable pub hopSaid : ImageMonitor → Float → ℕ → List ℕ → ℕ → List Float → Said
+unfoldable pub hopSaid : ImageMonitor → Float → ℕ → List ℕ → ℕ → List Float → Said Answer
 hopSaid m fs n xs start ws = cond (isNone n xs) nothing (refusedOr (hopReturned (m .end) start xs) (answerIn m fs xs start ws))

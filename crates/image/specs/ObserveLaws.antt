@@ -7,13 +7,14 @@ use lib.Dec.{T, eqb, ltb}
 use lib.ListN.{length}
 use lib.Ieee.{Float}
 use borrow.Author.Tests.{eqb-true, ltb-false, eq-eqb, ne-eqb, lt-ltb, le-ltb}
+use Rattle.rules.specs.Answers.{accepted, nothing}
 use Rattle.rules.specs.Monitor.{report, noReport}
 use Rattle.rules.specs.Refusals.{firstOf, badStart, anyBeyond, firstBeyondFrom}
 use Rattle.part_limit.specs.Limit.{returned}
 use Rattle.image.specs.declared.HopAnswer.the-variants as answer
 use Rattle.image.specs.declared.ImageMonitor.{ImageMonitor}
 use Rattle.image.specs.Words.{addedHop}
-use Rattle.image.specs.Observe.{Seen, reportIn, nothing, answered, said, refusedOr, hopReturned, answerIn, hopSaid, firstOr, endOf, full, closing, adding, acceptedOf, leaving, isNone, observed}
+use Rattle.image.specs.Observe.{Seen, reportIn, said, refusedOr, hopReturned, answerIn, hopSaid, firstOr, endOf, full, closing, adding, acceptedOf, leaving, isNone, observed}
 
 pub accepted-by : (t : Bool) (m : ImageMonitor) (fs : Float) (xs : List ℕ) (start : ℕ) (ws : List Float) → full fs (firstOr (m .first) start) (endOf xs start) ≡ t
     → acceptedOf m fs xs start ws ≡ cond t (closing m xs start ws) (adding m xs start ws)
@@ -32,7 +33,7 @@ module _ (m : ImageMonitor) (fs : Float) (n : ℕ) (xs : List ℕ) (start : ℕ)
       ∙ ap (λ (t : Bool). cond a (leaving m ws answer.Nothing) (cond b (leaving m ws answer.Early) (late t))) g
 
   said-accepted : (t : Bool) → said (cond t (closing m xs start ws) (adding m xs start ws) .seen .answer)
-      ≡ answered (cond t (report (reportIn (length xs) (addedHop xs ws (length xs)) (firstOr (m .first) start) (endOf xs start))) noReport)
+      ≡ accepted (cond t (report (reportIn (length xs) (addedHop xs ws (length xs)) (firstOr (m .first) start) (endOf xs start))) noReport)
   said-accepted true = refl
   said-accepted false = refl
 

@@ -18,14 +18,14 @@ use Rattle.ieee.specs.Plain.{signClear}
 use Rattle.complex.specs.Complex.{Complex, power, product, sampleOf}
 use Rattle.part_limit.specs.LimitLaws.{first-place}
 use Rattle.rules.specs.SizeLaws.{size-within, within-size}
-use Rattle.rules.specs.Constants.{zeroF, partLimit}
+use Rattle.rules.specs.Constants.{zeroF, partLimit, wordLimit}
 use Rattle.rules.specs.Guard.{magnitude}
 use Rattle.rules.specs.Lists.{at, upTo}
 use Rattle.rules.specs.SortLaws.{All}
 use Rattle.rules.specs.Refusals.{withinLimit, firstBeyondFrom}
 use Rattle.rules.specs.Monitor.{Hop, hopEnd, channel, mirrorOf, channelPower, channelProduct, total, powerSum, realSum, imagSum, windowStart, due, nextWindow, openWindow, windowLength, monitorWords}
 use Rattle.rules.specs.Lists.{allOf}
-use Rattle.image.specs.Words.{wordLimit, sumFits, powerFits, wordsFit}
+use Rattle.image.specs.Words.{sumFits, powerFits, wordsFit}
 use Rattle.rules.specs.Lists.{allOf}
 use Rattle.image.specs.WordsLaws.{powers-are, others-are}
 use Rattle.image.specs.ObserveLaws.{is-some, is-next}
@@ -235,28 +235,28 @@ start-of : (w : List Hop) (h : Hop) (end : ℕ) → windowStart w + 2 * length w
 start-of [] h end r e = omega arith
 start-of (g ∷ w) h end r e = omega arith
 
-pub sound-next : (n length end : ℕ) (w : List Hop) (h : Hop) → n ≤ 2048 → Accepted n end h → Sound n end w → Sound n (hopEnd n h) (nextWindow n length w h)
-sound-next n length end w h big a s = go (due n length w h)
+pub sound-next : (n enough end : ℕ) (w : List Hop) (h : Hop) → n ≤ 2048 → Accepted n end h → Sound n end w → Sound n (hopEnd n h) (nextWindow n enough w h)
+sound-next n enough end w h big a s = go (due n enough w h)
   where
     next : (h .start ≤ 2 ^ 48) × (end ≤ h .start)
     next = is-next end (h .start) (a .start)
 
-    enough : 8 ≤ n
-    enough = is-some n (h .channels) (a .some) .1
+    wide : 8 ≤ n
+    wide = is-some n (h .channels) (a .some) .1
 
     go : (t : Bool) → Sound n (hopEnd n h) (cond t [] (w ++ (h ∷ [])))
     go true = record { all = tt; room = omega arith; late = omega (arith, next .0, big) }
     go false =
         record {
           all = all-snoc (Heard n) w h (s .all) (heard n end h a);
-          room = let l = length-append w (h ∷ []) in let r = start-of w h end (s .room) (next .1) in omega (arith, enough);
+          room = let l = length-append w (h ∷ []) in let r = start-of w h end (s .room) (next .1) in omega (arith, wide);
           late = omega (arith, next .0, big);
         }
 
-pub sound-hops : (n length end : ℕ) (w hs : List Hop) → n ≤ 2048 → InOrder n end hs → Sound n end w → Sound n (lastEnd n end hs) (openWindow n length w hs)
+pub sound-hops : (n enough end : ℕ) (w hs : List Hop) → n ≤ 2048 → InOrder n end hs → Sound n end w → Sound n (lastEnd n end hs) (openWindow n enough w hs)
 unfolding lastEnd openWindow
-sound-hops n length end w [] big o s = s
-sound-hops n length end w (h ∷ hs) big o s = sound-hops n length (hopEnd n h) (nextWindow n length w h) hs big (o .1) (sound-next n length end w h big (o .0) s)
+sound-hops n enough end w [] big o s = s
+sound-hops n enough end w (h ∷ hs) big o s = sound-hops n enough (hopEnd n h) (nextWindow n enough w h) hs big (o .1) (sound-next n enough end w h big (o .0) s)
 
 pub sound-none : (n : ℕ) → Sound n 0 []
 sound-none n = record { all = tt; room = lit≤ tt; late = lit≤ tt }

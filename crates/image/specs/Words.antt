@@ -3,10 +3,10 @@ use mathlib.Core.Bool.{Bool, _&&_}
 use mathlib.Core.List.{List}
 use Prim.Native.Nat.{ℕ, zero, suc, _+_, _*_}
 use lib.ListN.{length, getD, set, take, drop}
-use lib.Ieee.{Float, nan, binary64, add, le, ofBits}
+use lib.Ieee.{Float, nan, binary64, add, le}
 use Rattle.ieee.specs.Plain.{signClear}
 use Rattle.complex.specs.Complex.{Complex, product, power, sampleOf}
-use Rattle.rules.specs.Constants.{zeroF}
+use Rattle.rules.specs.Constants.{zeroF, wordLimit}
 use Rattle.rules.specs.Guard.{magnitude}
 use Rattle.rules.specs.Lists.{at, allOf}
 use Rattle.rules.specs.Monitor.{mirrorOf}
@@ -35,10 +35,6 @@ addedHop xs ws zero = ws
 addedHop xs ws (suc k) = addedChannel xs (addedHop xs ws k) k
 
 -- ---- number 5: 'a monitor word not within 1e60', 'a window or channel power with its sign bit set'
-
--- 1e60
-abbrev pub wordLimit : Float
-wordLimit = ofBits binary64 0x4c63_e9e4_e4c2_f344
 
 unfoldable pub sumFits : Float → Bool
 sumFits x = le (magnitude x) wordLimit

@@ -1,14 +1,14 @@
 -- The impulse stage as a machine that takes one sample after the other, for any setting: what the code's contracts say of each function. Definitions only.
 use mathlib.Core.Bool.{Bool, true, false, cond, _||_}
 use mathlib.Core.List.{List, [], _∷_, _++_}
-use Prim.Native.Nat.{ℕ, zero, suc, _+_, _-_, _/_, _%_}
+use Prim.Native.Nat.{ℕ, zero, suc, _+_, _-_, _/_, _%_, min}
 use lib.Dec.{ltb, eqb}
-use lib.ListN.{getD, set, replicate}
+use lib.ListN.{getD, set, take, replicate}
 use lib.Ieee.{Float, nan}
 use Rattle.complex.specs.Complex.{wordOf, sampleOf}
 use Rattle.rules.specs.Constants.{zeroF}
-use Rattle.rules.specs.Impulse.{Setting, standard, width, lookahead, powerOf, pauses, mendable, between}
-use Rattle.ordered.specs.Ordered.{ordered, flaggedBy}
+use Rattle.rules.specs.Impulse.{Setting, standard, width, lookahead, powerOf, standsOut, pauses, mendable, between}
+use Rattle.ordered.specs.Ordered.{ordered, mean}
 use Rattle.impulse.specs.declared.Run.{Run}
 use Rattle.impulse.specs.declared.Open.{Open}
 use Rattle.impulse.specs.declared.Open.the-variants.{Running, Closed}
@@ -152,6 +152,10 @@ decided s g j l true = record { gate = withRun g (grown (g .run) j (g .paused));
 decided s g j l false =
     let x = getD l (j % lookahead s) 0 in
     record { gate = withNeighbour g x; uncertain = g .paused; ended = ending s (g .run) l; pending = endingPending s (g .run) (g .left) x l }
+
+-- a sample of power p is flagged, when n samples have come: the strongest `trim` of the window are left out of the mean
+unfoldable pub flaggedBy : ℕ → ℕ → ℕ → List Float → Float → Bool
+flaggedBy w trim n sorted p = standsOut (mean (take (min n w - trim) sorted)) p
 
 -- sample j has power p
 unfoldable pub judge : Setting → Gate → ℕ → Float → List Float → List ℕ → Judgement

@@ -9,7 +9,7 @@ use lib.ListN.{take, drop}
 use Rattle.rules.specs.Impulse.{Setting, before, start, closes, blockOf, paused, touches, mendable, Event, uncertain, kept, mended, eventsAt, events}
 use Rattle.rules.specs.Runs.{before-le, before-off, start-on}
 use Rattle.rules.specs.EventLaws.{marks-append}
-use Rattle.rules.specs.Log.{Span, Mark, isRepaired, isFlagged, isCorrected, isUncertain, marksOf}
+use Rattle.rules.specs.Log.{Span, Mark, Repaired, Flagged, Corrected, Uncertain, marksOf}
 
 -- each span starts at the end of the one before or later
 abbrev pub Climbs : ℕ → List Span → Type 0
@@ -39,10 +39,10 @@ end-append lo (p ∷ ps) qs = end-append (p .start + p .len) ps qs
 
 -- what a ring may hold when j are judged: all of it before this
 abbrev pub bound : Mark → (ℕ → Bool) → ℕ → ℕ
-bound isRepaired F j = start F j
-bound isFlagged F j = start F j
-bound isCorrected F j = 0
-bound isUncertain F j = j
+bound Repaired F j = start F j
+bound Flagged F j = start F j
+bound Corrected F j = 0
+bound Uncertain F j = j
 
 module _ (s : Setting) (F : ℕ → Bool) (xs : List ℕ) where
   pub record Once (r : Mark) (j : ℕ) : Type 0 where
@@ -67,45 +67,45 @@ module _ (s : Setting) (F : ℕ → Bool) (xs : List ℕ) where
 
       go : (f : Bool) → F j ≡ f → (r : Mark) (p c m : Bool) → closes F j ≡ c → e ≤ bound r F j → Goal r p c m
       go true t r p true m q h = absurd (false≢true (rw t at q))
-      go true t isRepaired true false m q h = let a = start-on F j t in (tt, omega arith)
-      go true t isRepaired false false m q h = let a = start-on F j t in (tt, omega arith)
-      go true t isFlagged true false m q h = let a = start-on F j t in (tt, omega arith)
-      go true t isFlagged false false m q h = let a = start-on F j t in (tt, omega arith)
-      go true t isCorrected true false m q h = (tt, h)
-      go true t isCorrected false false m q h = (tt, h)
-      go true t isUncertain true false m q h = ((h, tt), omega arith)
-      go true t isUncertain false false m q h = (tt, omega arith)
-      go false t isRepaired true true true q h = let b = before-le F j in let z = before-off F j t in ((h, tt), omega arith)
-      go false t isRepaired true true false q h = let b = before-le F j in let z = before-off F j t in (tt, omega arith)
-      go false t isRepaired true false m q h = let b = before-le F j in let z = before-off F j t in (tt, omega arith)
-      go false t isRepaired false true true q h = let b = before-le F j in let z = before-off F j t in ((h, tt), omega arith)
-      go false t isRepaired false true false q h = let b = before-le F j in let z = before-off F j t in (tt, omega arith)
-      go false t isRepaired false false m q h = let b = before-le F j in let z = before-off F j t in (tt, omega arith)
-      go false t isFlagged true true true q h = let b = before-le F j in let z = before-off F j t in (tt, omega arith)
-      go false t isFlagged true true false q h = let b = before-le F j in let z = before-off F j t in ((h, tt), omega arith)
-      go false t isFlagged true false m q h = let b = before-le F j in let z = before-off F j t in (tt, omega arith)
-      go false t isFlagged false true true q h = let b = before-le F j in let z = before-off F j t in (tt, omega arith)
-      go false t isFlagged false true false q h = let b = before-le F j in let z = before-off F j t in ((h, tt), omega arith)
-      go false t isFlagged false false m q h = let b = before-le F j in let z = before-off F j t in (tt, omega arith)
-      go false t isCorrected true true true q h = (tt, h)
-      go false t isCorrected true true false q h = (tt, h)
-      go false t isCorrected true false m q h = (tt, h)
-      go false t isCorrected false true true q h = (tt, h)
-      go false t isCorrected false true false q h = (tt, h)
-      go false t isCorrected false false m q h = (tt, h)
-      go false t isUncertain true true true q h = ((h, tt), omega arith)
-      go false t isUncertain true true false q h = ((h, tt), omega arith)
-      go false t isUncertain true false m q h = ((h, tt), omega arith)
-      go false t isUncertain false true true q h = (tt, omega arith)
-      go false t isUncertain false true false q h = (tt, omega arith)
-      go false t isUncertain false false m q h = (tt, omega arith)
+      go true t Repaired true false m q h = let a = start-on F j t in (tt, omega arith)
+      go true t Repaired false false m q h = let a = start-on F j t in (tt, omega arith)
+      go true t Flagged true false m q h = let a = start-on F j t in (tt, omega arith)
+      go true t Flagged false false m q h = let a = start-on F j t in (tt, omega arith)
+      go true t Corrected true false m q h = (tt, h)
+      go true t Corrected false false m q h = (tt, h)
+      go true t Uncertain true false m q h = ((h, tt), omega arith)
+      go true t Uncertain false false m q h = (tt, omega arith)
+      go false t Repaired true true true q h = let b = before-le F j in let z = before-off F j t in ((h, tt), omega arith)
+      go false t Repaired true true false q h = let b = before-le F j in let z = before-off F j t in (tt, omega arith)
+      go false t Repaired true false m q h = let b = before-le F j in let z = before-off F j t in (tt, omega arith)
+      go false t Repaired false true true q h = let b = before-le F j in let z = before-off F j t in ((h, tt), omega arith)
+      go false t Repaired false true false q h = let b = before-le F j in let z = before-off F j t in (tt, omega arith)
+      go false t Repaired false false m q h = let b = before-le F j in let z = before-off F j t in (tt, omega arith)
+      go false t Flagged true true true q h = let b = before-le F j in let z = before-off F j t in (tt, omega arith)
+      go false t Flagged true true false q h = let b = before-le F j in let z = before-off F j t in ((h, tt), omega arith)
+      go false t Flagged true false m q h = let b = before-le F j in let z = before-off F j t in (tt, omega arith)
+      go false t Flagged false true true q h = let b = before-le F j in let z = before-off F j t in (tt, omega arith)
+      go false t Flagged false true false q h = let b = before-le F j in let z = before-off F j t in ((h, tt), omega arith)
+      go false t Flagged false false m q h = let b = before-le F j in let z = before-off F j t in (tt, omega arith)
+      go false t Corrected true true true q h = (tt, h)
+      go false t Corrected true true false q h = (tt, h)
+      go false t Corrected true false m q h = (tt, h)
+      go false t Corrected false true true q h = (tt, h)
+      go false t Corrected false true false q h = (tt, h)
+      go false t Corrected false false m q h = (tt, h)
+      go false t Uncertain true true true q h = ((h, tt), omega arith)
+      go false t Uncertain true true false q h = ((h, tt), omega arith)
+      go false t Uncertain true false m q h = ((h, tt), omega arith)
+      go false t Uncertain false true true q h = (tt, omega arith)
+      go false t Uncertain false true false q h = (tt, omega arith)
+      go false t Uncertain false false m q h = (tt, omega arith)
 
   pub once : (r : Mark) (j : ℕ) → Once r j
   unfolding events eventsAt before marksOf
-  once isRepaired zero = record { climb = tt; ended = omega arith }
-  once isFlagged zero = record { climb = tt; ended = omega arith }
-  once isCorrected zero = record { climb = tt; ended = omega arith }
-  once isUncertain zero = record { climb = tt; ended = omega arith }
+  once Repaired zero = record { climb = tt; ended = omega arith }
+  once Flagged zero = record { climb = tt; ended = omega arith }
+  once Corrected zero = record { climb = tt; ended = omega arith }
+  once Uncertain zero = record { climb = tt; ended = omega arith }
   once r (suc j) =
       let i = once r j in
       let ps = marksOf r (events s F xs j) in
@@ -126,7 +126,7 @@ module _ (s : Setting) (F : ℕ → Bool) (xs : List ℕ) where
       omega (arith, i .ended)
     where
       in-all : (r : Mark) → bound r F j ≤ j
-      in-all isRepaired = omega arith
-      in-all isFlagged = omega arith
-      in-all isCorrected = omega arith
-      in-all isUncertain = omega arith
+      in-all Repaired = omega arith
+      in-all Flagged = omega arith
+      in-all Corrected = omega arith
+      in-all Uncertain = omega arith

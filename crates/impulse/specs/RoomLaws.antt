@@ -16,8 +16,8 @@ use Rattle.impulse.specs.declared.Open.{Open}
 use Rattle.impulse.specs.declared.Open.the-variants.{Running, Closed}
 use Rattle.impulse.specs.declared.Gate.{Gate}
 use Rattle.impulse.specs.declared.ImpulseSuppressor.{ImpulseSuppressor}
-use Rattle.ordered.specs.Ordered.{ordered, flaggedBy}
-use Rattle.impulse.specs.Machine.{settingOf, entered, arrived, grown, going, Judgement, decided, judge, windowWith, sortedWith, pendingWith, verdict, push}
+use Rattle.ordered.specs.Ordered.{ordered}
+use Rattle.impulse.specs.Machine.{settingOf, entered, arrived, grown, going, Judgement, decided, judge, windowWith, sortedWith, pendingWith, verdict, push, flaggedBy}
 use Rattle.impulse.specs.Room.{runEnd, Room}
 
 -- ---- what entering a block leaves

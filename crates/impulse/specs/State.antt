@@ -8,7 +8,7 @@ use lib.Ieee.{Float, lt}
 use Rattle.rules.specs.Constants.{zeroF}
 use Rattle.rules.specs.Lists.{at}
 use Rattle.rules.specs.Sort.{sort}
-use Rattle.rules.specs.Impulse.{Setting, width, lookahead, powerOf, judged, flagged, before, start, closes, blockOf, paused, touches, mendable, leftPlace, value}
+use Rattle.rules.specs.Impulse.{Setting, width, lookahead, powerOf, judged, flagged, before, start, closes, blockOf, paused, touches, mendable, value}
 use Rattle.rules.specs.Runs.{newestBlock, flagsIn}
 use Rattle.impulse.specs.declared.Run.{Run}
 use Rattle.impulse.specs.declared.Open.{Open}
@@ -34,7 +34,7 @@ module _ (s : Setting) (F : ℕ → Bool) where
 
 -- the last sample that is not flagged stands right before the run
 unfoldable pub leftAt : (ℕ → Bool) → List ℕ → ℕ → Left
-leftAt F xs j = cond (eqb (start F j) 0) Missing (Neighbour (at xs (leftPlace (start F j))))
+leftAt F xs j = cond (eqb (start F j) 0) Missing (Neighbour (at xs (start F j - 1)))
 
 -- n have come, and block b is the newest judged sample's
 abbrev pub gateIn : Setting → (ℕ → Bool) → List ℕ → ℕ → ℕ → ℕ → Gate

@@ -17,7 +17,7 @@ use Rattle.rules.specs.Lists.{at}
 use Rattle.rules.specs.Guard.{usable}
 use Rattle.rules.specs.Sort.{insert, remove, sort}
 use Rattle.rules.specs.SortLaws.{All, all-take, all-getD, Ordered, insert-comm, remove-insert, sort-good, sort-snoc, sort-length, plain-order}
-use Rattle.rules.specs.Impulse.{Setting, width, lookahead, powerOf, flagged, judged, before, start, mends, between, leftPlace, leftOf, mendedAt, covers, value}
+use Rattle.rules.specs.Impulse.{Setting, width, lookahead, powerOf, flagged, judged, before, start, mends, between, leftOf, mendedAt, covers, value}
 use Rattle.rules.specs.Runs.{before-le, count-le, newestBlock, hit-says}
 use Rattle.impulse.specs.declared.Run.{Run}
 use Rattle.impulse.specs.declared.Open.{Open}
@@ -174,9 +174,9 @@ left-keeps P F xs each j h x = go (eqb (start F j) 0) refl
     out Missing = x
     out (Neighbour q) = q
 
-    go : (b : Bool) → eqb (start F j) 0 ≡ b → cond b Missing (Neighbour (at xs (leftPlace (start F j)))) ≡ Neighbour x → P x
+    go : (b : Bool) → eqb (start F j) 0 ≡ b → cond b Missing (Neighbour (at xs (start F j - 1))) ≡ Neighbour x → P x
     go true t e = let z : _≡_ {A = ℕ} 0 1 = cc in absurd (omega arith)
-    go false t e = let d = eqb-false (start F j) 0 t in subst P (ap out e) (each (leftPlace (start F j)) (omega (arith, d)))
+    go false t e = let d = eqb-false (start F j) 0 t in subst P (ap out e) (each (start F j - 1) (omega (arith, d)))
 
 -- ---- what is handed on, from what is received
 
@@ -188,9 +188,9 @@ value-keeps P Q s F xs up mends-well each zero k h w = up (at xs k) (each k w)
 value-keeps P Q s F xs up mends-well each (suc j) k h w =
     go (mends s F j && covers F j k) refl (value-keeps P Q s F xs up mends-well each j k (omega arith) w)
   where
-    left-well : (b : Bool) → P (cond b (at xs j) (at xs (leftPlace (start F j))))
+    left-well : (b : Bool) → P (cond b (at xs j) (at xs (start F j - 1)))
     left-well true = each j h
-    left-well false = each (leftPlace (start F j)) (omega arith)
+    left-well false = each (start F j - 1) (omega arith)
 
     go : (b : Bool) → mends s F j && covers F j k ≡ b → Q (value s F xs j k) → Q (cond b (mendedAt F xs j k) (value s F xs j k))
     go true e q =

@@ -17,7 +17,7 @@ use Rattle.rules.specs.Lists.{at, indicator}
 use Rattle.rules.specs.ListLaws.{length-map}
 use Rattle.rules.specs.Sort.{insert, remove, sort}
 use Rattle.rules.specs.SortLaws.{All, all-take, all-drop, all-getD, all-map, map-snoc, Ordered, sort-length, insert-length, sort-snoc, remove-insert}
-use Rattle.rules.specs.Impulse.{Setting, width, lookahead, powerOf, mean, reference, standsOut, window, flagged, judged, before, start, blockOf, pauses, paused, touches, mendable, mends, leftOf, mendedAt, covers, value}
+use Rattle.rules.specs.Impulse.{Setting, width, lookahead, powerOf, reference, standsOut, window, flagged, judged, before, start, blockOf, pauses, paused, touches, mendable, mends, leftOf, mendedAt, covers, value}
 use Rattle.rules.specs.Runs.{before-le, before-on, before-off, start-on, start-off, newestBlock, flagsIn, enter-paused, enter-flags, tally-flags, touches-more, hit-says, value-hit, value-miss, value-raw, value-fixed}
 use Rattle.impulse.specs.declared.Run.{Run}
 use Rattle.impulse.specs.declared.Open.the-variants.{Running, Closed}
@@ -25,8 +25,8 @@ use Rattle.impulse.specs.declared.Left.the-variants.{Neighbour, Missing}
 use Rattle.impulse.specs.declared.Gate.{Gate}
 use Rattle.impulse.specs.declared.Answer.{Answer}
 use Rattle.impulse.specs.declared.Answer.the-variants.{Released, Nothing}
-use Rattle.ordered.specs.Ordered.{ordered, flaggedBy}
-use Rattle.impulse.specs.Machine.{arrived, entered, grown, readRun, mendedWord, writeRun, neighbourOr, going, keptRun, mendedRun, closing, closingPending, ending, endingPending, Judgement, decided, judge, released, windowWith, sortedWith, pendingWith, verdict, push}
+use Rattle.ordered.specs.Ordered.{ordered, mean}
+use Rattle.impulse.specs.Machine.{arrived, entered, grown, readRun, mendedWord, writeRun, neighbourOr, going, keptRun, mendedRun, closing, closingPending, ending, endingPending, Judgement, decided, judge, released, windowWith, sortedWith, pendingWith, verdict, push, flaggedBy}
 use Rattle.impulse.specs.Circle.{circle}
 use Rattle.impulse.specs.CircleLaws.{circle-push, circle-length, circle-read, circle-read-any, circle-blank, circle-is, circle-same, around, apart}
 use Rattle.impulse.specs.RunLaws.{read-run, write-length, write-other, write-in}
@@ -146,7 +146,7 @@ module _ (good : Float → Type 0) (o : Ordered lt good) (xs : List ℕ) (fine :
 
 pub flag-is : (s : Setting) (xs : List ℕ) (n j : ℕ) → n ≡ j + s .half → n < length xs
     → flaggedBy (width s) (s .trim) (suc n) (padded (width s) (sort lt (newestPowers s xs (suc n)))) (powerOf (at xs j)) ≡ flagged s xs j
-unfolding flaggedBy flagged reference
+unfolding flaggedBy flagged reference mean
 flag-is s xs n j e h =
     let W = newestPowers s xs (suc n) in
     let a : suc n - width s ≡ j - s .half = omega arith in

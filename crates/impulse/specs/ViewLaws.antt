@@ -16,8 +16,7 @@ use Rattle.impulse.specs.declared.Open.{Open}
 use Rattle.impulse.specs.declared.Open.the-variants.{Running, Closed}
 use Rattle.impulse.specs.declared.Gate.{Gate}
 use Rattle.impulse.specs.declared.ImpulseSuppressor.{ImpulseSuppressor}
-use Rattle.ordered.specs.Ordered.{flaggedBy}
-use Rattle.impulse.specs.Machine.{settingOf, arrived, entered, readRun, going, keptRun, mendedRun, Ending, closing, ending, Judgement, decided, judge, windowWith, sortedWith, pendingWith, verdict, push}
+use Rattle.impulse.specs.Machine.{settingOf, arrived, entered, readRun, going, keptRun, mendedRun, Ending, closing, ending, Judgement, decided, judge, windowWith, sortedWith, pendingWith, verdict, push, flaggedBy}
 use Rattle.log.specs.View.{wordsOfRepair}
 use Rattle.impulse.specs.View.{repairOf, originalsOf, endedOf, endedEvents, endingEvents, told, pushedOf, pushedEvents}
 use Rattle.impulse.specs.Room.{runEnd, Room}

@@ -5,10 +5,10 @@
 
 ghost use mathlib.Core.Path.{_≡_};
 ghost use mathlib.Core.Bool.{true};
-ghost use Prim.Native.Nat.{_+_, _^_, _≤_, _<_};
+ghost use Prim.Native.Nat.{_+_, _-_, _^_, _≤_, _<_, min};
 ghost use lib.ListN.{length};
 ghost use Rattle.rules.specs.Impulse.{standard, pauses};
-ghost use Rattle.impulse.specs.Machine.{settingOf, fresh, grown, arrived, entered, withRun, withNeighbour, closing, closingPending, ending, endingPending, judge, verdict, released, push};
+ghost use Rattle.impulse.specs.Machine.{settingOf, fresh, grown, arrived, entered, withRun, withNeighbour, closing, closingPending, ending, endingPending, flaggedBy, judge, verdict, released, push};
 ghost use Rattle.impulse.specs.View.{suppressorOf, endedOf, judgedOf, pushedOf};
 ghost use Rattle.impulse.specs.Room.{runEnd, Room};
 ghost use Rattle.ordered.specs.Rising.{Rising};
@@ -87,11 +87,13 @@ impl ImpulseSuppressor {
     // The samples on each side of it.
     pub const HALF_WINDOW: usize = 16;
     // The window's strongest powers, left out of the reference: room for two runs that are mended.
-    pub const TRIM: usize = ordered::TRIM;
+    pub const TRIM: usize = 2 * ImpulseSuppressor::MAX_RUN;
     // The longest run that is mended.
     pub const MAX_RUN: usize = 4;
     // How many samples an applying suppressor holds back: half a window, a run and its neighbour.
-    pub const LOOKAHEAD: usize = 21;
+    pub const LOOKAHEAD: usize = ImpulseSuppressor::HALF_WINDOW + ImpulseSuppressor::MAX_RUN + 1;
+    // Of a block's samples, how many may be flagged before the next is paused.
+    pub const PAUSE_FRACTION: f64 = 0.001;
 
     pub fn fresh(blocklen: u64, apply: bool) -> ImpulseSuppressor
         ensures { λ r. ⌜ r ≡ fresh (standard blocklen apply) ⌝ }
@@ -119,7 +121,29 @@ impl ImpulseSuppressor {
 pub fn pauses(blocklen: u64, was: bool, flagged: u64) -> bool
     ensures { λ b. ⌜ b ≡ pauses blocklen was flagged ⌝ }
 {
-    std::num::nearest_u64_to_f64(flagged) > 0.001 * std::num::nearest_u64_to_f64(blocklen)
+    std::num::nearest_u64_to_f64(flagged)
+        > ImpulseSuppressor::PAUSE_FRACTION * std::num::nearest_u64_to_f64(blocklen)
+}
+
+// How many of the window's powers are kept, when n samples have come.
+fn kept(n: u64) -> usize
+    requires { ⌜ 8 ≤ n ⌝ }
+    ensures { λ r. ⌜ r ≡ min n 33 - 8 ⌝ }
+{
+    if n < ImpulseSuppressor::WINDOW as u64 {
+        return n as usize - ImpulseSuppressor::TRIM;
+    }
+    ImpulseSuppressor::WINDOW - ImpulseSuppressor::TRIM
+}
+
+// A sample of power p is flagged, when n samples have come. `rising`: it is known that the powers ascend
+// from 0 on.
+fn is_flagged(sorted: &[f32; ImpulseSuppressor::WINDOW], n: u64, p: f32, rising: bool) -> bool
+    requires { ⌜ (8 ≤ n) × (length (now sorted) ≡ 33) ⌝ }
+    requires { ⌜ (rising ≡ true → Rising 0 (now sorted)) ⌝ }
+    ensures { λ b. ⌜ b ≡ flaggedBy 33 8 n (now (sorted .entry)) p ⌝ }
+{
+    ordered::is_flagged(sorted, kept(n), p, rising)
 }
 
 // The run that a flagged sample j opens or lengthens.
@@ -288,7 +312,7 @@ impl Gate {
         let g = self.entered(j);
         let run = g.run;
         let uncertain = g.paused;
-        if ordered::is_flagged(sorted, g.received, p, rising) {
+        if is_flagged(sorted, g.received, p, rising) {
             let r = grown(run, j, uncertain);
             return Judged {
                 gate: g.with_run(r),

@@ -5,7 +5,7 @@ use mathlib.Core.List.{List, [], _∷_}
 use Prim.Native.Nat.{ℕ, _+_}
 use Rattle.rules.specs.Lists.{indicator}
 use Rattle.rules.specs.Impulse.{uncertain}
-use Rattle.rules.specs.Log.{ringNumber, impulse, isRepaired, isFlagged, isUncertain, spanOf, append}
+use Rattle.rules.specs.Log.{ringNumber, impulse, Repaired, Flagged, Uncertain, spanOf, append}
 use Rattle.log.specs.declared.Ring.{Ring}
 use Rattle.log.specs.declared.Log.{Log}
 use Rattle.log.specs.declared.Repair.{Repair}
@@ -22,19 +22,19 @@ abbrev pub notesOf : Log → Ring → ℕ → Notes
 notesOf l r n = record { log = l; repairs = r; longruns = n }
 
 module _ (cap room : ℕ) (n : Notes) (l : Log) (ws ws' : List ℕ) where
-  pub doubt-noted : (rs : List ℕ) (j : ℕ) → logged l ws' ≡ markedAt cap (logged (n .log) ws) (ringNumber impulse isUncertain) (spanOf j 1)
+  pub doubt-noted : (rs : List ℕ) (j : ℕ) → logged l ws' ≡ markedAt cap (logged (n .log) ws) (ringNumber impulse Uncertain) (spanOf j 1)
       → notedOf (notesOf l (n .repairs) (n .longruns)) ws' rs ≡ noteAll cap room (notedOf n ws rs) (uncertain j ∷ [])
   unfolding noteAll
   doubt-noted rs j e = λ i. record { logged = e i; repairs = ringIn (n .repairs) rs; longruns = n .longruns }
 
   pub kept-noted : (rs : List ℕ) (a len runs : ℕ) (long : Bool) → runs ≡ n .longruns + indicator long
-      → logged l ws' ≡ markedAt cap (logged (n .log) ws) (ringNumber impulse isFlagged) (spanOf a len)
+      → logged l ws' ≡ markedAt cap (logged (n .log) ws) (ringNumber impulse Flagged) (spanOf a len)
       → notedOf (notesOf l (n .repairs) runs) ws' rs ≡ noteAll cap room (notedOf n ws rs) (filledEvents (Kept a len long))
   unfolding noteAll
   kept-noted rs a len runs long r e = λ i. record { logged = e i; repairs = ringIn (n .repairs) rs; longruns = r i }
 
   pub mended-noted : (rs rs' : List ℕ) (r : Repair) (q : Ring) → ringIn q rs' ≡ append room (ringIn (n .repairs) rs) (wordsOfRepair r)
-      → logged l ws' ≡ markedAt cap (logged (n .log) ws) (ringNumber impulse isRepaired) (spanOf (r .start) (r .len))
+      → logged l ws' ≡ markedAt cap (logged (n .log) ws) (ringNumber impulse Repaired) (spanOf (r .start) (r .len))
       → notedOf (notesOf l q (n .longruns)) ws' rs' ≡ noteAll cap room (notedOf n ws rs) (filledEvents (Mended r))
   unfolding noteAll
   mended-noted rs rs' r q f e = λ i. record { logged = e i; repairs = f i; longruns = n .longruns }

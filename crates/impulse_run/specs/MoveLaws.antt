@@ -15,8 +15,7 @@ use Rattle.impulse.specs.declared.Gate.{Gate}
 use Rattle.impulse.specs.declared.Answer.{Answer}
 use Rattle.impulse.specs.declared.Answer.the-variants.{Released, Nothing}
 use Rattle.impulse.specs.declared.ImpulseSuppressor.{ImpulseSuppressor}
-use Rattle.ordered.specs.Ordered.{flaggedBy}
-use Rattle.impulse.specs.Machine.{arrived, entered, grown, readRun, Ending, going, keptRun, mendedRun, closing, ending, Judgement, decided, judge, windowWith, sortedWith, pendingWith, verdict, push}
+use Rattle.impulse.specs.Machine.{arrived, entered, grown, readRun, Ending, going, keptRun, mendedRun, closing, ending, Judgement, decided, judge, windowWith, sortedWith, pendingWith, verdict, push, flaggedBy}
 use Rattle.impulse.specs.View.{repairOf, endedOf, endingEvents, told, given}
 use Rattle.impulse.specs.Room.{runEnd}
 use Rattle.impulse.specs.RoomLaws.{entered-keeps}

@@ -7,7 +7,7 @@ use lib.ListN.{length, take, drop}
 use Rattle.rules.specs.Lists.{indicator}
 use Rattle.rules.specs.Impulse.{Setting, Event, uncertain, kept, mended}
 use Rattle.rules.specs.Log as rules
-use Rattle.rules.specs.Log.{ringNumber, impulse, isRepaired, isFlagged, isUncertain, Span, spanOf, append, repairWords, marksOf}
+use Rattle.rules.specs.Log.{ringNumber, impulse, Repaired, Flagged, Uncertain, Span, spanOf, append, repairWords, marksOf}
 use Rattle.rules.specs.RingLaws.{Sound}
 use Rattle.log.specs.View.{Logged, ringIn, marksAt, markedAt}
 use Rattle.log.specs.LogLaws.{Twelve}
@@ -32,12 +32,12 @@ notedOf n spans repairs = record { logged = record { log = n .log; spans = spans
 -- one event: a ring of spans can hold `cap`, the repair ring `room`
 abbrev pub noteEvent : ℕ → ℕ → Noted → Event → Noted
 noteEvent cap room x (uncertain j) =
-    record { logged = markedAt cap (x .logged) (ringNumber impulse isUncertain) (spanOf j 1); repairs = x .repairs; longruns = x .longruns }
+    record { logged = markedAt cap (x .logged) (ringNumber impulse Uncertain) (spanOf j 1); repairs = x .repairs; longruns = x .longruns }
 noteEvent cap room x (kept a n long) =
-    record { logged = markedAt cap (x .logged) (ringNumber impulse isFlagged) (spanOf a n); repairs = x .repairs; longruns = x .longruns + indicator long }
+    record { logged = markedAt cap (x .logged) (ringNumber impulse Flagged) (spanOf a n); repairs = x .repairs; longruns = x .longruns + indicator long }
 noteEvent cap room x (mended a n originals) =
     record {
-      logged = markedAt cap (x .logged) (ringNumber impulse isRepaired) (spanOf a n);
+      logged = markedAt cap (x .logged) (ringNumber impulse Repaired) (spanOf a n);
       repairs = append room (x .repairs) (repairWords a n originals);
       longruns = x .longruns;
     }
@@ -88,8 +88,8 @@ over ys xs = ys ++ drop (length ys) xs
 -- what events mark in ring number k: the impulse stage's, by their kinds, and else nothing
 abbrev pub marksFor : ℕ → List Event → List Span
 marksFor k es =
-    cond (eqb k (ringNumber impulse isRepaired)) (marksOf isRepaired es)
-    (cond (eqb k (ringNumber impulse isFlagged)) (marksOf isFlagged es) (cond (eqb k (ringNumber impulse isUncertain)) (marksOf isUncertain es) []))
+    cond (eqb k (ringNumber impulse Repaired)) (marksOf Repaired es)
+    (cond (eqb k (ringNumber impulse Flagged)) (marksOf Flagged es) (cond (eqb k (ringNumber impulse Uncertain)) (marksOf Uncertain es) []))
 
 -- twelve rings, each of them sound
 pub record Rings (cap : ℕ) (x : Logged) : Type 0 where

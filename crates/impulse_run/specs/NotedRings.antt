@@ -8,7 +8,7 @@ use lib.Dec.{lit<}
 use borrow.Author.Tests.{ne-eqb}
 use Rattle.rules.specs.Impulse.{Event, uncertain, kept, mended}
 use Rattle.rules.specs.Log as rules
-use Rattle.rules.specs.Log.{Span, Mark, ringNumber, impulse, isRepaired, isFlagged, isCorrected, isUncertain, spanOf, mark, append, marksOf, marksOfEvent, repairsOf, longRuns}
+use Rattle.rules.specs.Log.{Span, Mark, ringNumber, impulse, Repaired, Flagged, Corrected, Uncertain, spanOf, mark, append, marksOf, marksOfEvent, repairsOf, longRuns}
 use Rattle.rules.specs.RingLaws.{Sound}
 use Rattle.rules.specs.MarkLaws.{mark-sound}
 use Rattle.log.specs.View.{Logged, marksAt, markedAt}
@@ -69,18 +69,18 @@ module _ (cap room : ℕ) where
   -- an impulse ring
   event-marks : (x : Noted) (m : Mark) (e : Event) → Rings cap (x .logged)
       → marksAt cap (noteEvent cap room x e .logged) (ringNumber impulse m) ≡ foldl (mark cap) (marksAt cap (x .logged) (ringNumber impulse m)) (marksOfEvent m e)
-  event-marks x isRepaired (mended a n os) r = event-same x (mended a n os) r
-  event-marks x isRepaired (kept a n long) r = event-other x (kept a n long) 0 r (λ q. omega arith)
-  event-marks x isRepaired (uncertain j) r = event-other x (uncertain j) 0 r (λ q. omega arith)
-  event-marks x isFlagged (mended a n os) r = event-other x (mended a n os) 1 r (λ q. omega arith)
-  event-marks x isFlagged (kept a n long) r = event-same x (kept a n long) r
-  event-marks x isFlagged (uncertain j) r = event-other x (uncertain j) 1 r (λ q. omega arith)
-  event-marks x isCorrected (mended a n os) r = event-other x (mended a n os) 2 r (λ q. omega arith)
-  event-marks x isCorrected (kept a n long) r = event-other x (kept a n long) 2 r (λ q. omega arith)
-  event-marks x isCorrected (uncertain j) r = event-other x (uncertain j) 2 r (λ q. omega arith)
-  event-marks x isUncertain (mended a n os) r = event-other x (mended a n os) 3 r (λ q. omega arith)
-  event-marks x isUncertain (kept a n long) r = event-other x (kept a n long) 3 r (λ q. omega arith)
-  event-marks x isUncertain (uncertain j) r = event-same x (uncertain j) r
+  event-marks x Repaired (mended a n os) r = event-same x (mended a n os) r
+  event-marks x Repaired (kept a n long) r = event-other x (kept a n long) 0 r (λ q. omega arith)
+  event-marks x Repaired (uncertain j) r = event-other x (uncertain j) 0 r (λ q. omega arith)
+  event-marks x Flagged (mended a n os) r = event-other x (mended a n os) 1 r (λ q. omega arith)
+  event-marks x Flagged (kept a n long) r = event-same x (kept a n long) r
+  event-marks x Flagged (uncertain j) r = event-other x (uncertain j) 1 r (λ q. omega arith)
+  event-marks x Corrected (mended a n os) r = event-other x (mended a n os) 2 r (λ q. omega arith)
+  event-marks x Corrected (kept a n long) r = event-other x (kept a n long) 2 r (λ q. omega arith)
+  event-marks x Corrected (uncertain j) r = event-other x (uncertain j) 2 r (λ q. omega arith)
+  event-marks x Uncertain (mended a n os) r = event-other x (mended a n os) 3 r (λ q. omega arith)
+  event-marks x Uncertain (kept a n long) r = event-other x (kept a n long) 3 r (λ q. omega arith)
+  event-marks x Uncertain (uncertain j) r = event-same x (uncertain j) r
 
   -- ---- events one after another
 
@@ -121,9 +121,9 @@ module _ (cap room : ℕ) where
       none a b c (uncertain j) q = c q
 
       go : Dec (k ≡ 0) → Dec (k ≡ 1) → Dec (k ≡ 3) → At k
-      go (yes e) b c = subst At (sym e) (noted-marks x isRepaired es r)
-      go (no a) (yes e) c = subst At (sym e) (noted-marks x isFlagged es r)
-      go (no a) (no b) (yes e) = subst At (sym e) (noted-marks x isUncertain es r)
+      go (yes e) b c = subst At (sym e) (noted-marks x Repaired es r)
+      go (no a) (yes e) c = subst At (sym e) (noted-marks x Flagged es r)
+      go (no a) (no b) (yes e) = subst At (sym e) (noted-marks x Uncertain es r)
       go (no a) (no b) (no c) = simp (ne-eqb k 0 a, ne-eqb k 1 b, ne-eqb k 3 c) (noted-still x k es (none a b c) r)
 
   pub noted-repairs : (x : Noted) (es : List Event) → noteAll cap room x es .repairs ≡ foldl (append room) (x .repairs) (repairsOf es)

@@ -8,7 +8,7 @@ use lib.Dec.{lit<}
 use Rattle.rules.specs.Lists.{indicator}
 use Rattle.rules.specs.Impulse.{Event, uncertain, kept, mended}
 use Rattle.rules.specs.Log as rules
-use Rattle.rules.specs.Log.{ringNumber, impulse, isRepaired, isFlagged, isUncertain, spanOf, append, repairWords}
+use Rattle.rules.specs.Log.{ringNumber, impulse, Repaired, Flagged, Uncertain, spanOf, append, repairWords}
 use Rattle.rules.specs.RingLaws.{append-sound, append-drops}
 use Rattle.log.specs.View.{Logged, markedAt}
 use Rattle.log.specs.CheckLaws.{Bounded, marked-bounded}
@@ -43,7 +43,7 @@ module _ (cap room : ℕ) where
   filled-same x (keptRun a n long) = refl
   filled-same x (mendedRun a n os) =
       let w = repair-words a n os in
-      λ i. record { logged = markedAt cap (x .logged) (ringNumber impulse isRepaired) (spanOf a n); repairs = append room (x .repairs) (w i); longruns = x .longruns }
+      λ i. record { logged = markedAt cap (x .logged) (ringNumber impulse Repaired) (spanOf a n); repairs = append room (x .repairs) (w i); longruns = x .longruns }
 
   pub said-same : (x : Noted) (j : ℕ) (doubt : Bool) (e : Ending) → noteAll cap room x (doubts j doubt ++ filledEvents (endedOf e)) ≡ noteAll cap room x (doubts j doubt ++ endingEvents e)
   said-same x j doubt e =
@@ -82,21 +82,21 @@ module _ (cap room : ℕ) where
   pub roomy-event : (b : ℕ) (x : Noted) (e : Event) → Roomy cap room b x → Roomy cap room (b + eventSize e) (noteEvent cap room x e)
   roomy-event b x (uncertain j) r =
       record {
-        spans = marked-up b (ringNumber impulse isUncertain) (x .logged) (spanOf j 1) (lit< tt) (r .spans);
+        spans = marked-up b (ringNumber impulse Uncertain) (x .logged) (spanOf j 1) (lit< tt) (r .spans);
         repairs = r .repairs;
         dropped = omega (arith, r .dropped);
         longruns = omega (arith, r .longruns);
       }
   roomy-event b x (kept a n long) r =
       record {
-        spans = marked-up b (ringNumber impulse isFlagged) (x .logged) (spanOf a n) (lit< tt) (r .spans);
+        spans = marked-up b (ringNumber impulse Flagged) (x .logged) (spanOf a n) (lit< tt) (r .spans);
         repairs = r .repairs;
         dropped = omega (arith, r .dropped);
         longruns = omega (arith, r .longruns, one-most long);
       }
   roomy-event b x (mended a n os) r =
       record {
-        spans = marked-up b (ringNumber impulse isRepaired) (x .logged) (spanOf a n) (lit< tt) (r .spans);
+        spans = marked-up b (ringNumber impulse Repaired) (x .logged) (spanOf a n) (lit< tt) (r .spans);
         repairs = append-sound 6 room (x .repairs) (repairWords a n os) (r .repairs);
         dropped = omega (arith, r .dropped, append-drops 6 room (x .repairs) (repairWords a n os) (r .repairs));
         longruns = omega (arith, r .longruns);

@@ -2,7 +2,7 @@
 use Prim.Native.Nat.{ℕ}
 use Rattle.complex.specs.View.{view64}
 use Rattle.rules.specs.Iq as rules
-use Rattle.rules.specs.Iq.{Mode, off, observe, apply, Calibrated, none, with, Settled, isOff, observing, withheld, correcting}
+use Rattle.rules.specs.Iq.{Mode, off, observe, apply, Calibrated, none, with, Settled, Off, Observing, Withheld, Correcting}
 use Rattle.iq.specs.declared.StageMode.{StageMode}
 use Rattle.iq.specs.declared.StageMode.the-variants as mode
 use Rattle.iq.specs.declared.IqCalibration.{IqCalibration}
@@ -11,7 +11,7 @@ use Rattle.iq.specs.declared.Calibration.the-variants.{Absent, Present}
 use Rattle.iq.specs.declared.Validated.{Validated}
 use Rattle.iq.specs.declared.Validated.the-variants.{Valid, BadGain, BadPhase, BadCentre}
 use Rattle.iq.specs.declared.Iq.{Iq}
-use Rattle.iq.specs.declared.Iq.the-variants.{Off, Observing, Correcting, Withheld}
+use Rattle.iq.specs.declared.Iq.the-variants as decision
 
 abbrev pub modeOf : StageMode → Mode
 modeOf mode.Off = off
@@ -26,10 +26,10 @@ calibratedOf Absent = none
 calibratedOf (Present c) = with (calibrationOf c)
 
 abbrev pub settledOf : Iq → Settled
-settledOf Off = isOff
-settledOf Observing = observing
-settledOf (Correcting rho) = correcting (view64 rho)
-settledOf Withheld = withheld
+settledOf decision.Off = Off
+settledOf decision.Observing = Observing
+settledOf (decision.Correcting rho) = Correcting (view64 rho)
+settledOf decision.Withheld = Withheld
 
 -- document 01's number for each answer of validation, and 0 for none
 abbrev pub refusalOf : Validated → ℕ

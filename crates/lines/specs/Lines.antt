@@ -5,8 +5,8 @@ use Prim.Native.Nat.{ℕ}
 use Prim.Native.String.{String}
 use lib.Dec.{eqb}
 use lib.Ieee.{binary64, toBits}
-use Rattle.rules.specs.Iq.{Settled, isOff, observing, withheld, correcting}
-use Rattle.rules.specs.Log.{Span, Stage, impulse, dc, iq, Mark, isRepaired, isFlagged, isCorrected, isUncertain}
+use Rattle.rules.specs.Iq.{Settled, Off, Observing, Withheld, Correcting}
+use Rattle.rules.specs.Log.{Span, Stage, impulse, dc, iq, Mark, Repaired, Flagged, Corrected, Uncertain}
 use Rattle.rules.specs.Chain.{DcLevel, noLevel, levelIs}
 use Rattle.text.specs.Text.{letters, decimal, hexadecimal, line}
 
@@ -16,10 +16,10 @@ stageName dc = "dc"
 stageName iq = "iq"
 
 abbrev pub markName : Mark → String
-markName isRepaired = "repaired"
-markName isFlagged = "flagged"
-markName isCorrected = "corrected"
-markName isUncertain = "uncertain"
+markName Repaired = "repaired"
+markName Flagged = "flagged"
+markName Corrected = "corrected"
+markName Uncertain = "uncertain"
 
 -- a ring's name
 unfoldable pub ringName : Stage → Mark → List ℕ
@@ -50,10 +50,10 @@ levelLine (levelIs z) = line (letters "dc" ∷ hexadecimal (toBits binary64 (z .
 
 -- 'iq: off, observing, correcting, mismatch.'
 abbrev pub settledName : Settled → String
-settledName isOff = "off"
-settledName observing = "observing"
-settledName (correcting r) = "correcting"
-settledName withheld = "mismatch"
+settledName Off = "off"
+settledName Observing = "observing"
+settledName (Correcting r) = "correcting"
+settledName Withheld = "mismatch"
 
 unfoldable pub settledLine : Settled → List ℕ
 settledLine s = line (letters "iq" ∷ letters (settledName s) ∷ [])

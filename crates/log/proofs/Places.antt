@@ -14,8 +14,8 @@ use Rattle.log.specs.View.{ringIn}
 -- the next entry's words are in the slice
 pub record Next (width cap : ℕ) (q : Ring) (ws : List ℕ) : Type 0 where
   pub headIn : q .head < cap
-  pub room : q .len < cap
-  pub inside : (q .head + q .len) % cap * width + width ≤ length ws
+  pub room : q .count < cap
+  pub inside : (q .head + q .count) % cap * width + width ≤ length ws
   pub few : width * cap ≡ length ws
 
 module _ (width cap : ℕ) (ring q : Ring) (ws : List ℕ) (e : ringIn q ws ≡ roomed cap (ringIn ring ws)) where
@@ -25,7 +25,7 @@ module _ (width cap : ℕ) (ring q : Ring) (ws : List ℕ) (e : ringIn q ws ≡ 
       record {
         headIn = h .sound .headIn;
         room = h .room;
-        inside = omega (arith, place-fits width cap ((q .head + q .len) % cap) (mod-lt (q .head + q .len) (k .some)), k .long);
+        inside = omega (arith, place-fits width cap ((q .head + q .count) % cap) (mod-lt (q .head + q .count) (k .some)), k .long);
         few = sym (k .long);
       }
 

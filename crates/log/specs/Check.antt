@@ -3,6 +3,7 @@ use mathlib.Core.Bool.{Bool, true, cond, _&&_}
 use Prim.Native.Nat.{ℕ, zero, suc, _+_, _-_, _^_, min}
 use lib.Dec.{ltb, leb}
 use lib.ListN.{getD}
+use Rattle.rules.specs.Constants.{spanEndLimit, counterLimit}
 use Rattle.rules.specs.Log as rules
 use Rattle.rules.specs.MarkLaws.{newestEnd}
 use Rattle.log.specs.declared.Ring.{Ring}
@@ -21,7 +22,7 @@ sumTo f (suc n) = sumTo f n + f n
 
 -- not: 'ring count or head out of range', 'a counter > 2^52'
 abbrev pub ringFits : ℕ → Ring → ℕ → Bool
-ringFits cap r count = ltb (r .head) cap && leb (r .len) cap && leb (r .dropped) (2 ^ 52) && leb count (2 ^ 52)
+ringFits cap r counter = ltb (r .head) cap && leb (r .count) cap && leb (r .dropped) counterLimit && leb counter counterLimit
 
 -- ring number k and its count
 abbrev pub ringOf : Log → ℕ → Ring
@@ -35,7 +36,7 @@ logFits cap l = allTo (λ k. ringFits cap (ringOf l k) (countOf l k)) 12
 
 -- not: 'newest span's sum > 2^49', where there is a span
 unfoldable pub endFits : ℕ → rules.Ring → Bool
-endFits cap r = cond (ltb 0 (r .len)) (leb (newestEnd cap r) (2 ^ 49)) true
+endFits cap r = cond (ltb 0 (r .count)) (leb (newestEnd cap r) spanEndLimit) true
 
 unfoldable pub endsFit : ℕ → Logged → Bool
 endsFit cap x = allTo (λ k. endFits cap (marksAt cap x k .ring)) 12

@@ -12,7 +12,7 @@ use Rattle.rules.specs.Log as rules
 use Rattle.rules.specs.Log.{Span, mark}
 use Rattle.rules.specs.TestLaws.{both}
 use Rattle.rules.specs.RingLaws.{Sound, empty-sound}
-use Rattle.rules.specs.MarkLaws.{newestEnd, EndsBy, mark-count, mark-sound, mark-drops}
+use Rattle.rules.specs.MarkLaws.{newestEnd, EndsBy, mark-samples, mark-sound, mark-drops}
 use Rattle.log.specs.declared.Ring.{Ring}
 use Rattle.log.specs.declared.Log.{Log}
 use Rattle.log.specs.View.{Logged, freshLog, marksAt, markedAt}
@@ -52,20 +52,20 @@ all-not f n k h e = go (allTo f n) refl
 
 pub record InRange (cap : ℕ) (r : Ring) (n : ℕ) : Type 0 where
   pub headIn : r .head < cap
-  pub lenIn : r .len ≤ cap
+  pub countIn : r .count ≤ cap
   pub dropped : r .dropped ≤ 2 ^ 52
   pub count : n ≤ 2 ^ 52
 
 pub ring-range : (cap : ℕ) (r : Ring) (n : ℕ) → ringFits cap r n ≡ true → InRange cap r n
 ring-range cap r n e =
-    let a = both (ltb (r .head) cap && leb (r .len) cap && leb (r .dropped) (2 ^ 52)) (leb n (2 ^ 52)) e in
-    let b = both (ltb (r .head) cap && leb (r .len) cap) (leb (r .dropped) (2 ^ 52)) (a .0) in
-    let d = both (ltb (r .head) cap) (leb (r .len) cap) (b .0) in
-    record { headIn = ltb-true _ _ (d .0); lenIn = leb-true _ _ (d .1); dropped = leb-true _ _ (b .1); count = leb-true _ _ (a .1) }
+    let a = both (ltb (r .head) cap && leb (r .count) cap && leb (r .dropped) (2 ^ 52)) (leb n (2 ^ 52)) e in
+    let b = both (ltb (r .head) cap && leb (r .count) cap) (leb (r .dropped) (2 ^ 52)) (a .0) in
+    let d = both (ltb (r .head) cap) (leb (r .count) cap) (b .0) in
+    record { headIn = ltb-true _ _ (d .0); countIn = leb-true _ _ (d .1); dropped = leb-true _ _ (b .1); count = leb-true _ _ (a .1) }
 
 pub range-ring : (cap : ℕ) (r : Ring) (n : ℕ) → InRange cap r n → ringFits cap r n ≡ true
 range-ring cap r n k =
-    simp (lt-ltb (r .head) cap (k .headIn), le-leb (r .len) cap (k .lenIn), le-leb (r .dropped) (2 ^ 52) (k .dropped), le-leb n (2 ^ 52) (k .count))
+    simp (lt-ltb (r .head) cap (k .headIn), le-leb (r .count) cap (k .countIn), le-leb (r .dropped) (2 ^ 52) (k .dropped), le-leb n (2 ^ 52) (k .count))
 
 pub log-range : (cap : ℕ) (l : Log) (k : ℕ) → logFits cap l ≡ true → k < 12 → InRange cap (ringOf l k) (countOf l k)
 unfolding logFits
@@ -86,22 +86,22 @@ log-sound cap x k e l h =
           length-take-le (cap * 2) (drop (k * (cap * 2)) (x .spans)) (omega (arith, length-drop (k * (cap * 2)) (x .spans), part-inside (cap * 2) k h))
           ∙ (let q : cap * 2 ≡ 2 * cap = omega arith in q);
       headIn = r .headIn;
-      lenIn = r .lenIn;
+      countIn = r .countIn;
     }
 
 -- ---- the newest span's end
 
 pub end-fits : (cap : ℕ) (r : rules.Ring) → EndsBy cap (2 ^ 49) r → endFits cap r ≡ true
 unfolding endFits
-end-fits cap r h = go (ltb 0 (r .len)) refl
+end-fits cap r h = go (ltb 0 (r .count)) refl
   where
-    go : (b : Bool) → ltb 0 (r .len) ≡ b → cond b (leb (newestEnd cap r) (2 ^ 49)) true ≡ true
-    go true e = le-leb (newestEnd cap r) (2 ^ 49) (h (ltb-true 0 (r .len) e))
+    go : (b : Bool) → ltb 0 (r .count) ≡ b → cond b (leb (newestEnd cap r) (2 ^ 49)) true ≡ true
+    go true e = le-leb (newestEnd cap r) (2 ^ 49) (h (ltb-true 0 (r .count) e))
     go false e = refl
 
 pub fits-end : (cap : ℕ) (r : rules.Ring) → endFits cap r ≡ true → EndsBy cap (2 ^ 49) r
 unfolding endFits
-fits-end cap r e h = leb-true _ _ (rw (lt-ltb 0 (r .len) h) at e)
+fits-end cap r e h = leb-true _ _ (rw (lt-ltb 0 (r .count) h) at e)
 
 pub ends-fit : (cap : ℕ) (x : Logged) → ((k : ℕ) → k < 12 → EndsBy cap (2 ^ 49) (marksAt cap x k .ring)) → endsFit cap x ≡ true
 unfolding endsFit
@@ -114,7 +114,7 @@ pub record Bounded (cap b : ℕ) (x : Logged) : Type 0 where
   pub twelve : Twelve cap x
   pub sound : (k : ℕ) → k < 12 → Sound 2 cap (marksAt cap x k .ring)
   pub dropped : (k : ℕ) → k < 12 → marksAt cap x k .ring .dropped ≤ b
-  pub count : (k : ℕ) → k < 12 → marksAt cap x k .count ≤ b
+  pub count : (k : ℕ) → k < 12 → marksAt cap x k .samples ≤ b
 
 pub bounded-fits : (cap b : ℕ) (x : Logged) (k : ℕ) (s : Span) → Bounded cap b x → k < 12 → b + 1 + s .len < 2 ^ 64 → s .start + s .len < 2 ^ 64 → Fits cap x k s
 bounded-fits cap b x k s d h l m =
@@ -134,7 +134,7 @@ marked-bounded cap b x k s d h =
       twelve = marked-twelve cap x k s (d .twelve) (d .sound k h) h;
       sound = λ j l. at j (ℕ-discrete j k) (λ m. Sound 2 cap (m .ring)) (mark-sound cap m (d .sound k h) s) (d .sound j l);
       dropped = λ j l. at j (ℕ-discrete j k) (λ m. m .ring .dropped ≤ b + 1 + s .len) (omega (arith, mark-drops cap m (d .sound k h) s, d .dropped k h)) (omega (arith, d .dropped j l));
-      count = λ j l. at j (ℕ-discrete j k) (λ m. m .count ≤ b + 1 + s .len) (omega (arith, mark-count cap m s, d .count k h)) (omega (arith, d .count j l));
+      count = λ j l. at j (ℕ-discrete j k) (λ m. m .samples ≤ b + 1 + s .len) (omega (arith, mark-samples cap m s, d .count k h)) (omega (arith, d .count j l));
     }
   where
     m : rules.Marks
@@ -149,7 +149,7 @@ pub bounded-passes : (cap : ℕ) (x : Logged) → Bounded cap (2 ^ 52) x → log
 unfolding marksAt
 bounded-passes cap x d =
     range-log cap (x .log)
-    (λ k h. record { headIn = d .sound k h .headIn; lenIn = d .sound k h .lenIn; dropped = d .dropped k h; count = d .count k h })
+    (λ k h. record { headIn = d .sound k h .headIn; countIn = d .sound k h .countIn; dropped = d .dropped k h; count = d .count k h })
 
 pub fresh-bounded : (cap : ℕ) → 0 < cap → Bounded cap 0 (record { log = freshLog; spans = replicate (cap * 24) 0 })
 unfolding freshLog

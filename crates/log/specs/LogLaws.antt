@@ -54,7 +54,7 @@ module _ (cap : ℕ) (x : Logged) (k : ℕ) (m : rules.Marks) (t : Twelve cap x)
   with-twelve =
       record {
         rings = length-set (x .log .rings) k (bare (m .ring)) ∙ t .rings;
-        counts = length-set (x .log .counts) k (m .count) ∙ t .counts;
+        counts = length-set (x .log .counts) k (m .samples) ∙ t .counts;
         store = part-length (cap * 2) (x .spans) (m .ring .words) k long n h ∙ t .store;
       }
 
@@ -62,17 +62,17 @@ module _ (cap : ℕ) (x : Logged) (k : ℕ) (m : rules.Marks) (t : Twelve cap x)
   unfolding withMarks marksAt
   with-same =
       let r = getD-set-same (x .log .rings) k (bare (m .ring)) freshRing (omega (arith, t .rings)) in
-      let c = getD-set-same (x .log .counts) k (m .count) 0 (omega (arith, t .counts)) in
+      let c = getD-set-same (x .log .counts) k (m .samples) 0 (omega (arith, t .counts)) in
       let w = part-same (cap * 2) (x .spans) (m .ring .words) k long n h in
-      λ i. record { count = c i; ring = ringIn (r i) (w i) }
+      λ i. record { samples = c i; ring = ringIn (r i) (w i) }
 
   pub with-other : (j : ℕ) → (j ≡ k → ⊥) → marksAt cap (withMarks cap x k m) j ≡ marksAt cap x j
   unfolding withMarks marksAt
   with-other j d =
       let r = getD-set-other (x .log .rings) k j (bare (m .ring)) freshRing d in
-      let c = getD-set-other (x .log .counts) k j (m .count) 0 d in
+      let c = getD-set-other (x .log .counts) k j (m .samples) 0 d in
       let w = part-other (cap * 2) (x .spans) (m .ring .words) k long n h j d in
-      λ i. record { count = c i; ring = ringIn (r i) (w i) }
+      λ i. record { samples = c i; ring = ringIn (r i) (w i) }
 
 module _ (cap : ℕ) (x : Logged) (k : ℕ) (s : Span) (t : Twelve cap x) (sound : Sound 2 cap (marksAt cap x k .ring)) (h : k < 12) where
   wide : length (mark cap (marksAt cap x k) s .ring .words) ≡ cap * 2
@@ -134,15 +134,15 @@ module _ (cap : ℕ) where
   unfolding marksAt logOf
   list-marks ms k a h =
       let r = List·getD-map (λ (m : rules.Marks). bare (m .ring)) ms k (noMarks cap) in
-      let c = List·getD-map (λ (m : rules.Marks). m .count) ms k (noMarks cap) in
+      let c = List·getD-map (λ (m : rules.Marks). m .samples) ms k (noMarks cap) in
       let w = joined-part ms k a h in
-      λ i. record { count = c i; ring = ringIn (r i) (w i) }
+      λ i. record { samples = c i; ring = ringIn (r i) (w i) }
 
   list-with : (ms : List rules.Marks) (k : ℕ) (m : rules.Marks) → AllParts cap ms → k < length ms → withMarks cap (logOf ms) k m ≡ logOf (set ms k m)
   unfolding withMarks logOf
   list-with ms k m a h =
       let r = map-set (λ (m : rules.Marks). bare (m .ring)) ms k m in
-      let c = map-set (λ (m : rules.Marks). m .count) ms k m in
+      let c = map-set (λ (m : rules.Marks). m .samples) ms k m in
       let w = joined-set ms k m a h in
       λ i. record { log = record { rings = r i; counts = c i }; spans = w i }
 

@@ -14,7 +14,7 @@ pub record Open (width cap : ℕ) (r : Ring) : Type 0 where
 -- a mark: such a ring, and sums that are u64 numbers
 pub record Markable (cap : ℕ) (m : Marks) (s : Span) : Type 0 where
   pub ring : Open 2 cap (m .ring)
-  pub count : m .count + s .len < 2 ^ 64
+  pub count : m .samples + s .len < 2 ^ 64
   pub last : s .start + s .len < 2 ^ 64
 
 -- a mark in ring number k of the store

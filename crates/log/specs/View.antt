@@ -3,11 +3,11 @@ use mathlib.Core.List.{List, [], _∷_, _++_, map}
 use Prim.Native.Nat.{ℕ, _*_}
 use lib.ListN.{getD, set, take, drop, replicate}
 use Rattle.rules.specs.Log as rules
-use Rattle.rules.specs.Log.{Span, mark, repairWords, impulse, dc, iq, isRepaired, isFlagged, isCorrected, isUncertain}
+use Rattle.rules.specs.Log.{Span, mark, repairWords, impulse, dc, iq, Repaired, Flagged, Corrected, Uncertain}
 use Rattle.log.specs.declared.Stage.{Stage}
 use Rattle.log.specs.declared.Stage.the-variants.{Impulse, Dc, Iq}
 use Rattle.log.specs.declared.Mark.{Mark}
-use Rattle.log.specs.declared.Mark.the-variants.{Repaired, Flagged, Corrected, Uncertain}
+use Rattle.log.specs.declared.Mark.the-variants as kind
 use Rattle.log.specs.declared.Ring.{Ring}
 use Rattle.log.specs.declared.Marks.{Marks}
 use Rattle.log.specs.declared.Log.{Log}
@@ -19,21 +19,21 @@ stageOf Dc = dc
 stageOf Iq = iq
 
 abbrev pub markOf : Mark → rules.Mark
-markOf Repaired = isRepaired
-markOf Flagged = isFlagged
-markOf Corrected = isCorrected
-markOf Uncertain = isUncertain
+markOf kind.Repaired = Repaired
+markOf kind.Flagged = Flagged
+markOf kind.Corrected = Corrected
+markOf kind.Uncertain = Uncertain
 
 -- ---- a ring with its words
 
 abbrev pub ringIn : Ring → List ℕ → rules.Ring
-ringIn r ws = record { head = r .head; len = r .len; dropped = r .dropped; words = ws }
+ringIn r ws = record { head = r .head; count = r .count; dropped = r .dropped; words = ws }
 
 abbrev pub bare : rules.Ring → Ring
-bare r = record { head = r .head; len = r .len; dropped = r .dropped }
+bare r = record { head = r .head; count = r .count; dropped = r .dropped }
 
 abbrev pub marksIn : Marks → List ℕ → rules.Marks
-marksIn m ws = record { count = m .count; ring = ringIn (m .ring) ws }
+marksIn m ws = record { samples = m .samples; ring = ringIn (m .ring) ws }
 
 -- a repair's words
 abbrev pub wordsOfRepair : Repair → List ℕ
@@ -46,7 +46,7 @@ pub record Logged : Type 0 where
   pub spans : List ℕ
 
 abbrev pub freshRing : Ring
-freshRing = record { head = 0; len = 0; dropped = 0 }
+freshRing = record { head = 0; count = 0; dropped = 0 }
 
 unfoldable pub freshLog : Log
 freshLog = record { rings = replicate 12 freshRing; counts = replicate 12 0 }
@@ -61,13 +61,13 @@ withPart size ws k part = take (k * size) ws ++ (part ++ drop size (drop (k * si
 -- the marks of ring number k
 unfoldable pub marksAt : ℕ → Logged → ℕ → rules.Marks
 marksAt cap x k =
-    record { count = getD (x .log .counts) k 0; ring = ringIn (getD (x .log .rings) k freshRing) (partOf (cap * 2) (x .spans) k) }
+    record { samples = getD (x .log .counts) k 0; ring = ringIn (getD (x .log .rings) k freshRing) (partOf (cap * 2) (x .spans) k) }
 
 -- the log with other marks there
 unfoldable pub withMarks : ℕ → Logged → ℕ → rules.Marks → Logged
 withMarks cap x k m =
     record {
-      log = record { rings = set (x .log .rings) k (bare (m .ring)); counts = set (x .log .counts) k (m .count) };
+      log = record { rings = set (x .log .rings) k (bare (m .ring)); counts = set (x .log .counts) k (m .samples) };
       spans = withPart (cap * 2) (x .spans) k (m .ring .words);
     }
 
@@ -83,4 +83,4 @@ joined [] = []
 joined (m ∷ ms) = m .ring .words ++ joined ms
 
 unfoldable pub logOf : List rules.Marks → Logged
-logOf ms = record { log = record { rings = map (λ (m : rules.Marks). bare (m .ring)) ms; counts = map (λ (m : rules.Marks). m .count) ms }; spans = joined ms }
+logOf ms = record { log = record { rings = map (λ (m : rules.Marks). bare (m .ring)) ms; counts = map (λ (m : rules.Marks). m .samples) ms }; spans = joined ms }

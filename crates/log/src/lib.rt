@@ -60,13 +60,13 @@ impl Mark {
 // Where the oldest entry stands, how many there are, and how many were dropped.
 pub struct Ring {
     pub head: usize,
-    pub len: usize,
+    pub count: usize,
     pub dropped: u64,
 }
 
 // A ring of spans, and how many samples it was told of.
 pub struct Marks {
-    pub count: u64,
+    pub samples: u64,
     pub ring: Ring,
 }
 
@@ -104,25 +104,25 @@ impl Ring {
     {
         Ring {
             head: 0,
-            len: 0,
+            count: 0,
             dropped: 0,
         }
     }
 
     // Where the newest entry stands.
     fn newest_place(self, capacity: usize) -> usize
-        requires { ⌜ (0 < self .len) × (self .head < capacity) × (self .head + self .len < 2 ^ 64) ⌝ }
-        ensures { λ p. ⌜ (p ≡ (self .head + (self .len - 1)) % capacity) × (p < capacity) ⌝ }
+        requires { ⌜ (0 < self .count) × (self .head < capacity) × (self .head + self .count < 2 ^ 64) ⌝ }
+        ensures { λ p. ⌜ (p ≡ (self .head + (self .count - 1)) % capacity) × (p < capacity) ⌝ }
     {
-        (self.head + (self.len - 1)) % capacity
+        (self.head + (self.count - 1)) % capacity
     }
 
     // Where the next one goes.
     fn next_place(self, capacity: usize) -> usize
-        requires { ⌜ (self .head < capacity) × (self .head + self .len < 2 ^ 64) ⌝ }
-        ensures { λ p. ⌜ (p ≡ (self .head + self .len) % capacity) × (p < capacity) ⌝ }
+        requires { ⌜ (self .head < capacity) × (self .head + self .count < 2 ^ 64) ⌝ }
+        ensures { λ p. ⌜ (p ≡ (self .head + self .count) % capacity) × (p < capacity) ⌝ }
     {
-        (self.head + self.len) % capacity
+        (self.head + self.count) % capacity
     }
 
     // The oldest entry goes where the ring is full.
@@ -130,23 +130,23 @@ impl Ring {
         requires { ⌜ (self .head < capacity) × (self .dropped + 1 < 2 ^ 64) ⌝ }
         ensures { λ r. ⌜ ((ws : List ℕ) → ringIn r ws ≡ roomed capacity (ringIn self ws)) ⌝ }
     {
-        if self.len < capacity {
+        if self.count < capacity {
             return self;
         }
         Ring {
             head: (self.head + 1) % capacity,
-            len: self.len - 1,
+            count: self.count - 1,
             dropped: self.dropped + 1,
         }
     }
 
     fn with_one_more(self) -> Ring
-        requires { ⌜ self .len + 1 < 2 ^ 64 ⌝ }
-        ensures { λ r. ⌜ (r .head ≡ self .head) × (r .len ≡ self .len + 1) × (r .dropped ≡ self .dropped) ⌝ }
+        requires { ⌜ self .count + 1 < 2 ^ 64 ⌝ }
+        ensures { λ r. ⌜ (r .head ≡ self .head) × (r .count ≡ self .count + 1) × (r .dropped ≡ self .dropped) ⌝ }
     {
         Ring {
             head: self.head,
-            len: self.len + 1,
+            count: self.count + 1,
             dropped: self.dropped,
         }
     }
@@ -157,7 +157,7 @@ fn joins_newest(ring: Ring, words: &[u64], capacity: usize, start: u64) -> bool
     requires { ⌜ Open 2 capacity (ringIn ring (now words)) ⌝ }
     ensures { λ r. ⌜ r ≡ joins capacity (ringIn ring (now (words .entry))) start ⌝ }
 {
-    let held = ring.len;
+    let held = ring.count;
     if held == 0 {
         return false;
     }
@@ -201,15 +201,15 @@ pub fn mark_ring(m: Marks, words: &mut [u64], capacity: usize, start: u64, len: 
     if len == 0 {
         return m;
     }
-    let count = m.count + len;
+    let samples = m.samples + len;
     let ring = m.ring;
     if joins_newest(ring, words, capacity, start) {
         lengthen(ring, words, capacity, start, len);
-        return Marks { count, ring };
+        return Marks { samples, ring };
     }
     let entered = enter_span(ring, words, capacity, start, len);
     Marks {
-        count,
+        samples,
         ring: entered,
     }
 }
@@ -234,9 +234,9 @@ impl Log {
         let a = which * (capacity * 2);
         let e = a + capacity * 2;
         let ring = self.rings[which];
-        let count = self.counts[which];
+        let samples = self.counts[which];
         let m = mark_ring(
-            Marks { count, ring },
+            Marks { samples, ring },
             &mut spans[a..e],
             capacity,
             start,
@@ -245,7 +245,7 @@ impl Log {
         let marked = m.ring;
         let mut out = self;
         out.rings[which] = marked;
-        out.counts[which] = m.count;
+        out.counts[which] = m.samples;
         out
     }
 
@@ -288,7 +288,7 @@ pub fn record_repair(ring: Ring, repairs: &mut [u64], capacity: usize, r: Repair
 // Span number i of a ring, the oldest first.
 pub fn span_at(ring: Ring, words: &[u64], capacity: usize, i: usize) -> Span
     requires { ⌜ Sound 2 capacity (ringIn ring (now words)) ⌝ }
-    requires { ⌜ i < ring .len ⌝ }
+    requires { ⌜ i < ring .count ⌝ }
     ensures { λ s. ⌜ spanOf (s .start) (s .len) ≡ getD (spansOf capacity (ringIn ring (now (words .entry)))) i (spanOf 0 0) ⌝ }
 {
     let head = ring.head;
@@ -303,7 +303,7 @@ fn end_fits(ring: Ring, words: &[u64], capacity: usize) -> bool
     requires { ⌜ Sound 2 capacity (ringIn ring (now words)) ⌝ }
     ensures { λ r. ⌜ r ≡ endFits capacity (ringIn ring (now (words .entry))) ⌝ }
 {
-    if ring.len == 0 {
+    if ring.count == 0 {
         return true;
     }
     let place = ring.newest_place(capacity) * 2;
@@ -322,7 +322,7 @@ pub fn ring_fits(ring: Ring, count: u64, capacity: usize) -> bool
     if capacity <= ring.head {
         return false;
     }
-    if capacity < ring.len {
+    if capacity < ring.count {
         return false;
     }
     if COUNTER_LIMIT < ring.dropped {

@@ -5,13 +5,13 @@ use Prim.Native.Nat.{ℕ, zero, suc}
 use lib.ListN.{length, replicate}
 use Rattle.complex.specs.View.{make64}
 use Rattle.rules.specs.Dc.{corner, firstLevel}
-use Rattle.rules.specs.Iq.{Settled, isOff, observing, withheld, correcting}
+use Rattle.rules.specs.Iq.{Settled, Off, Observing, Withheld, Correcting}
 use Rattle.rules.specs.Chain.{Config, runs, settledBy, settingOf}
 use Rattle.log.specs.View.{freshRing, freshLog}
 use Rattle.impulse.specs.Machine as impulse
 use Rattle.dc.specs.Blocker.{blockerOf}
 use Rattle.iq.specs.declared.Iq.{Iq}
-use Rattle.iq.specs.declared.Iq.the-variants.{Off, Observing, Correcting, Withheld}
+use Rattle.iq.specs.declared.Iq.the-variants as decision
 use Rattle.iq.specs.View.{modeOf}
 use Rattle.image.specs.Observe as image
 use Rattle.config.specs.declared.ConditioningConfig.{ConditioningConfig}
@@ -25,10 +25,10 @@ use Rattle.making.specs.declared.MakingAnswer.the-variants as making
 
 -- what the chain settles, in the code's type
 abbrev pub iqOf : Settled → Iq
-iqOf isOff = Off
-iqOf observing = Observing
-iqOf (correcting r) = Correcting (make64 r)
-iqOf withheld = Withheld
+iqOf Off = decision.Off
+iqOf Observing = decision.Observing
+iqOf (Correcting r) = decision.Correcting (make64 r)
+iqOf Withheld = decision.Withheld
 
 unfoldable pub freshSettings : ConditioningConfig → Settings
 freshSettings g =

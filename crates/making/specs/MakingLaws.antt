@@ -4,25 +4,25 @@ use mathlib.Core.Bool.{Bool, cond}
 use mathlib.Core.List.{List}
 use Prim.Native.Nat.{ℕ}
 use lib.ListN.{length, replicate}
-use Rattle.rules.specs.Iq.{Settled, isOff, observing, withheld, correcting}
+use Rattle.rules.specs.Iq.{Settled, Off, Observing, Withheld, Correcting}
 use Rattle.rules.specs.Chain.{Config}
 use Rattle.iq.specs.declared.Iq.{Iq}
-use Rattle.iq.specs.declared.Iq.the-variants.{Off, Observing, Correcting, Withheld}
+use Rattle.iq.specs.declared.Iq.the-variants as decision
 use Rattle.iq.specs.View.{settledOf}
 use Rattle.config.specs.Config.{allOff, refusal}
 use Rattle.making.specs.Making.{iqOf, Said, nothing, numbered, makingSaid, isMade, madeWords}
 
 pub iq-again : (i : Iq) → iqOf (settledOf i) ≡ i
-iq-again Off = refl
-iq-again Observing = refl
-iq-again (Correcting r) = refl
-iq-again Withheld = refl
+iq-again decision.Off = refl
+iq-again decision.Observing = refl
+iq-again (decision.Correcting r) = refl
+iq-again decision.Withheld = refl
 
 pub settled-again : (s : Settled) → settledOf (iqOf s) ≡ s
-settled-again isOff = refl
-settled-again observing = refl
-settled-again (correcting r) = refl
-settled-again withheld = refl
+settled-again Off = refl
+settled-again Observing = refl
+settled-again (Correcting r) = refl
+settled-again Withheld = refl
 
 -- the answer by whether all is off
 pub said-by : (c : Config) (spans repairs words : ℕ) (t : Bool) → allOff c ≡ t → makingSaid c spans repairs words ≡ cond t nothing (numbered (refusal c spans repairs words))

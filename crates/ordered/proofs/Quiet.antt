@@ -21,7 +21,8 @@ use Rattle.ieee.specs.Plain.{signClear, Plain, key}
 use Rattle.ieee.specs.Order.{lt-key, plain-asym, plain-irrefl, plain-equal, round-clear, add-clear}
 use Rattle.rules.specs.Constants.{zeroF, impulseRatio}
 use Rattle.rules.specs.SortLaws.{All}
-use Rattle.rules.specs.Impulse.{mean, standsOut}
+use Rattle.rules.specs.Impulse.{standsOut}
+use Rattle.ordered.specs.Ordered.{mean}
 use Rattle.ordered.specs.Rising.{NotNegative, Held, Rising, thirtyTwo}
 use Rattle.ordered.proofs.Sizes.{abs, clear, none, no-clear}
 

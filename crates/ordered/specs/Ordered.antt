@@ -1,17 +1,18 @@
 -- The ordered window: an array of w powers, those of the window in front, ascending, and then zeros. Definitions only.
-use mathlib.Core.Bool.{Bool, cond}
-use mathlib.Core.List.{List, _++_}
-use Prim.Native.Nat.{ℕ, _+_, _-_, min}
+use mathlib.Core.Bool.{cond}
+use mathlib.Core.List.{List, _++_, foldl}
+use Prim.Native.Nat.{ℕ, _+_, _-_}
 use lib.Dec.{ltb}
-use lib.ListN.{take, drop}
-use lib.Ieee.{Float, lt}
+use lib.IntN.{pos}
+use lib.ListN.{length, take, drop}
+use lib.Ieee.{Float, binary64, add, div, lt, ofInt}
+use Rattle.rules.specs.Constants.{zeroF}
 use Rattle.rules.specs.Sort.{insert, remove}
-use Rattle.rules.specs.Impulse.{mean, standsOut}
 
 -- power p comes as the i-th (from 0), and once the window is full the oldest, `old`, goes
 unfoldable pub ordered : ℕ → ℕ → Float → Float → List Float → List Float
 ordered w i old p l = cond (ltb i w) (insert lt p (take i l) ++ drop (i + 1) l) (insert lt p (take (w - 1) (remove lt old l)))
 
--- a sample of power p is flagged, when n samples have come: the strongest `trim` of the window are left out of the mean
-unfoldable pub flaggedBy : ℕ → ℕ → ℕ → List Float → Float → Bool
-flaggedBy w trim n sorted p = standsOut (mean (take (min n w - trim) sorted)) p
+-- summed in their order in f64, and divided by their number
+unfoldable pub mean : List Float → Float
+mean l = div binary64 (foldl (add binary64) zeroF l) (ofInt binary64 (pos (length l)))

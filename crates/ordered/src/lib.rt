@@ -3,14 +3,14 @@
 ghost use mathlib.Core.Path.{_≡_};
 ghost use mathlib.Core.Bool.{true, false};
 ghost use mathlib.Core.List.{_++_, foldl};
-ghost use Prim.Native.Nat.{_+_, _-_, _%_, _≤_, _<_, min};
+ghost use Prim.Native.Nat.{_+_, _-_, _%_, _≤_, _<_};
 ghost use lib.ListN.{length, getD, set, take, drop};
 ghost use lib.Ieee.{binary64, lt, le, add, mul, div, nan};
 ghost use Rattle.rules.specs.Constants.{zeroF, impulseRatio};
 ghost use Rattle.rules.specs.Sort.{insert, remove};
 ghost use Rattle.rules.specs.SortLaws.{All};
-ghost use Rattle.rules.specs.Impulse.{powerOf, mean, standsOut};
-ghost use Rattle.ordered.specs.Ordered.{ordered, flaggedBy};
+ghost use Rattle.rules.specs.Impulse.{powerOf, standsOut};
+ghost use Rattle.ordered.specs.Ordered.{ordered, mean};
 ghost use Rattle.ordered.specs.Ordering.{rank, without, putIn};
 ghost use Rattle.ordered.specs.Rising.{climbs, Held, Rising, least, most, moved, blended, thirtyTwo};
 use complex::Complex32;
@@ -18,8 +18,8 @@ use complex::Complex32;
 // The reference window.
 pub const WINDOW: usize = 33;
 
-// Its strongest powers, left out of the reference: room for two runs that are mended.
-pub const TRIM: usize = 8;
+// How far above the reference the power of an impulse is.
+const IMPULSE_RATIO: f64 = 144.0;
 
 // Place k of the array with the gap left out.
 fn beside(sorted: &[f32; WINDOW], gap: usize, k: usize) -> f32
@@ -256,20 +256,9 @@ fn stands_out(r: f64, p: f32) -> bool
     ensures { λ b. ⌜ b ≡ standsOut r p ⌝ }
 {
     if r > 0.0 {
-        return ieee::widen(p) > 144.0 * r;
+        return ieee::widen(p) > IMPULSE_RATIO * r;
     }
     false
-}
-
-// How many of the window's powers are kept, when n samples have come.
-fn kept(n: u64) -> usize
-    requires { ⌜ 8 ≤ n ⌝ }
-    ensures { λ r. ⌜ r ≡ min n 33 - 8 ⌝ }
-{
-    if n < WINDOW as u64 {
-        return n as usize - TRIM;
-    }
-    WINDOW - TRIM
 }
 
 // A power of at most 144 times a 32nd of the greatest kept one, x, is not above 144 times the mean.
@@ -277,7 +266,7 @@ fn is_near(x: f32, p: f32) -> bool
     ensures result { λ r. ⌜ r ≡ le p (mul binary64 impulseRatio (div binary64 (add binary64 zeroF x) thirtyTwo)) ⌝ }
     ensures values { λ r. ⌜ Held p ⌝ }
 {
-    ieee::widen(p) <= 144.0 * ((0.0 + ieee::widen(x)) / 32.0)
+    ieee::widen(p) <= IMPULSE_RATIO * ((0.0 + ieee::widen(x)) / 32.0)
 }
 
 // Whether it is known without the mean of the first k powers that a sample of power p is not flagged.
@@ -295,14 +284,13 @@ fn is_quiet(sorted: &[f32; WINDOW], k: usize, rising: bool, p: f32) -> bool
     is_near(sorted[k - 1], p)
 }
 
-// A sample of power p is flagged, when n samples have come. `rising`: it is known that the powers ascend
-// from 0 on.
-pub fn is_flagged(sorted: &[f32; WINDOW], n: u64, p: f32, rising: bool) -> bool
-    requires { ⌜ (8 ≤ n) × (length (now sorted) ≡ 33) ⌝ }
+// A sample of power p stands out from the mean of the first k powers. `rising`: it is known that the
+// powers ascend from 0 on.
+pub fn is_flagged(sorted: &[f32; WINDOW], k: usize, p: f32, rising: bool) -> bool
+    requires { ⌜ (k ≤ 32) × (length (now sorted) ≡ 33) ⌝ }
     requires { ⌜ (rising ≡ true → Rising 0 (now sorted)) ⌝ }
-    ensures { λ b. ⌜ b ≡ flaggedBy 33 8 n (now (sorted .entry)) p ⌝ }
+    ensures { λ b. ⌜ b ≡ standsOut (mean (take k (now (sorted .entry)))) p ⌝ }
 {
-    let k = kept(n);
     if is_quiet(sorted, k, rising, p) {
         return false;
     }

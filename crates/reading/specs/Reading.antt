@@ -6,6 +6,7 @@ use lib.Dec.{ltb, leb, eqb}
 use lib.ListN.{length}
 use Rattle.complex.specs.Complex.{Complex}
 use Rattle.complex.specs.View.{view64, make64}
+use Rattle.rules.specs.Constants.{spanLimit}
 use Rattle.rules.specs.Iq.{Mode}
 use Rattle.rules.specs.Log.{Span, spanOf}
 use Rattle.rules.specs.RingReading.{spansOf}
@@ -76,11 +77,11 @@ numberIn (s ∷ l) (suc i) = numberIn l i
 
 -- 'spans 1..256', and a store of '24·spans' words
 abbrev pub storeFits : ℕ → ℕ → Bool
-storeFits cap words = ltb 0 cap && leb cap 256 && eqb words (24 * cap)
+storeFits cap words = ltb 0 cap && leb cap spanLimit && eqb words (24 * cap)
 
 -- not: 'ring count or head out of range'
 abbrev pub readable : ℕ → Ring → Bool
-readable cap r = ltb (r .head) cap && leb (r .len) cap
+readable cap r = ltb (r .head) cap && leb (r .count) cap
 
 -- the spans of ring number k, the oldest first
 abbrev pub spansIn : InputConditioner → List ℕ → ℕ → List Span

@@ -55,18 +55,18 @@ pub read-sound : (cap : ℕ) (x : Logged) (k : ℕ) → storeFits cap (length (x
 unfolding marksAt
 read-sound cap x k s r h =
     let t = store-is cap (length (x .spans)) s in
-    let q = both (ltb (ringOf (x .log) k .head) cap) (leb (ringOf (x .log) k .len) cap) r in
+    let q = both (ltb (ringOf (x .log) k .head) cap) (leb (ringOf (x .log) k .count) cap) r in
     record {
       some = t .some;
       long =
           length-take-le (cap * 2) (drop (k * (cap * 2)) (x .spans)) (omega (arith, t .long, length-drop (k * (cap * 2)) (x .spans), part-inside (cap * 2) k h))
           ∙ (let q : cap * 2 ≡ 2 * cap = omega arith in q);
       headIn = ltb-true (ringOf (x .log) k .head) cap (q .0);
-      lenIn = leb-true (ringOf (x .log) k .len) cap (q .1);
+      countIn = leb-true (ringOf (x .log) k .count) cap (q .1);
     }
 
-pub has-is : (cap : ℕ) (r : Ring) (i : ℕ) → (readable cap r && ltb i (r .len)) ≡ true → (readable cap r ≡ true) × (i < r .len)
-has-is cap r i e = let p = both (readable cap r) (ltb i (r .len)) e in (p .0, ltb-true i (r .len) (p .1))
+pub has-is : (cap : ℕ) (r : Ring) (i : ℕ) → (readable cap r && ltb i (r .count)) ≡ true → (readable cap r ≡ true) × (i < r .count)
+has-is cap r i e = let p = both (readable cap r) (ltb i (r .count)) e in (p .0, ltb-true i (r .count) (p .1))
 
 -- ---- a span by the answers of the tests
 
@@ -77,7 +77,7 @@ module _ (c : InputConditioner) (ws : List ℕ) (k i : ℕ) where
   abbrev ring : Ring
   ring = ringOf (c .log) k
 
-  spans-many : length (spansIn c ws k) ≡ ring .len
+  spans-many : length (spansIn c ws k) ≡ ring .count
   unfolding marksAt
   spans-many = length-spans cap (marksAt cap (record { log = c .log; spans = ws }) k .ring)
 
@@ -85,19 +85,19 @@ module _ (c : InputConditioner) (ws : List ℕ) (k i : ℕ) where
   unfolding spanRead
   no-store e = sym (ap (λ (t : Bool). cond (t && readable cap ring) (numberIn (spansIn c ws k) i) noSpan) e)
 
-  by-readable : (t u : Bool) → readable cap ring ≡ t → ltb i (ring .len) ≡ u → (t && u) ≡ false → cond t (numberIn (spansIn c ws k) i) noSpan ≡ noSpan
+  by-readable : (t u : Bool) → readable cap ring ≡ t → ltb i (ring .count) ≡ u → (t && u) ≡ false → cond t (numberIn (spansIn c ws k) i) noSpan ≡ noSpan
   by-readable false u e f n = refl
   by-readable true true e f n = absurd (false≢true (sym n))
-  by-readable true false e f n = number-past (spansIn c ws k) i (omega (arith, spans-many, ltb-false i (ring .len) f))
+  by-readable true false e f n = number-past (spansIn c ws k) i (omega (arith, spans-many, ltb-false i (ring .count) f))
 
-  pub no-span : storeFits cap (length ws) ≡ true → (readable cap ring && ltb i (ring .len)) ≡ false → noSpan ≡ spanRead c ws k i
+  pub no-span : storeFits cap (length ws) ≡ true → (readable cap ring && ltb i (ring .count)) ≡ false → noSpan ≡ spanRead c ws k i
   unfolding spanRead
   no-span e f =
       sym
       (ap (λ (t : Bool). cond (t && readable cap ring) (numberIn (spansIn c ws k) i) noSpan) e
-      ∙ by-readable (readable cap ring) (ltb i (ring .len)) refl refl f)
+      ∙ by-readable (readable cap ring) (ltb i (ring .count)) refl refl f)
 
-  pub one-span : storeFits cap (length ws) ≡ true → (readable cap ring && ltb i (ring .len)) ≡ true → found (getD (spansIn c ws k) i (spanOf 0 0)) ≡ spanRead c ws k i
+  pub one-span : storeFits cap (length ws) ≡ true → (readable cap ring && ltb i (ring .count)) ≡ true → found (getD (spansIn c ws k) i (spanOf 0 0)) ≡ spanRead c ws k i
   unfolding spanRead
   one-span e f =
       let h = has-is cap ring i f in

@@ -105,21 +105,21 @@ fn store_fits(capacity: usize, words: usize) -> bool
 
 // Whether a ring's head and length are in range, and it has a span of this number.
 fn has_span(ring: Ring, capacity: usize, i: usize) -> bool
-    ensures { λ r. ⌜ r ≡ (readable capacity ring && ltb i (ring .len)) ⌝ }
+    ensures { λ r. ⌜ r ≡ (readable capacity ring && ltb i (ring .count)) ⌝ }
 {
     if capacity <= ring.head {
         return false;
     }
-    if capacity < ring.len {
+    if capacity < ring.count {
         return false;
     }
-    i < ring.len
+    i < ring.count
 }
 
 // Span number i of ring number which, the oldest first.
 fn read_span(log: Log, spans: &[u64], capacity: usize, which: usize, i: usize) -> Span
     requires { ⌜ (which < 12) × (storeFits capacity (length (now spans)) ≡ true) ⌝ }
-    requires { ⌜ (readable capacity (ringOf log which) && ltb i (ringOf log which .len)) ≡ true ⌝ }
+    requires { ⌜ (readable capacity (ringOf log which) && ltb i (ringOf log which .count)) ≡ true ⌝ }
     ensures { λ s. ⌜ spanOf (s .start) (s .len) ≡ getD (spansOf capacity (marksAt capacity (record { log = log; spans = now (spans .entry) }) which .ring)) i (spanOf 0 0) ⌝ }
 {
     let a = which * (capacity * 2);

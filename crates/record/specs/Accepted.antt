@@ -8,6 +8,7 @@ use lib.Dec.{T, eqb, ltb}
 use borrow.Author.Tests.{lt-ltb, eqb-true}
 use lib.ListN.{length}
 use lib.Ieee.{Float}
+use Rattle.rules.specs.Answers.{isAccepted}
 use Rattle.rules.specs.Guard.{usable, firstUnusableFrom}
 use Rattle.rules.specs.Refusals.{tooMany, unusableAt, anyUnusable, badStart, anyBeyond, firstBeyondFrom}
 use Rattle.rules.specs.SortLaws.{all-append}
@@ -27,8 +28,6 @@ use Rattle.hops.specs.Hops.{saidHop, answerOf, isOffIq, watched, hopRefusal, ho
 use Rattle.hops.specs.Hops as hops
 use Rattle.hops.specs.declared.HopSaid.the-variants as said
 use Rattle.hops.specs.HopLaws.{watched-by}
-use Rattle.hops.specs.HopKeeps.{isAnswered}
-use Rattle.record.specs.Lists.{isReady}
 
 -- ---- calls
 
@@ -37,20 +36,20 @@ module _ (m : Machine) (slice : List ℕ) where
   by b = cond b (taken m slice) (declined m slice (returned (callRefusal (m .state) slice (m .spans) (m .repairs)) (unusableAt (m .state .held) (newPart (m .state) slice))))
 
   -- an accepted call is not refused
-  pub ready-none : isReady (called m slice .said) ≡ true → callRefusal (m .state) slice (m .spans) (m .repairs) ≡ 0
+  pub ready-none : isAccepted (called m slice .said) ≡ true → callRefusal (m .state) slice (m .spans) (m .repairs) ≡ 0
   unfolding called
   ready-none e = go (eqb (callRefusal (m .state) slice (m .spans) (m .repairs)) 0) refl e
     where
-      go : (b : Bool) → eqb (callRefusal (m .state) slice (m .spans) (m .repairs)) 0 ≡ b → isReady (by b .said) ≡ true → callRefusal (m .state) slice (m .spans) (m .repairs) ≡ 0
+      go : (b : Bool) → eqb (callRefusal (m .state) slice (m .spans) (m .repairs)) 0 ≡ b → isAccepted (by b .said) ≡ true → callRefusal (m .state) slice (m .spans) (m .repairs) ≡ 0
       go true q h = eqb-true _ 0 q
       go false q h = absurd (false≢true h)
 
   -- one that is refused leaves all
-  pub refused-keeps : isReady (called m slice .said) ≡ false → called m slice .machine ≡ m
+  pub refused-keeps : isAccepted (called m slice .said) ≡ false → called m slice .machine ≡ m
   unfolding called
   refused-keeps e = go (eqb (callRefusal (m .state) slice (m .spans) (m .repairs)) 0) e
     where
-      go : (b : Bool) → isReady (by b .said) ≡ false → by b .machine ≡ m
+      go : (b : Bool) → isAccepted (by b .said) ≡ false → by b .machine ≡ m
       go true h = absurd (false≢true (sym h))
       go false h = refl
 
@@ -103,16 +102,16 @@ module _ (c : InputConditioner) (xs : List ℕ) (start : ℕ) (spans : List ℕ)
     pub parts : anyBeyond xs .holds ≡ false
 
   -- an accepted hop's answer comes only from the end of all tests
-  pub answered-taken : isAnswered (saidHop (hopOf c xs start spans ws .called .answer)) ≡ true → Taken
+  pub answered-taken : isAccepted (saidHop (hopOf c xs start spans ws .called .answer)) ≡ true → Taken
   unfolding hopOf hops.taken
   answered-taken e = number-is (hopRefusal c spans ws) refl e
     where
-      unanswered : (b : Bool) → isAnswered (saidHop (cond b said.BadLength said.BadState)) ≡ true → ⊥
+      unanswered : (b : Bool) → isAccepted (saidHop (cond b said.BadLength said.BadState)) ≡ true → ⊥
       unanswered true h = false≢true h
       unanswered false h = false≢true h
 
       Said? : Seen → Type 0
-      Said? s = isAnswered (saidHop (answerOf (s .seen .answer))) ≡ true
+      Said? s = isAccepted (saidHop (answerOf (s .seen .answer))) ≡ true
 
       by-tests : hopRefusal c spans ws ≡ 0 → (o a b d : Bool) → isOffIq (settledOf (c .settings .iq)) ≡ o → isNone (c .settings .n) xs ≡ a → badStart (c .monitor .end) start .holds ≡ b → anyBeyond xs .holds ≡ d
           → Said? (cond o (leaving (c .monitor) ws answer.Nothing)
@@ -124,7 +123,7 @@ module _ (c : InputConditioner) (xs : List ℕ) (start : ℕ) (spans : List ℕ)
       by-tests n false false false true p q r s h = absurd (false≢true h)
       by-tests n false false false false p q r s h = record { none = n; watching = p; some = q; starts = r; parts = s }
 
-      number-is : (k : ℕ) → hopRefusal c spans ws ≡ k → isAnswered (saidHop (byNumber k c spans ws (followed c spans (watched c xs start ws)) .called .answer)) ≡ true → Taken
+      number-is : (k : ℕ) → hopRefusal c spans ws ≡ k → isAccepted (saidHop (byNumber k c spans ws (followed c spans (watched c xs start ws)) .called .answer)) ≡ true → Taken
       number-is zero n h =
           let o = isOffIq (settledOf (c .settings .iq)) in
           let a = isNone (c .settings .n) xs in

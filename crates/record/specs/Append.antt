@@ -8,7 +8,7 @@ use lib.Dec.{eqb}
 use borrow.Author.Tests.{ne-eqb, eqb-true}
 use lib.ListN.{length, length-append}
 use Rattle.rules.specs.Impulse.{Setting, Event}
-use Rattle.rules.specs.Iq.{Mode, off, observe, apply, Settled, isOff, observing, withheld, correcting, correctedBy}
+use Rattle.rules.specs.Iq.{Mode, off, observe, apply, Settled, Off, Observing, Withheld, Correcting, correctedBy}
 use Rattle.rules.specs.Log as rules
 use Rattle.rules.specs.Log.{Span, spanOf, mark, append, repairsOf, longRuns}
 use Rattle.rules.specs.RingLaws.{Sound}
@@ -84,12 +84,12 @@ others-none k es h = let a = ne-eqb k 0 (λ e. omega arith) in let b = ne-eqb k 
 marks-for-append : (k : ℕ) (es fs : List Event) → marksFor k (es ++ fs) ≡ marksFor k es ++ marksFor k fs
 marks-for-append k es fs = go (eqb k 0) (eqb k 1) (eqb k 3)
   where
-    go : (a b c : Bool) → cond a (rules.marksOf rules.isRepaired (es ++ fs)) (cond b (rules.marksOf rules.isFlagged (es ++ fs)) (cond c (rules.marksOf rules.isUncertain (es ++ fs)) []))
-        ≡ cond a (rules.marksOf rules.isRepaired es) (cond b (rules.marksOf rules.isFlagged es) (cond c (rules.marksOf rules.isUncertain es) []))
-        ++ cond a (rules.marksOf rules.isRepaired fs) (cond b (rules.marksOf rules.isFlagged fs) (cond c (rules.marksOf rules.isUncertain fs) []))
-    go true b c = marks-append rules.isRepaired es fs
-    go false true c = marks-append rules.isFlagged es fs
-    go false false true = marks-append rules.isUncertain es fs
+    go : (a b c : Bool) → cond a (rules.marksOf rules.Repaired (es ++ fs)) (cond b (rules.marksOf rules.Flagged (es ++ fs)) (cond c (rules.marksOf rules.Uncertain (es ++ fs)) []))
+        ≡ cond a (rules.marksOf rules.Repaired es) (cond b (rules.marksOf rules.Flagged es) (cond c (rules.marksOf rules.Uncertain es) []))
+        ++ cond a (rules.marksOf rules.Repaired fs) (cond b (rules.marksOf rules.Flagged fs) (cond c (rules.marksOf rules.Uncertain fs) []))
+    go true b c = marks-append rules.Repaired es fs
+    go false true c = marks-append rules.Flagged es fs
+    go false false true = marks-append rules.Uncertain es fs
     go false false false = refl
 
 -- only one stage marks a ring
@@ -99,16 +99,16 @@ dc-late observe k e = absurd (false≢true e)
 dc-late apply k e = eqb-true k 6 e
 
 iq-late : (s : Settled) (k : ℕ) → iqMarks s k ≡ true → 10 ≤ k
-iq-late isOff k e = absurd (false≢true e)
-iq-late observing k e = absurd (false≢true e)
-iq-late withheld k e = let h = eqb-true k 11 e in omega arith
-iq-late (correcting z) k e = let h = eqb-true k 10 e in omega arith
+iq-late Off k e = absurd (false≢true e)
+iq-late Observing k e = absurd (false≢true e)
+iq-late Withheld k e = let h = eqb-true k 11 e in omega arith
+iq-late (Correcting z) k e = let h = eqb-true k 10 e in omega arith
 
 not-both : (s : Settled) (k : ℕ) → k ≡ 6 → iqMarks s k ≡ false
-not-both isOff k e = refl
-not-both observing k e = refl
-not-both withheld k e = ne-eqb k 11 (λ h. omega arith)
-not-both (correcting z) k e = ne-eqb k 10 (λ h. omega arith)
+not-both Off k e = refl
+not-both Observing k e = refl
+not-both Withheld k e = ne-eqb k 11 (λ h. omega arith)
+not-both (Correcting z) k e = ne-eqb k 10 (λ h. omega arith)
 
 module _ (cap : ℕ) (q : rules.Marks) (k : Sound 2 cap (q .ring)) (es fs : List Span) (rel a b : ℕ) where
   join-ring : (d i : Bool) → (d ≡ true → (es ≡ []) × ((fs ≡ []) × (i ≡ false))) → (i ≡ true → (es ≡ []) × (fs ≡ []))

@@ -6,12 +6,12 @@ use Prim.Native.Nat.{ℕ, _-_, _*_, _≤_, _<_}
 use native.Mathlib.Omega.{arith}
 use lib.Dec.{lit<, lit≤}
 use lib.ListN.{length, replicate}
-use Rattle.rules.specs.Impulse.{Offered, Event, uncertain, kept, mended}
+use Rattle.rules.specs.Impulse.{Offered, blockLength, Event, uncertain, kept, mended}
 use Rattle.rules.specs.Dc.{corner, firstLevel, levelAfter, blockedAll}
-use Rattle.rules.specs.Iq.{Mode, off, observe, apply, Settled, isOff, observing, withheld, correcting, correctedBy}
+use Rattle.rules.specs.Iq.{Mode, off, observe, apply, Settled, Off, Observing, Withheld, Correcting, correctedBy}
 use Rattle.rules.specs.Log as rules
-use Rattle.rules.specs.Log.{Stage, impulse, dc, iq, Mark, isRepaired, isFlagged, isCorrected, isUncertain, ringNumber, Span, spanOf, mark, noMarks, marked, marksOf, repaired, repairsOf, longRuns}
-use Rattle.rules.specs.Chain.{isApply, runs, blockLength, settingOf, impulseEvents, afterImpulse, afterDc, settledBy, released, ringOf, repairRing, longRunsOf, evidence}
+use Rattle.rules.specs.Log.{Stage, impulse, dc, iq, Mark, Repaired, Flagged, Corrected, Uncertain, ringNumber, Span, spanOf, mark, noMarks, marked, marksOf, repaired, repairsOf, longRuns}
+use Rattle.rules.specs.Chain.{isApply, runs, settingOf, impulseEvents, afterImpulse, afterDc, settledBy, released, ringOf, repairRing, longRunsOf, evidence}
 use Rattle.log.specs.View.{freshLog, marksAt}
 use Rattle.log.specs.LogLaws.{fresh-marks}
 use Rattle.impulse.specs.declared.ImpulseSuppressor.{ImpulseSuppressor}
@@ -51,10 +51,10 @@ dc-own observe = refl
 dc-own apply = refl
 
 iq-early : (s : Settled) (k : ℕ) → k < 8 → iqMarks s k ≡ false
-iq-early isOff k h = refl
-iq-early observing k h = refl
-iq-early withheld k h = ne-eqb k 11 (λ e. omega arith)
-iq-early (correcting r) k h = ne-eqb k 10 (λ e. omega arith)
+iq-early Off k h = refl
+iq-early Observing k h = refl
+iq-early Withheld k h = ne-eqb k 11 (λ e. omega arith)
+iq-early (Correcting r) k h = ne-eqb k 10 (λ e. omega arith)
 
 module _ (g : ConditioningConfig) (blocks : 0 < blockLength (g .fs)) (xs : List ℕ) (u : Usable xs) where
   offered : Offered (settingOf (configOf g))
@@ -120,7 +120,7 @@ module _ (g : ConditioningConfig) (blocks : 0 < blockLength (g .fs)) (xs : List 
 
   -- ---- the rings
 
-  corrected-none : (es : List Event) → marksOf isCorrected es ≡ []
+  corrected-none : (es : List Event) → marksOf Corrected es ≡ []
   unfolding marksOf
   corrected-none [] = refl
   corrected-none (uncertain j ∷ es) = corrected-none es
@@ -166,10 +166,10 @@ module _ (g : ConditioningConfig) (blocks : 0 < blockLength (g .fs)) (xs : List 
 
     impulse-ring : (m : Mark) → Ruled impulse m
     unfolding ringOf marked
-    impulse-ring isRepaired = hopped-at 0 (lit< tt) (λ e. omega arith) ∙ impulse-plain 0 (lit< tt)
-    impulse-ring isFlagged = hopped-at 1 (lit< tt) (λ e. omega arith) ∙ impulse-plain 1 (lit< tt)
-    impulse-ring isCorrected = hopped-at 2 (lit< tt) (λ e. omega arith) ∙ impulse-plain 2 (lit< tt) ∙ ap (foldl (mark (g .spans)) (noMarks (g .spans))) (sym (corrected-none (impulseEvents (configOf g) xs)))
-    impulse-ring isUncertain = hopped-at 3 (lit< tt) (λ e. omega arith) ∙ impulse-plain 3 (lit< tt)
+    impulse-ring Repaired = hopped-at 0 (lit< tt) (λ e. omega arith) ∙ impulse-plain 0 (lit< tt)
+    impulse-ring Flagged = hopped-at 1 (lit< tt) (λ e. omega arith) ∙ impulse-plain 1 (lit< tt)
+    impulse-ring Corrected = hopped-at 2 (lit< tt) (λ e. omega arith) ∙ impulse-plain 2 (lit< tt) ∙ ap (foldl (mark (g .spans)) (noMarks (g .spans))) (sym (corrected-none (impulseEvents (configOf g) xs)))
+    impulse-ring Uncertain = hopped-at 3 (lit< tt) (λ e. omega arith) ∙ impulse-plain 3 (lit< tt)
 
     -- a ring of the others, by whether they mark it
     plain-at : (k : ℕ) → 4 ≤ k → (d i : Bool) → dcMarks (modeOf (g .dc)) k ≡ d → iqMarks (settledBy (configOf g)) k ≡ i
@@ -184,10 +184,10 @@ module _ (g : ConditioningConfig) (blocks : 0 < blockLength (g .fs)) (xs : List 
     -- the ring that the DC stage may mark, and its others
     dc-ring : (m : Mark) → Ruled dc m
     unfolding ringOf marked
-    dc-ring isRepaired = hopped-at 4 (lit< tt) (λ e. omega arith) ∙ plain-at 4 (lit≤ tt) false false (dc-only (modeOf (g .dc)) 4 (λ e. omega arith)) (iq-early (settledBy (configOf g)) 4 (lit< tt))
-    dc-ring isFlagged = hopped-at 5 (lit< tt) (λ e. omega arith) ∙ plain-at 5 (lit≤ tt) false false (dc-only (modeOf (g .dc)) 5 (λ e. omega arith)) (iq-early (settledBy (configOf g)) 5 (lit< tt))
-    dc-ring isUncertain = hopped-at 7 (lit< tt) (λ e. omega arith) ∙ plain-at 7 (lit≤ tt) false false (dc-only (modeOf (g .dc)) 7 (λ e. omega arith)) (iq-early (settledBy (configOf g)) 7 (lit< tt))
-    dc-ring isCorrected =
+    dc-ring Repaired = hopped-at 4 (lit< tt) (λ e. omega arith) ∙ plain-at 4 (lit≤ tt) false false (dc-only (modeOf (g .dc)) 4 (λ e. omega arith)) (iq-early (settledBy (configOf g)) 4 (lit< tt))
+    dc-ring Flagged = hopped-at 5 (lit< tt) (λ e. omega arith) ∙ plain-at 5 (lit≤ tt) false false (dc-only (modeOf (g .dc)) 5 (λ e. omega arith)) (iq-early (settledBy (configOf g)) 5 (lit< tt))
+    dc-ring Uncertain = hopped-at 7 (lit< tt) (λ e. omega arith) ∙ plain-at 7 (lit≤ tt) false false (dc-only (modeOf (g .dc)) 7 (λ e. omega arith)) (iq-early (settledBy (configOf g)) 7 (lit< tt))
+    dc-ring Corrected =
         hopped-at 6 (lit< tt) (λ e. omega arith)
         ∙ plain-at 6 (lit≤ tt) (isApply (modeOf (g .dc))) false (dc-own (modeOf (g .dc))) (iq-early (settledBy (configOf g)) 6 (lit< tt))
         ∙ go (isApply (modeOf (g .dc)))
@@ -222,22 +222,22 @@ module _ (g : ConditioningConfig) (blocks : 0 < blockLength (g .fs)) (xs : List 
         ∙ ap (λ (z : Settled). foldl (mark (g .spans)) (markIf (g .spans) i (noMarks (g .spans)) (spanOf 0 (length (released (configOf g) xs)))) (cond (isObserving z) (suspectedSpans (evidence (configOf g) hs)) [])) e
 
     iq-by : (s : Settled) → settledBy (configOf g) ≡ s → (m : Mark) → Given s m
-    iq-by isOff e isRepaired = iq-early-ring isOff e 8 (lit≤ tt) (lit< tt) false refl
-    iq-by isOff e isFlagged = iq-early-ring isOff e 9 (lit≤ tt) (lit< tt) false refl
-    iq-by isOff e isCorrected = iq-early-ring isOff e 10 (lit≤ tt) (lit< tt) false refl
-    iq-by isOff e isUncertain = iq-last-ring isOff e false refl
-    iq-by observing e isRepaired = iq-early-ring observing e 8 (lit≤ tt) (lit< tt) false refl
-    iq-by observing e isFlagged = iq-early-ring observing e 9 (lit≤ tt) (lit< tt) false refl
-    iq-by observing e isCorrected = iq-early-ring observing e 10 (lit≤ tt) (lit< tt) false refl
-    iq-by observing e isUncertain = iq-last-ring observing e false refl
-    iq-by withheld e isRepaired = iq-early-ring withheld e 8 (lit≤ tt) (lit< tt) false refl
-    iq-by withheld e isFlagged = iq-early-ring withheld e 9 (lit≤ tt) (lit< tt) false refl
-    iq-by withheld e isCorrected = iq-early-ring withheld e 10 (lit≤ tt) (lit< tt) false refl
-    iq-by withheld e isUncertain = iq-last-ring withheld e true refl
-    iq-by (correcting r) e isRepaired = iq-early-ring (correcting r) e 8 (lit≤ tt) (lit< tt) false refl
-    iq-by (correcting r) e isFlagged = iq-early-ring (correcting r) e 9 (lit≤ tt) (lit< tt) false refl
-    iq-by (correcting r) e isCorrected = iq-early-ring (correcting r) e 10 (lit≤ tt) (lit< tt) true refl
-    iq-by (correcting r) e isUncertain = iq-last-ring (correcting r) e false refl
+    iq-by Off e Repaired = iq-early-ring Off e 8 (lit≤ tt) (lit< tt) false refl
+    iq-by Off e Flagged = iq-early-ring Off e 9 (lit≤ tt) (lit< tt) false refl
+    iq-by Off e Corrected = iq-early-ring Off e 10 (lit≤ tt) (lit< tt) false refl
+    iq-by Off e Uncertain = iq-last-ring Off e false refl
+    iq-by Observing e Repaired = iq-early-ring Observing e 8 (lit≤ tt) (lit< tt) false refl
+    iq-by Observing e Flagged = iq-early-ring Observing e 9 (lit≤ tt) (lit< tt) false refl
+    iq-by Observing e Corrected = iq-early-ring Observing e 10 (lit≤ tt) (lit< tt) false refl
+    iq-by Observing e Uncertain = iq-last-ring Observing e false refl
+    iq-by Withheld e Repaired = iq-early-ring Withheld e 8 (lit≤ tt) (lit< tt) false refl
+    iq-by Withheld e Flagged = iq-early-ring Withheld e 9 (lit≤ tt) (lit< tt) false refl
+    iq-by Withheld e Corrected = iq-early-ring Withheld e 10 (lit≤ tt) (lit< tt) false refl
+    iq-by Withheld e Uncertain = iq-last-ring Withheld e true refl
+    iq-by (Correcting r) e Repaired = iq-early-ring (Correcting r) e 8 (lit≤ tt) (lit< tt) false refl
+    iq-by (Correcting r) e Flagged = iq-early-ring (Correcting r) e 9 (lit≤ tt) (lit< tt) false refl
+    iq-by (Correcting r) e Corrected = iq-early-ring (Correcting r) e 10 (lit≤ tt) (lit< tt) true refl
+    iq-by (Correcting r) e Uncertain = iq-last-ring (Correcting r) e false refl
 
     -- EVERY RING IS THE RULES'
     pub rings-are : (st : Stage) (m : Mark) → Ruled st m

@@ -5,16 +5,16 @@ use mathlib.Core.List.{List, []}
 use Prim.Native.Nat.{ℕ, zero, suc, _-_, _≤_, _<_, min}
 use native.Mathlib.Omega.{arith}
 use lib.ListN.{length}
-use Rattle.rules.specs.Impulse.{Setting, standard, handedOn, lookahead, value, flagged, judged}
+use Rattle.rules.specs.Impulse.{Setting, standard, blockLength, handedOn, lookahead, value, flagged, judged}
 use Rattle.rules.specs.Dc.{corner, firstLevel, levelAfter}
 use Rattle.rules.specs.Iq.{Mode, off, observe, apply}
 use Rattle.rules.specs.Log as rules
-use Rattle.rules.specs.Log.{Stage, impulse, dc, iq, Mark, isRepaired, isFlagged, isCorrected, isUncertain, ringNumber}
+use Rattle.rules.specs.Log.{Stage, impulse, dc, iq, Mark, Repaired, Flagged, Corrected, Uncertain, ringNumber}
 use Rattle.rules.specs.Monitor.{Hop}
 use Rattle.rules.specs.TestLaws.{and-so}
 use Rattle.rules.specs.Lists.{upTo}
 use Rattle.rules.specs.ListLaws.{length-upTo}
-use Rattle.rules.specs.Chain.{Config, isApply, runs, blockLength, settingOf, afterImpulse, settledBy, repairRing, longRunsOf}
+use Rattle.rules.specs.Chain.{Config, isApply, runs, settingOf, afterImpulse, settledBy, repairRing, longRunsOf}
 use Rattle.log.specs.View.{Logged, bare, ringIn, marksAt}
 use Rattle.log.specs.Check.{ringFits, ringOf, countOf, logFits, endFits, endsFit}
 use Rattle.log.specs.CheckLaws.{all-of}
@@ -26,7 +26,7 @@ use Rattle.iq.specs.View.{modeOf, settledOf}
 use Rattle.image.specs.Words.{wordsFit}
 use Rattle.config.specs.declared.ConditioningConfig.{ConditioningConfig}
 use Rattle.config.specs.Config.{configOf}
-use Rattle.state.specs.Fits.{heldBy, applies, settingsFit, countsFit, gateFits, suppressorFits, blockerFits, coefficientFits, monitorFits, frontFits, impulseFits, logsFit, stagesFit, stateFits}
+use Rattle.state.specs.Fits.{heldBy, applies, settingsFit, countsFit, gateFits, suppressorFits, blockerFits, coefficientFits, monitorFits, frontFits, logsFit, stagesFit, stateFits}
 use Rattle.making.specs.Making.{freshState, freshSettings}
 use Rattle.making.specs.MakingLaws.{settled-again}
 use Rattle.chain.specs.Stages.{impulseOut, process}
@@ -35,25 +35,25 @@ use Rattle.record.specs.Hopping.{withHops, hopLogged}
 use Rattle.record.specs.Reaching.{freshMachine, hopMarks, core, chainAt, Reached}
 use Rattle.record.specs.ByRules.{impulse-out, impulse-state, dc-state, repairs-is, long-is, rings-are}
 use Rattle.record.specs.Made.{Fit}
-use Rattle.record.specs.GoodImpulse.{gate-good, suppressor-good, fresh-gate-good}
+use Rattle.record.specs.GoodImpulse.{gate-good, suppressor-good, fresh-gate-good, fresh-suppressor-good}
 use Rattle.record.specs.GoodStages.{blocker-good, fresh-blocker-good, coefficient-good, monitor-good, words-good, counts-good, held-most, settings-good}
 use Rattle.record.specs.GoodRings.{ring-good}
 use Rattle.record.specs.GoodRepairs.{repairs-good}
 
 -- what holds of each stage's and mark's ring holds of every ring by its number
 by-ring : (P : ℕ → Type 0) → ((st : Stage) (m : Mark) → P (ringNumber st m)) → (k : ℕ) → k < 12 → P k
-by-ring P f zero h = f impulse isRepaired
-by-ring P f (suc zero) h = f impulse isFlagged
-by-ring P f (suc (suc zero)) h = f impulse isCorrected
-by-ring P f (suc (suc (suc zero))) h = f impulse isUncertain
-by-ring P f (suc (suc (suc (suc zero)))) h = f dc isRepaired
-by-ring P f (suc (suc (suc (suc (suc zero))))) h = f dc isFlagged
-by-ring P f (suc (suc (suc (suc (suc (suc zero)))))) h = f dc isCorrected
-by-ring P f (suc (suc (suc (suc (suc (suc (suc zero))))))) h = f dc isUncertain
-by-ring P f (suc (suc (suc (suc (suc (suc (suc (suc zero)))))))) h = f iq isRepaired
-by-ring P f (suc (suc (suc (suc (suc (suc (suc (suc (suc zero))))))))) h = f iq isFlagged
-by-ring P f (suc (suc (suc (suc (suc (suc (suc (suc (suc (suc zero)))))))))) h = f iq isCorrected
-by-ring P f (suc (suc (suc (suc (suc (suc (suc (suc (suc (suc (suc zero))))))))))) h = f iq isUncertain
+by-ring P f zero h = f impulse Repaired
+by-ring P f (suc zero) h = f impulse Flagged
+by-ring P f (suc (suc zero)) h = f impulse Corrected
+by-ring P f (suc (suc (suc zero))) h = f impulse Uncertain
+by-ring P f (suc (suc (suc (suc zero)))) h = f dc Repaired
+by-ring P f (suc (suc (suc (suc (suc zero))))) h = f dc Flagged
+by-ring P f (suc (suc (suc (suc (suc (suc zero)))))) h = f dc Corrected
+by-ring P f (suc (suc (suc (suc (suc (suc (suc zero))))))) h = f dc Uncertain
+by-ring P f (suc (suc (suc (suc (suc (suc (suc (suc zero)))))))) h = f iq Repaired
+by-ring P f (suc (suc (suc (suc (suc (suc (suc (suc (suc zero))))))))) h = f iq Flagged
+by-ring P f (suc (suc (suc (suc (suc (suc (suc (suc (suc (suc zero)))))))))) h = f iq Corrected
+by-ring P f (suc (suc (suc (suc (suc (suc (suc (suc (suc (suc (suc zero))))))))))) h = f iq Uncertain
 by-ring P f (suc (suc (suc (suc (suc (suc (suc (suc (suc (suc (suc (suc k)))))))))))) h = absurd (omega arith)
 
 min-less : (n a : ℕ) → n - a ≡ n - min a n
@@ -158,13 +158,12 @@ module _ (g : ConditioningConfig) (f : Fit g) (xs : List ℕ) (hs : List Hop) (r
   unfolding frontFits
   front-fit = and-so _ _ (and-so _ _ settings-fit counts-fit) gate-fit
 
-  suppressor-by : (b : Bool) → cond b (suppressorFits (cond b (stateOf setting xs) (fresh setting)) (length xs)) true ≡ true
+  suppressor-by : (b : Bool) → suppressorFits (cond b (stateOf setting xs) (fresh setting)) b (length xs) ≡ true
   suppressor-by true = suppressor-good (blockLength (g .fs)) (isApply mode) xs (r .usable) (r .few)
-  suppressor-by false = refl
+  suppressor-by false = fresh-suppressor-good setting (length xs)
 
-  impulse-fit : impulseFits (chainAt g xs hs .machine .state) ≡ true
-  unfolding impulseFits
-  impulse-fit = (λ i. cond (running i) (suppressorFits (suppressor-is i) (seen-is i)) true) ∙ suppressor-by (runs mode)
+  suppressor-fit : let c = chainAt g xs hs .machine .state in suppressorFits (c .suppressor) (c .settings .impulse) (c .seen) ≡ true
+  suppressor-fit = (λ i. suppressorFits (suppressor-is i) (running i) (seen-is i)) ∙ suppressor-by (runs mode)
 
   -- ---- the rings
 
@@ -178,7 +177,7 @@ module _ (g : ConditioningConfig) (f : Fit g) (xs : List ℕ) (hs : List Hop) (r
       all-of (λ k. ringFits (g .spans) (ringOf (hopLogged (core g xs) (hopMarks g hs) .log) k) (countOf (hopLogged (core g xs) (hopMarks g hs) .log) k)) 12
       (by-ring (λ k. ringFits (g .spans) (ringOf (hopLogged (core g xs) (hopMarks g hs) .log) k) (countOf (hopLogged (core g xs) (hopMarks g hs) .log) k) ≡ true)
       (λ st m.
-      ap (λ (q : rules.Marks). ringFits (g .spans) (bare (q .ring)) (q .count)) (rings-are g (f .blocks) xs (r .usable) (f .limits .some-spans) hs st m)
+      ap (λ (q : rules.Marks). ringFits (g .spans) (bare (q .ring)) (q .samples)) (rings-are g (f .blocks) xs (r .usable) (f .limits .some-spans) hs st m)
       ∙ ring-good (configOf g) xs hs (f .limits .some-spans) (r .few) (f .limits .size) (r .order) st m .0))
 
   ends-good : endsFit (g .spans) (hopLogged (core g xs) (hopMarks g hs)) ≡ true
@@ -231,7 +230,7 @@ module _ (g : ConditioningConfig) (f : Fit g) (xs : List ℕ) (hs : List Hop) (r
 
   pub state-good : stateFits (chainAt g xs hs .machine .state) ≡ true
   unfolding stateFits
-  state-good = and-so _ _ (and-so _ _ (and-so _ _ front-fit impulse-fit) logs-fit) stages-fit
+  state-good = and-so _ _ (and-so _ _ (and-so _ _ front-fit suppressor-fit) logs-fit) stages-fit
 
   pub spans-good : let c = chainAt g xs hs .machine .state in endsFit (c .settings .spans) (record { log = c .log; spans = chainAt g xs hs .machine .spans }) ≡ true
   unfolding freshSettings

@@ -88,5 +88,5 @@ repairs-good c xs p h =
     let k = repaired-sound (c .repairs) rs p in
     let r = impulse-recorded c xs in
     let d = repaired-drops (c .repairs) rs p in
-    let i : InRange (c .repairs) (bare (repaired (c .repairs) rs)) (longRuns (impulseEvents c xs)) = record { headIn = k .headIn; lenIn = k .lenIn; dropped = omega (arith, r .repairs); count = omega (arith, r .longruns) } in
+    let i : InRange (c .repairs) (bare (repaired (c .repairs) rs)) (longRuns (impulseEvents c xs)) = record { headIn = k .headIn; countIn = k .countIn; dropped = omega (arith, r .repairs); count = omega (arith, r .longruns) } in
     range-ring (c .repairs) (bare (repaired (c .repairs) rs)) (longRuns (impulseEvents c xs)) i

@@ -8,10 +8,10 @@ use lib.ListN.{length}
 use Rattle.rules.specs.ListLaws.{length-map}
 use Rattle.rules.specs.Impulse.{Setting, flagged, judged, start, events, happened}
 use Rattle.rules.specs.Dc.{corner, firstLevel, blockedAll}
-use Rattle.rules.specs.Iq.{Settled, isOff, observing, withheld, correcting, correctedBy}
+use Rattle.rules.specs.Iq.{Settled, Off, Observing, Withheld, Correcting, correctedBy}
 use Rattle.rules.specs.Monitor.{Hop, hopEnd, reported, Answer, noReport, report, windowLength, windowStart, due, reportOf, answerTo, nextWindow, answers, suspectedSpan, suspectedSpans}
-use Rattle.rules.specs.Log.{Span, spanOf, Marks, marked, Stage, impulse, dc, iq, Mark, isRepaired, isFlagged, isCorrected, isUncertain, marksOf}
-use Rattle.rules.specs.MarkLaws.{lengths, AllEndBy, marked-sound, marked-count, marked-dropped, marked-ends}
+use Rattle.rules.specs.Log.{Span, spanOf, Marks, marked, Stage, impulse, dc, iq, Mark, Repaired, Flagged, Corrected, Uncertain, marksOf}
+use Rattle.rules.specs.MarkLaws.{lengths, AllEndBy, marked-sound, marked-samples, marked-dropped, marked-ends}
 use Rattle.rules.specs.Chain.{Config, isApply, runs, settingOf, impulseEvents, afterImpulse, afterDc, settledBy, released, dcMarks, iqMarks, evidence, marksIn, ringOf}
 use Rattle.log.specs.View.{bare}
 use Rattle.log.specs.Check.{ringFits, endFits}
@@ -40,17 +40,17 @@ climbing-end lo b (m ∷ ms) u = let t = total-fits (m .start + m .len) ms (u .0
 
 -- what number 5 tests of a ring of spans and its count
 abbrev pub Good : ℕ → Marks → Type 0
-Good cap r = (ringFits cap (bare (r .ring)) (r .count) ≡ true) × (endFits cap (r .ring) ≡ true)
+Good cap r = (ringFits cap (bare (r .ring)) (r .samples) ≡ true) × (endFits cap (r .ring) ≡ true)
 
 pub marks-good : (cap : ℕ) (ms : List Span) → 0 < cap → Up 0 (2 ^ 49) ms → Good cap (marked cap ms)
 marks-good cap ms h u =
     let k = marked-sound cap ms h in
     let l = lengths-total ms in
     let t = total-fits 0 ms (u .0) in
-    let n = marked-count cap ms h in
+    let n = marked-samples cap ms h in
     let d = marked-dropped cap ms h in
-    let r : InRange cap (bare (marked cap ms .ring)) (marked cap ms .count) = record { headIn = k .headIn; lenIn = k .lenIn; dropped = omega (arith, u .1); count = omega (arith, u .1) } in
-    (range-ring cap (bare (marked cap ms .ring)) (marked cap ms .count) r, end-fits cap (marked cap ms .ring) (marked-ends cap ms (2 ^ 49) h (climbing-end 0 (2 ^ 49) ms u)))
+    let r : InRange cap (bare (marked cap ms .ring)) (marked cap ms .samples) = record { headIn = k .headIn; countIn = k .countIn; dropped = omega (arith, u .1); count = omega (arith, u .1) } in
+    (range-ring cap (bare (marked cap ms .ring)) (marked cap ms .samples) r, end-fits cap (marked cap ms .ring) (marked-ends cap ms (2 ^ 49) h (climbing-end 0 (2 ^ 49) ms u)))
 
 up-later : (lo a b : ℕ) (ms : List Span) → a ≤ b → Up lo a ms → Up lo b ms
 up-later lo a b ms h u = (u .0, omega (arith, u .1))
@@ -65,10 +65,10 @@ up-one n b h = ((omega arith, tt), omega arith)
 
 module _ (s : Setting) (F : ℕ → Bool) (xs : List ℕ) where
   bound-in : (r : Mark) (j : ℕ) → bound r F j ≤ j
-  bound-in isRepaired j = omega arith
-  bound-in isFlagged j = omega arith
-  bound-in isCorrected j = omega arith
-  bound-in isUncertain j = omega arith
+  bound-in Repaired j = omega arith
+  bound-in Flagged j = omega arith
+  bound-in Corrected j = omega arith
+  bound-in Uncertain j = omega arith
 
   events-up : (r : Mark) (j : ℕ) → Up 0 j (marksOf r (events s F xs j))
   events-up r j = let i = once s F xs r j in (i .climb, omega (arith, i .ended, bound-in r j))
@@ -106,10 +106,10 @@ released-length c xs =
 -- ---- the DC stage
 
 pub dc-up : (c : Config) (xs : List ℕ) (r : Mark) → Up 0 (length xs) (dcMarks c xs r)
-dc-up c xs isRepaired = up-none (length xs)
-dc-up c xs isFlagged = up-none (length xs)
-dc-up c xs isUncertain = up-none (length xs)
-dc-up c xs isCorrected = go (isApply (c .dcMode))
+dc-up c xs Repaired = up-none (length xs)
+dc-up c xs Flagged = up-none (length xs)
+dc-up c xs Uncertain = up-none (length xs)
+dc-up c xs Corrected = go (isApply (c .dcMode))
   where
     go : (t : Bool) → Up 0 (length xs) (cond t (spanOf 0 (length (released c xs)) ∷ []) [])
     go true = up-one (length (released c xs)) (length xs) (released-length c xs)
@@ -168,19 +168,19 @@ evidence-up c hs big o =
 -- ---- the IQ stage
 
 pub iq-up : (c : Config) (xs : List ℕ) (given : List Answer) (z : Settled) (r : Mark) → length xs ≤ 2 ^ 48 → Up 0 (2 ^ 48 + 512) (suspectedSpans given) → Up 0 (2 ^ 49) (iqMarks c xs given z r)
-iq-up c xs given (correcting q) isCorrected h u = up-one (length (released c xs)) (2 ^ 49) (omega (arith, released-length c xs))
-iq-up c xs given (correcting q) isRepaired h u = up-none (2 ^ 49)
-iq-up c xs given (correcting q) isFlagged h u = up-none (2 ^ 49)
-iq-up c xs given (correcting q) isUncertain h u = up-none (2 ^ 49)
-iq-up c xs given withheld isUncertain h u = up-one (length (released c xs)) (2 ^ 49) (omega (arith, released-length c xs))
-iq-up c xs given withheld isRepaired h u = up-none (2 ^ 49)
-iq-up c xs given withheld isFlagged h u = up-none (2 ^ 49)
-iq-up c xs given withheld isCorrected h u = up-none (2 ^ 49)
-iq-up c xs given observing isUncertain h u = up-later 0 (2 ^ 48 + 512) (2 ^ 49) (suspectedSpans given) (omega arith) u
-iq-up c xs given observing isRepaired h u = up-none (2 ^ 49)
-iq-up c xs given observing isFlagged h u = up-none (2 ^ 49)
-iq-up c xs given observing isCorrected h u = up-none (2 ^ 49)
-iq-up c xs given isOff r h u = up-none (2 ^ 49)
+iq-up c xs given (Correcting q) Corrected h u = up-one (length (released c xs)) (2 ^ 49) (omega (arith, released-length c xs))
+iq-up c xs given (Correcting q) Repaired h u = up-none (2 ^ 49)
+iq-up c xs given (Correcting q) Flagged h u = up-none (2 ^ 49)
+iq-up c xs given (Correcting q) Uncertain h u = up-none (2 ^ 49)
+iq-up c xs given Withheld Uncertain h u = up-one (length (released c xs)) (2 ^ 49) (omega (arith, released-length c xs))
+iq-up c xs given Withheld Repaired h u = up-none (2 ^ 49)
+iq-up c xs given Withheld Flagged h u = up-none (2 ^ 49)
+iq-up c xs given Withheld Corrected h u = up-none (2 ^ 49)
+iq-up c xs given Observing Uncertain h u = up-later 0 (2 ^ 48 + 512) (2 ^ 49) (suspectedSpans given) (omega arith) u
+iq-up c xs given Observing Repaired h u = up-none (2 ^ 49)
+iq-up c xs given Observing Flagged h u = up-none (2 ^ 49)
+iq-up c xs given Observing Corrected h u = up-none (2 ^ 49)
+iq-up c xs given Off r h u = up-none (2 ^ 49)
 
 -- ---- all twelve rings
 

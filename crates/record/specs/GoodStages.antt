@@ -16,10 +16,10 @@ use Rattle.rules.specs.Lists.{upTo, at}
 use Rattle.rules.specs.ListLaws.{length-upTo}
 use Rattle.rules.specs.Guard.{magnitude, usable}
 use Rattle.rules.specs.SortLaws.{all-getD}
-use Rattle.rules.specs.Impulse.{Setting, lookahead, flagged, judged, start, value, handedOn}
+use Rattle.rules.specs.Impulse.{Setting, lookahead, blockLength, flagged, judged, start, value, handedOn}
 use Rattle.rules.specs.Dc.{Level, firstLevel, corner, levelAfter}
-use Rattle.rules.specs.Iq.{Mode, off, observe, apply, Calibrated, none, with, correcting, withheld, ranged, coefficient, accepted, correctable, settled}
-use Rattle.rules.specs.Chain.{Config, runs, blockLength, settingOf, afterImpulse, settledBy}
+use Rattle.rules.specs.Iq.{Mode, off, observe, apply, Calibrated, none, with, Correcting, Withheld, ranged, coefficient, accepted, correctable, settled}
+use Rattle.rules.specs.Chain.{Config, runs, settingOf, afterImpulse, settledBy}
 use Rattle.rules.specs.Monitor.{Hop, windowStart, windowLength, openWindow}
 use Rattle.part_limit.specs.Limit.{limited}
 use Rattle.impulse.specs.Sound.{WordWithin}
@@ -132,7 +132,7 @@ settled-good observe k centre = refl
 settled-good apply none centre = refl
 settled-good apply (with k) centre = go (correctable k centre && accepted (coefficient k)) refl
   where
-    go : (b : Bool) → (correctable k centre && accepted (coefficient k)) ≡ b → coefficientFits (cond b (correcting (coefficient k)) withheld) ≡ true
+    go : (b : Bool) → (correctable k centre && accepted (coefficient k)) ≡ b → coefficientFits (cond b (Correcting (coefficient k)) Withheld) ≡ true
     go true e = both (correctable k centre) (accepted (coefficient k)) e .1
     go false e = refl
 

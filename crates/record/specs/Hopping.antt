@@ -6,7 +6,7 @@ use Prim.Native.Nat.{ℕ, _<_}
 use native.Mathlib.Decide.{ℕ-discrete}
 use lib.Dec.{lit<}
 use borrow.Author.Tests.{ne-eqb}
-use Rattle.rules.specs.Iq.{Mode, off, observe, apply, Settled, isOff, observing, withheld, correcting}
+use Rattle.rules.specs.Iq.{Mode, off, observe, apply, Settled, Off, Observing, Withheld, Correcting}
 use Rattle.rules.specs.Log as rules
 use Rattle.rules.specs.Log.{Span, mark}
 use Rattle.log.specs.View.{Logged, bare, marksAt}
@@ -58,10 +58,10 @@ dc-not-last observe = refl
 dc-not-last apply = refl
 
 iq-not-last : (s : Settled) → isObserving s ≡ true → iqMarks s 11 ≡ false
-iq-not-last isOff e = refl
-iq-not-last observing e = refl
-iq-not-last withheld e = absurd (false≢true e)
-iq-not-last (correcting r) e = refl
+iq-not-last Off e = refl
+iq-not-last Observing e = refl
+iq-not-last Withheld e = absurd (false≢true e)
+iq-not-last (Correcting r) e = refl
 
 -- no stage marks that ring while IQ observes
 ring-still : (cap : ℕ) (c : InputConditioner) (new : List ℕ) (q : rules.Marks) → isObserving (settledOf (c .settings .iq)) ≡ true → ringAfter cap c new 11 q ≡ q

@@ -7,6 +7,7 @@ pub mod Append
 pub mod Hopping
 pub mod Accepted
 pub mod Reaching
+pub mod Merging
 pub mod ByRules
 pub mod Made
 pub mod GoodImpulse

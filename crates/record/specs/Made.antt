@@ -7,7 +7,7 @@ use lib.Dec.{eqb}
 use borrow.Author.Tests.{eqb-true, eq-eqb}
 use Rattle.rules.specs.Constants.{one, rateLimit}
 use Rattle.rules.specs.Iq.{ranged}
-use Rattle.rules.specs.Chain.{blockLength}
+use Rattle.rules.specs.Impulse.{blockLength}
 use Rattle.rules.specs.Refusals.{firstOf, badSize, badCapacity, makingRefusal}
 use Rattle.config.specs.declared.ConditioningConfig.{ConditioningConfig}
 use Rattle.config.specs.Config.{configOf, allOff, settingRefusal, refusal}

@@ -2,21 +2,24 @@
 use mathlib.Core.Path.{_≡_, refl, ap, sym, _∙_, subst}
 use mathlib.Core.Bool.{Bool, true, false, cond, false≢true}
 use mathlib.Core.List.{List, [], _∷_, _++_, map, append-nil, append-assoc}
-use Prim.Native.Nat.{ℕ, suc, _+_, _-_, _*_, _^_, _≤_, _<_}
+use Prim.Native.Nat.{ℕ, _+_, _-_, _*_, _^_, _≤_, _<_}
 use native.Mathlib.Omega.{arith}
 use lib.Dec.{T, eqb, ltb}
 use borrow.Author.Tests.{eq-eqb, eqb-true, lt-ltb, le-ltb}
-use lib.ListN.{length, length-drop, take, drop}
+use lib.ListN.{length, length-append, length-drop, take, drop, take-append-drop}
+use lib.Seq.{drop-at}
 use lib.Ieee.{Float}
 use Rattle.complex.specs.View.{view64}
 use Rattle.rules.specs.Dc.{corner, firstLevel, levelAfter, blockedAll}
-use Rattle.rules.specs.Guard.{usable, firstUnusableFrom}
-use Rattle.rules.specs.Iq.{off, isOff, settled, correctedBy}
+use Rattle.rules.specs.Guard.{usable}
+use Rattle.rules.specs.Iq.{off, Off, settled, correctedBy}
 use Rattle.rules.specs.Log.{repairsOf}
 use Rattle.rules.specs.Monitor.{Hop, hopEnd}
 use Rattle.rules.specs.Refusals.{badStart, tooMany, unusableAt, anyUnusable}
+use Rattle.rules.specs.Answers.{accepted, refused, numberOf}
 use Rattle.rules.specs.Chain as rules
-use Rattle.rules.specs.Chain.{isApply, runs, afterImpulse, afterDc, impulseEvents, dcLevel, levelIs, noLevel, settledBy, lastWords}
+use Rattle.rules.specs.Chain.{isApply, runs, afterImpulse, afterDc, impulseEvents, dcLevel, levelIs, noLevel, settledBy, lastWords, heldOf}
+use Rattle.rules.specs.SortLaws.{all-take, all-drop}
 use Rattle.part_limit.specs.Limit.{returned}
 use Rattle.impulse.specs.Stage.{Usable}
 use Rattle.dc.specs.declared.DcBlocker.{DcBlocker}
@@ -30,12 +33,11 @@ use Rattle.config.specs.declared.ConditioningConfig.{ConditioningConfig}
 use Rattle.config.specs.Config.{configOf}
 use Rattle.state.specs.declared.InputConditioner.{InputConditioner}
 use Rattle.state.specs.Fits.{heldBy}
-use Rattle.making.specs.Making.{freshState, freshSettings, Said, made, makingSaid}
+use Rattle.making.specs.Making.{freshState, freshSettings, made, makingSaid}
 use Rattle.chain.specs.Stages.{newPart, handsOn, loggedAfter, process}
 use Rattle.chain.specs.Processing.{hands-length}
-use Rattle.chain.specs.Calls as call
-use Rattle.chain.specs.Calls.{callRefusal, refused, ready, Outcome, taken, declined, called}
-use Rattle.chain.specs.CallTests.{callNumber, refusal-by, taken-by}
+use Rattle.chain.specs.Calls.{callRefusal, taken, declined, called}
+use Rattle.chain.specs.CallTests.{callNumber, refusal-by, scan-all}
 use Rattle.hops.specs.Hops as hop
 use Rattle.image.specs.declared.HopAnswer.{HopAnswer}
 use Rattle.image.specs.declared.HopAnswer.the-variants as answer
@@ -45,12 +47,13 @@ use Rattle.hops.specs.HopLaws as hopLaws
 use Rattle.undo.specs.Undoing as undo
 use Rattle.undo.specs.Undoing.{undoOf, undoRefusal}
 use Rattle.undo.specs.UndoLaws.{chain-made, made-length, chain-accepted, chain-returns}
-use Rattle.record.specs.Lists.{own, Operation, Chain, callOn, next, run, isReady, Proper, Found, ByRules, NoFive, ownHops, OneRecord, madeChain}
+use Rattle.record.specs.Lists.{Act, Operation, ownly, Chain, on, run, Proper, madeChain, ByRules, NoFive, ownAll, hopping, calling, merged, OneRecord}
 use Rattle.record.specs.Lists as list
 use Rattle.record.specs.Hopping.{withHops, uncertain-rings}
 use Rattle.record.specs.RingLaws.{call-rings}
 use Rattle.record.specs.Accepted.{Taken}
-use Rattle.record.specs.Reaching.{freshMachine, freshChain, hopMarks, core, chainAt, Reached, Leads, own-call, own-hop, ends, fresh-rings, end-next, monitor-end}
+use Rattle.record.specs.Reaching.{freshMachine, freshChain, hopMarks, core, chainAt, Reached, Step, Leads, own-call, own-hop, ends, fresh-rings, end-next, monitor-end}
+use Rattle.record.specs.Merging.{Ends, Hops, Brings, merging}
 use Rattle.record.specs.ByRules.{released-is, rings-are}
 use Rattle.record.specs.Made.{Fit, made-fit}
 use Rattle.record.specs.Good.{seen-is, released-count, held-is, repair-ring, long-runs, blocker-is, settled-is, state-good, spans-good, words-fit}
@@ -78,14 +81,6 @@ not-off : (b : Bool) (h : Hop) (es : List Hop) → (b ≡ true → h ∷ es ≡ 
 not-off true h es w = absurd (cons-not h es (w refl))
 not-off false h es w = refl
 
-no-front : (a b : List Hop) → a ++ b ≡ [] → a ≡ []
-no-front [] b e = refl
-no-front (h ∷ a) b e = absurd (cons-not h (a ++ b) e)
-
-no-back : (a b : List Hop) → a ++ b ≡ [] → b ≡ []
-no-back [] b e = e
-no-back (h ∷ a) b e = absurd (cons-not h (a ++ b) e)
-
 none-held : (b : Bool) → heldBy b 0 ≡ 0
 none-held true = refl
 none-held false = refl
@@ -103,6 +98,10 @@ module _ (g : ConditioningConfig) (f : Fit g) (xs : List ℕ) (hs : List Hop) (r
   spans-long =
       let t = uncertain-rings (g .spans) (loggedAfter (freshMachine g) xs) (hopMarks g hs) (call-rings (freshMachine g) xs (fresh-rings g (f .limits .some-spans))) .twelve .store in
       omega (arith, t)
+
+  same-spans : chainAt g xs hs .machine .state .settings .spans ≡ g .spans
+  unfolding chainAt withHops core process freshState freshSettings
+  same-spans = refl
 
   same-repairs : chainAt g xs hs .machine .state .settings .repairs ≡ g .repairs
   unfolding chainAt withHops core process freshState freshSettings
@@ -165,7 +164,9 @@ module _ (g : ConditioningConfig) (f : Fit g) (xs : List ℕ) (hs : List Hop) (r
         seen = seen-is g f xs hs r;
         count = count-is;
         held = held-is g f xs hs r;
+        span-words = spans-long ∙ ap (λ (n : ℕ). 24 * n) same-spans;
         rings = rings-are g (f .blocks) xs (r .usable) (f .limits .some-spans) hs;
+        repair-words = repairs-long ∙ ap (λ (n : ℕ). 6 * n) same-repairs;
         repairs = repair-ring g f xs hs r;
         longruns = long-runs g f xs hs r;
         level = level-same;
@@ -176,30 +177,24 @@ module _ (g : ConditioningConfig) (f : Fit g) (xs : List ℕ) (hs : List Hop) (r
 
   -- ---- number 5 is not met
 
-  -- the number that a call returns
-  abbrev callHead : call.Said → ℕ
-  callHead (ready k) = 0
-  callHead (refused []) = 0
-  callHead (refused (n ∷ l)) = n
-
   slice-number : (h t u : Bool) → (callNumber true true true true h t u ≡ 5) → ⊥
   slice-number true t u e = omega arith
   slice-number false true u e = omega arith
   slice-number false false true e = omega arith
   slice-number false false false e = omega arith
 
-  head-returned : (n place : ℕ) → callHead (refused (returned n place)) ≡ n
+  number-returned : (n place : ℕ) → numberOf {A = ℕ} (refused (returned n place)) ≡ n
   unfolding returned
-  head-returned n place = go (eqb n 0) refl (eqb n 7)
+  number-returned n place = go (eqb n 0) refl (eqb n 7)
     where
-      go : (b : Bool) → eqb n 0 ≡ b → (d : Bool) → callHead (refused (cond b [] (cond d (n ∷ place ∷ []) (n ∷ [])))) ≡ n
+      go : (b : Bool) → eqb n 0 ≡ b → (d : Bool) → numberOf {A = ℕ} (refused (cond b [] (cond d (n ∷ place ∷ []) (n ∷ [])))) ≡ n
       go true e d = sym (eqb-true n 0 e)
       go false e true = refl
       go false e false = refl
 
-  no-five-call : (slice : List ℕ) → called (chainAt g xs hs .machine) slice .said ≡ refused (5 ∷ []) → ⊥
+  no-five-call : (slice : List ℕ) → numberOf (called (chainAt g xs hs .machine) slice .said) ≡ 5 → ⊥
   unfolding called
-  no-five-call slice e = go (eqb n 0) (ap callHead e)
+  no-five-call slice e = go (eqb n 0) e
     where
       n : ℕ
       n = callRefusal (chainAt g xs hs .machine .state) slice (chainAt g xs hs .machine .spans) (chainAt g xs hs .machine .repairs)
@@ -207,55 +202,49 @@ module _ (g : ConditioningConfig) (f : Fit g) (xs : List ℕ) (hs : List Hop) (r
       place : ℕ
       place = unusableAt (chainAt g xs hs .machine .state .held) (newPart (chainAt g xs hs .machine .state) slice)
 
-      go : (b : Bool) → callHead (cond b (taken (chainAt g xs hs .machine) slice) (declined (chainAt g xs hs .machine) slice (returned n place)) .said) ≡ 5 → ⊥
+      go : (b : Bool) → numberOf (cond b (taken (chainAt g xs hs .machine) slice) (declined (chainAt g xs hs .machine) slice (returned n place)) .said) ≡ 5 → ⊥
       go true h = omega arith
       go false h =
           let c = chainAt g xs hs .machine .state in
           slice-number (ltb (length slice) (c .held)) (tooMany (c .seen) (length slice - c .held) .holds) (anyUnusable (c .held) (newPart c slice) .holds)
-          (sym (call-number slice) ∙ sym (head-returned n place) ∙ h)
+          (sym (call-number slice) ∙ sym (number-returned n place) ∙ h)
 
-  abbrev hopHead : image.Said → ℕ
-  hopHead image.nothing = 0
-  hopHead (image.answered a) = 0
-  hopHead (image.refused []) = 0
-  hopHead (image.refused (n ∷ l)) = n
-
-  monitor-number : (a : HopAnswer) → hopHead (saidHop (hop.answerOf a)) ≡ 5 → ⊥
+  monitor-number : (a : HopAnswer) → numberOf (saidHop (hop.answerOf a)) ≡ 5 → ⊥
   monitor-number answer.Nothing e = omega arith
   monitor-number answer.NoReport e = omega arith
   monitor-number (answer.Report v) e = omega arith
   monitor-number answer.Early e = omega arith
   monitor-number (answer.Beyond k) e = omega arith
 
-  no-five-hop : (h : Hop) → saidHop (hopOf (chainAt g xs hs .machine .state) (h .channels) (h .start) (chainAt g xs hs .machine .spans) (chainAt g xs hs .words) .called .answer) ≡ image.refused (5 ∷ []) → ⊥
+  no-five-hop : (h : Hop) → numberOf (saidHop (hopOf (chainAt g xs hs .machine .state) (h .channels) (h .start) (chainAt g xs hs .machine .spans) (chainAt g xs hs .words) .called .answer)) ≡ 5 → ⊥
   unfolding hop.taken
   no-five-hop h e =
       let c = chain .machine .state in
       monitor-number (hop.watched c (h .channels) (h .start) (chain .words) .seen .answer)
-      (ap (λ (o : Hopped). hopHead (saidHop (o .called .answer))) (sym (hopLaws.hop-taken c (h .channels) (h .start) (chain .machine .spans) (chain .words) hop-number)) ∙ ap hopHead e)
+      (ap (λ (o : Hopped). numberOf (saidHop (o .called .answer))) (sym (hopLaws.hop-taken c (h .channels) (h .start) (chain .machine .spans) (chain .words) hop-number)) ∙ e)
 
-  abbrev undoHead : undo.Said → ℕ
-  undoHead undo.restored = 0
-  undoHead (undo.refused []) = 0
-  undoHead (undo.refused (n ∷ l)) = n
+  -- a row for each act
+  no-five-act : (a : Act) → on (chainAt g xs hs) (ownly a) .said ≡ refused (5 ∷ []) → ⊥
+  no-five-act (list.call slice) e = no-five-call slice (ap numberOf e)
+  no-five-act (list.hop h) e = no-five-hop h (ap numberOf e)
 
   -- what undo says, by its number
-  undo-said : (c : InputConditioner) (repairs samples : List ℕ) (first : ℕ) → undoRefusal c repairs ≡ 0 → undoHead (undoOf c repairs samples first .said) ≡ 0
+  undo-said : (c : InputConditioner) (repairs samples : List ℕ) (first : ℕ) → undoRefusal c repairs ≡ 0 → numberOf (undoOf c repairs samples first .said) ≡ 0
   unfolding undoOf
   undo-said c repairs samples first e = go (eqb (undoRefusal c repairs) 0) (eq-eqb _ _ e)
     where
-      go : (b : Bool) → b ≡ true → undoHead (cond {A = undo.Outcome} b (record { said = undo.restored; samples = undoneAll first (undo.recordsOf c repairs) samples }) (record { said = undo.refused (undoRefusal c repairs ∷ []); samples = samples }) .said) ≡ 0
+      go : (b : Bool) → b ≡ true → numberOf (cond {A = undo.Outcome} b (record { said = accepted tt; samples = undoneAll first (undo.recordsOf c repairs) samples }) (record { said = refused (undoRefusal c repairs ∷ []); samples = samples }) .said) ≡ 0
       go true t = refl
       go false t = absurd (false≢true t)
 
-  no-five-undo : (samples : List ℕ) (first : ℕ) → undoOf (chainAt g xs hs .machine .state) (chainAt g xs hs .machine .repairs) samples first .said ≡ undo.refused (5 ∷ []) → ⊥
+  no-five-undo : (samples : List ℕ) (first : ℕ) → undoOf (chainAt g xs hs .machine .state) (chainAt g xs hs .machine .repairs) samples first .said ≡ refused (5 ∷ []) → ⊥
   no-five-undo samples first e =
       let a = undo-said (chain .machine .state) (chain .machine .repairs) samples first undo-number in
-      let b = ap undoHead e in
+      let b = ap numberOf e in
       omega (arith, a, b)
 
   pub at-no-five : NoFive (chainAt g xs hs)
-  at-no-five = record { call = no-five-call; hop = no-five-hop; undo = no-five-undo }
+  at-no-five = record { act = no-five-act; undo = no-five-undo }
 
   -- ---- seen = released + held
 
@@ -280,54 +269,17 @@ module _ (g : ConditioningConfig) (f : Fit g) (xs : List ℕ) (hs : List Hop) (r
   unfolding rules.released afterDc settled
   alone d q =
       (λ i. map (correctedBy (settled (q i) (calibratedOf (g .calibration)) (g .centre))) (cond (isApply (d i)) (blockedAll (corner (g .fs)) firstLevel (afterImpulse (configOf g) xs)) (afterImpulse (configOf g) xs)))
-      ∙ sym (unchanged isOff (λ w. refl) (afterImpulse (configOf g) xs))
+      ∙ sym (unchanged Off (λ w. refl) (afterImpulse (configOf g) xs))
 
   at-undone : modeOf (g .dc) ≡ off → modeOf (g .iq) ≡ off → length (repairsOf (impulseEvents (configOf g) xs)) ≤ g .repairs
-      → undoOf (chainAt g xs hs .machine .state) (chainAt g xs hs .machine .repairs) (chainAt g xs hs .released) 0 ≡ record { said = undo.restored; samples = take (length (chainAt g xs hs .released)) xs }
+      → undoOf (chainAt g xs hs .machine .state) (chainAt g xs hs .machine .repairs) (chainAt g xs hs .released) 0 ≡ record { said = accepted tt; samples = take (length (chainAt g xs hs .released)) xs }
   at-undone d q h =
       let e = at-rules .released ∙ ap (rules.released (configOf g)) (brought-is g xs hs) ∙ alone d q in
       ap (λ (l : List ℕ). undoOf (chain .machine .state) (chain .machine .repairs) l 0) e
       ∙ chain-returns (configOf g) (chain .machine .state) (chain .machine .repairs) xs (r .few) (state-good g f xs hs r) same-repairs (repair-ring g f xs hs r) h
-      ∙ ap (λ (l : List ℕ). record { said = undo.restored; samples = take (length l) xs }) (sym e)
+      ∙ ap (λ (l : List ℕ). record { said = accepted tt; samples = take (length l) xs }) (sym e)
 
 -- ---- lists of own operations
-
--- an accepted operation with the chain's own is properly handed
-found-call : (y : Chain) (slice : List ℕ) → Found y (list.call own own own slice)
-unfolding Found
-found-call y slice e = (tt, (tt, tt))
-
-found-hop : (y : Chain) (h : Hop) → Found y (list.hop own own own h)
-unfolding Found
-found-hop y h e = (tt, (tt, tt))
-
-run-append : (y : Chain) (os ps : List Operation) → run y (os ++ ps) ≡ run (run y os) ps
-run-append y [] ps = refl
-run-append y (o ∷ os) ps = run-append (next y o) os ps
-
-proper-append : (y : Chain) (os ps : List Operation) → Proper y os → Proper (run y os) ps → Proper y (os ++ ps)
-proper-append y [] ps p q = q
-proper-append y (o ∷ os) ps p q = (p .0, proper-append (next y o) os ps (p .1) q)
-
-proper-hops : (y : Chain) (hs : List Hop) → Proper y (ownHops hs)
-proper-hops y [] = tt
-proper-hops y (h ∷ hs) = (found-hop y h, proper-hops (next y (list.hop own own own h)) hs)
-
--- where the scan goes to the end, nothing is unusable
-scan-all : (k : ℕ) (ws : List ℕ) → Usable ws → firstUnusableFrom k ws ≡ k + length ws
-unfolding firstUnusableFrom
-scan-all k [] u = omega arith
-scan-all k (w ∷ ws) u = go (usable w) (u .0) (scan-all (suc k) ws (u .1))
-  where
-    go : (b : Bool) → T b → firstUnusableFrom (suc k) ws ≡ suc k + length ws → cond b (firstUnusableFrom (suc k) ws) k ≡ k + length (w ∷ ws)
-    go true t e = omega (arith, e)
-    go false t e = absurd t
-
--- hops in order, cut anywhere
-order-cut : (n end : ℕ) (hs es : List Hop) → InOrder n end (hs ++ es) → InOrder n end hs × InOrder n (lastEnd n end hs) es
-unfolding lastEnd
-order-cut n end [] es o = (tt, o)
-order-cut n end (h ∷ hs) es o = let m = order-cut n (hopEnd n h) hs es (o .1) in ((o .0, m .0), m .1)
 
 module _ (g : ConditioningConfig) (f : Fit g) where
   abbrev some : 0 < g .spans
@@ -344,16 +296,6 @@ module _ (g : ConditioningConfig) (f : Fit g) where
         starts = ap (λ (k : ℕ). badStart k (h .start) .holds) (monitor-end g some xs hs) ∙ a .start;
         parts = a .parts;
       }
-
-  -- hops one after another, from the chain after xs and hs
-  hops-run : (xs : List ℕ) (hs es : List Hop) → Reached g xs hs → InOrder (g .n) (lastEnd (g .n) 0 hs) es → (isOffIq (settledBy (configOf g)) ≡ true → es ≡ [])
-      → (run (chainAt g xs hs) (ownHops es) ≡ chainAt g xs (hs ++ es)) × Reached g xs (hs ++ es)
-  hops-run xs hs [] r o w = (ap (chainAt g xs) (sym (append-nil hs)), subst (Reached g xs) (sym (append-nil hs)) r)
-  hops-run xs hs (h ∷ es) r o w =
-      let n = own-hop g some xs hs h r (hop-taken xs hs h r (not-off (isOffIq (settledBy (configOf g))) h es w) (o .0)) in
-      let m = hops-run xs (hs ++ (h ∷ [])) es (n .1) (subst (λ (e : ℕ). InOrder (g .n) e es) (sym (end-next g some hs h)) (o .1)) (λ e. absurd (cons-not h es (w e))) in
-      let a : (hs ++ (h ∷ [])) ++ es ≡ hs ++ (h ∷ es) = append-assoc hs (h ∷ []) es in
-      (ap (λ (y : Chain). run y (ownHops es)) (n .0) ∙ m .0 ∙ ap (chainAt g xs) a, subst (Reached g xs) a (m .1))
 
   -- ---- a call of usable samples, behind as many places as are held
 
@@ -385,42 +327,54 @@ module _ (g : ConditioningConfig) (f : Fit g) where
         → callRefusal (chainAt g xs hs .machine .state) slice (chainAt g xs hs .machine .spans) (chainAt g xs hs .machine .repairs) ≡ 8
     call-beyond l u m = call-total l u true (lt-ltb (2 ^ 48) (state .seen + (length slice - state .held)) (omega (arith, seen-is g f xs hs r, length-drop (state .held) slice, m)))
 
-  -- all the samples in one call
-  call-all : (xs : List ℕ) (hs : List Hop) → Reached g [] hs → Usable xs → length xs ≤ 2 ^ 48
-      → (isReady (callOn (chainAt g [] hs) own own own xs .said) ≡ true) × (next (chainAt g [] hs) (list.call own own own xs) ≡ chainAt g xs hs)
-  call-all xs hs r u l =
-      let c = chainAt g [] hs .machine .state in
-      let h = held-is g f [] hs r ∙ none-held (isApply (modeOf (g .impulse))) in
-      let d : newPart c xs ≡ xs = ap (λ (n : ℕ). drop n xs) h in
-      let none = call-accepted [] hs r xs (omega (arith, h)) (subst Usable (sym d) u) (omega (arith, ap length d, l)) in
-      (ap (λ (o : Outcome). isReady (o .said)) (taken-by c xs (chainAt g [] hs .machine .spans) (chainAt g [] hs .machine .repairs) none), own-call g some [] hs xs r none .0 ∙ ap (λ (ys : List ℕ). chainAt g ys hs) d)
+  -- words in the held places, and then new samples
+  call-step : (xs : List ℕ) (hs : List Hop) → Reached g xs hs → (front new : List ℕ) → length front ≡ heldOf (configOf g) xs → Usable new → length xs + length new ≤ 2 ^ 48
+      → Step g xs hs (list.call (front ++ new)) (xs ++ new) hs
+  call-step xs hs r front new l u few =
+      let c = chainAt g xs hs .machine .state in
+      let h = at-rules g f xs hs r .held ∙ ap (heldOf (configOf g)) (brought-is g xs hs) ∙ sym l in
+      let d : newPart c (front ++ new) ≡ new = drop-at front new (c .held) (sym h) in
+      let s = own-call g some xs hs (front ++ new) r
+      (call-accepted xs hs r (front ++ new) (omega (arith, h, length-append front new)) (subst Usable (sym d) u) (omega (arith, ap length d, few))) in
+      subst (λ (zs : List ℕ). Step g xs hs (list.call (front ++ new)) (xs ++ zs) hs) d s
 
-  once-run : (xs : List ℕ) (before behind : List Hop) → Reached g xs (before ++ behind)
-      → let all = ownHops before ++ (list.call own own own xs ∷ ownHops behind) in
-      (isReady (callOn (run (freshChain g) (ownHops before)) own own own xs .said) ≡ true) × (Proper (freshChain g) all × (run (freshChain g) all ≡ chainAt g xs (before ++ behind)))
-  unfolding lastEnd
-  once-run xs before behind r =
-      let o = order-cut (g .n) 0 before behind (r .order) in
-      let none : Reached g [] [] = record { usable = tt; few = omega arith; order = tt; watching = λ e. refl } in
-      let a = hops-run [] [] before none (o .0) (λ e. no-front before behind (r .watching e)) in
-      let b = call-all xs before (a .1) (r .usable) (r .few) in
-      let t : Reached g xs before = record { usable = r .usable; few = r .few; order = o .0; watching = λ e. no-front before behind (r .watching e) } in
-      let d = hops-run xs before behind t (o .1) (λ e. no-back before behind (r .watching e)) in
-      let rest : List Operation = list.call own own own xs ∷ ownHops behind in
-      let led = ap (λ (y : Chain). run y (ownHops before)) (fresh-is g some) ∙ a .0 in (
-        ap (λ (y : Chain). isReady (callOn y own own own xs .said)) led ∙ b .0,
-        (
-          proper-append (freshChain g) (ownHops before) rest (proper-hops (freshChain g) before) (found-call (run (freshChain g) (ownHops before)) xs, proper-hops _ behind),
-          run-append (freshChain g) (ownHops before) rest
-              ∙ ap (λ (y : Chain). run y rest) led
-              ∙ ap (λ (y : Chain). run y (ownHops behind)) (b .1)
-              ∙ d .0,
-        ),
+  -- ---- all the samples and hops, merged
+
+  -- hops that are accepted by the rules
+  hopping-leads : (hs es : List Hop) → InOrder (g .n) (lastEnd (g .n) 0 hs) es → (isOffIq (settledBy (configOf g)) ≡ true → es ≡ []) → Hops g hs (hopping es) (hs ++ es)
+  hopping-leads hs [] o w = sym (append-nil hs)
+  hopping-leads hs (h ∷ es) o w = (
+    hs ++ (h ∷ []),
+    λ xs r. own-hop g some xs hs h r (hop-taken xs hs h r (not-off (isOffIq (settledBy (configOf g))) h es w) (o .0)),
+    subst (Hops g (hs ++ (h ∷ [])) (hopping es)) (append-assoc hs (h ∷ []) es)
+        (hopping-leads (hs ++ (h ∷ [])) es (subst (λ (e : ℕ). InOrder (g .n) e es) (sym (end-next g some hs h)) (o .1)) (λ e. absurd (cons-not h es (w e)))),
+  )
+
+  -- samples in calls
+  calling-leads : (front : ℕ → List ℕ) → ((k : ℕ) → length (front k) ≡ k) → (sizes xs ys : List ℕ) → Usable ys → length xs + length ys ≤ 2 ^ 48 → Brings g xs (calling front g xs ys sizes) (xs ++ ys)
+  calling-leads front long [] xs ys u few = (xs ++ ys, λ hs r. call-step xs hs r (front (heldOf (configOf g) xs)) ys (long _) u few, refl)
+  calling-leads front long (n ∷ sizes) xs ys u few =
+      let parts : take n ys ++ drop n ys ≡ ys = take-append-drop n ys in
+      let sum = ap length (sym parts) ∙ length-append (take n ys) (drop n ys) in
+      let sum' = length-append xs (take n ys) in (
+        xs ++ take n ys,
+        λ hs r. call-step xs hs r (front (heldOf (configOf g) xs)) (take n ys) (long _) (all-take (λ w. T (usable w)) n ys u) (omega (arith, few, sum)),
+        subst (Brings g (xs ++ take n ys) (calling front g (xs ++ take n ys) (drop n ys) sizes)) (append-assoc xs (take n ys) (drop n ys) ∙ ap (λ (l : List ℕ). xs ++ l) parts)
+            (calling-leads front long sizes (xs ++ take n ys) (drop n ys) (all-drop (λ w. T (usable w)) n ys u) (omega (arith, few, sum, sum'))),
       )
+
+  none : Reached g [] []
+  none = record { usable = tt; few = omega arith; order = tt; watching = λ e. refl }
+
+  once-run : (xs : List ℕ) (hs : List Hop) → Reached g xs hs → (front : ℕ → List ℕ) → ((k : ℕ) → length (front k) ≡ k) → (sizes : List ℕ) (turns : List Bool)
+      → Ends (freshChain g) (ownAll (merged turns (hopping hs) (calling front g [] xs sizes))) (chainAt g xs hs)
+  unfolding lastEnd
+  once-run xs hs r front long sizes turns =
+      subst (λ (y : Chain). Ends y (ownAll (merged turns (hopping hs) (calling front g [] xs sizes))) (chainAt g xs hs)) (sym (fresh-is g some))
+      (merging g turns (hopping hs) (calling front g [] xs sizes) [] xs [] hs (hopping-leads [] hs (r .order) (r .watching)) (calling-leads front long sizes [] xs (r .usable) (omega (arith, r .few))) none)
 
   from-fresh : (os : List Operation) → Proper (freshChain g) os → Leads g some (run (freshChain g) os)
   from-fresh os p =
-      let none : Reached g [] [] = record { usable = tt; few = omega arith; order = tt; watching = λ e. refl } in
       let n = ends g some [] [] os none (subst (λ (y : Chain). Proper y os) (fresh-is g some) p) in
       record { samples = n .samples; hops = n .hops; is = ap (λ (y : Chain). run y os) (fresh-is g some) ∙ n .is; reached = n .reached }
 
@@ -441,20 +395,19 @@ module _ (g : ConditioningConfig) (f : Fit g) where
       record {
         alike = n .is ∙ (λ i. chainAt g ((sym x-is ∙ same-samples ∙ x'-is) i) ((sym h-is ∙ same-hops ∙ h'-is) i)) ∙ sym (m .is);
         ruled = subst (ByRules g) (sym (n .is)) (at-rules g f xs hs t);
-        once = λ before behind k.
-            let w = k ∙ h-is in
-            let o = once-run xs before behind (subst (Reached g xs) (sym w) t) in
-            let back : chainAt g xs (before ++ behind) ≡ y = ap (chainAt g xs) w ∙ sym (n .is) in
-            subst
-            (λ (zs : List ℕ). let all = ownHops before ++ (list.call own own own zs ∷ ownHops behind) in
-            (isReady (callOn (run (freshChain g) (ownHops before)) own own own zs .said) ≡ true) × (Proper (freshChain g) all × (run (freshChain g) all ≡ y)))
-            (sym x-is) (o .0, (o .1 .0, o .1 .1 ∙ back));
+        takes = λ front zs long u few.
+            subst (λ (c : Chain). list.Accepted c (ownly (list.call (front ++ zs)))) (sym (n .is))
+            (call-step xs hs t front zs (long ∙ ap (heldOf (configOf g)) x-is) u (omega (arith, few, ap length x-is)) .taken);
+        once = λ front long sizes turns.
+            subst (λ (zs : List ℕ). Ends (freshChain g) (ownAll (merged turns (hopping (y .hops)) (calling front g [] zs sizes))) y) (sym x-is)
+            (subst (λ (ks : List Hop). Ends (freshChain g) (ownAll (merged turns (hopping ks) (calling front g [] xs sizes))) y) (sym h-is)
+            (subst (Ends (freshChain g) (ownAll (merged turns (hopping hs) (calling front g [] xs sizes)))) (sym (n .is)) (once-run xs hs t front long sizes turns)));
         no-five = subst NoFive (sym (n .is)) (at-no-five g f xs hs t);
         sum = subst (λ (c : Chain). c .machine .state .seen ≡ c .machine .state .released + c .machine .state .held) (sym (n .is)) (at-sum g f xs hs t);
         few = subst (λ (c : Chain). c .machine .state .held ≤ 21) (sym (n .is)) (at-few g f xs hs t);
         undone = λ i d s h.
-            subst (λ (c : Chain). undoOf (c .machine .state) (c .machine .repairs) (c .released) 0 ≡ record { said = undo.restored; samples = take (length (c .released)) (c .brought) }) (sym (n .is))
-            (at-undone g f xs hs t d s (subst (λ (zs : List ℕ). length (repairsOf (impulseEvents (configOf g) zs)) ≤ g .repairs) x-is h) ∙ ap (λ (zs : List ℕ). record { said = undo.restored; samples = take (length (chainAt g xs hs .released)) zs }) (sym (brought-is g xs hs)));
+            subst (λ (c : Chain). undoOf (c .machine .state) (c .machine .repairs) (c .released) 0 ≡ record { said = accepted tt; samples = take (length (c .released)) (c .brought) }) (sym (n .is))
+            (at-undone g f xs hs t d s (subst (λ (zs : List ℕ). length (repairsOf (impulseEvents (configOf g) zs)) ≤ g .repairs) x-is h) ∙ ap (λ (zs : List ℕ). record { said = accepted tt; samples = take (length (chainAt g xs hs .released)) zs }) (sym (brought-is g xs hs)));
       }
 
 -- ---- THE THEOREM

@@ -12,6 +12,7 @@ use Rattle.rules.specs.Constants.{zeroF}
 use Rattle.rules.specs.Guard.{usable}
 use Rattle.rules.specs.Log.{Span}
 use Rattle.rules.specs.Monitor.{Hop, Answer, noReport, report, windowLength, answers, openWindow, monitorWords, nextWindow, answerTo, hopEnd, suspectedSpan, suspectedSpans}
+use Rattle.rules.specs.Answers.{Said, accepted, nothing, refused, isAccepted}
 use Rattle.rules.specs.Chain.{settledBy, evidence}
 use Rattle.log.specs.View.{freshLog}
 use Rattle.log.specs.CheckLaws.{Bounded, fresh-bounded}
@@ -30,17 +31,19 @@ use Rattle.state.specs.declared.InputConditioner.{InputConditioner}
 use Rattle.making.specs.Making.{freshState, freshSettings}
 use Rattle.making.specs.MakingLaws.{settled-again}
 use Rattle.chain.specs.Stages.{Machine, machineOf, notesIn, newPart, process, handsOn}
-use Rattle.chain.specs.Calls.{callRefusal, Said, refused, ready, Outcome, taken, called}
+use Rattle.chain.specs.Calls as calls
+use Rattle.chain.specs.Calls.{callRefusal}
 use Rattle.hops.specs.Hops as hops
 use Rattle.hops.specs.Hops.{isObserving, isOffIq, uncertain, saidHop, Hopped}
-use Rattle.record.specs.Lists.{Given, own, other, handed, kept, Operation, call, hop, Chain, afterCall, callOn, afterHop, hopOn, next, run, IsOwn, isReady, Found, Proper}
+use Rattle.record.specs.Lists as list
+use Rattle.record.specs.Lists.{Given, own, other, handed, kept, Lent, allOwn, Act, call, hop, Operation, ownly, Value, Outcome, afterCalled, afterHopped, applied, Chain, leave, on, settle, next, run, Proper}
 use Rattle.record.specs.RingLaws.{call-rings}
 use Rattle.record.specs.Append.{process-append, hands-append}
 use Rattle.record.specs.Hopping.{withHops, process-hops, hands-hops}
 use Rattle.record.specs.Accepted.{ready-none, refused-keeps, passes, usable-append, scan-usable, Taken, answered-taken}
 use Rattle.chain.specs.CallTests.{taken-by}
 use Rattle.hops.specs.HopLaws.{watched-by, hop-taken}
-use Rattle.hops.specs.HopKeeps.{isAnswered, Keeps, hop-keeps}
+use Rattle.hops.specs.HopKeeps.{hop-keeps}
 
 -- ---- a fresh chain
 
@@ -79,13 +82,19 @@ pub record Reached (g : ConditioningConfig) (xs : List ℕ) (hs : List Hop) : Ty
   pub order : InOrder (g .n) 0 hs
   pub watching : isOffIq (settledBy (configOf g)) ≡ true → hs ≡ []
 
+-- an act that is accepted by one such chain and leads to another
+pub record Step (g : ConditioningConfig) (xs : List ℕ) (hs : List Hop) (a : Act) (xs' : List ℕ) (hs' : List Hop) : Type 0 where
+  pub taken : list.Accepted (chainAt g xs hs) (ownly a)
+  pub is : next (chainAt g xs hs) (ownly a) ≡ chainAt g xs' hs'
+  pub reached : Reached g xs' hs'
+
 -- ---- answers
 
 suspected-is : (a : Answer) → hops.suspectedBy (answerOf a) ≡ suspectedSpan a
 suspected-is noReport = refl
 suspected-is (report r) = refl
 
-said-is : (a : Answer) → saidHop (hops.answerOf (answerOf a)) ≡ image.answered a
+said-is : (a : Answer) → saidHop (hops.answerOf (answerOf a)) ≡ accepted a
 said-is noReport = refl
 said-is (report r) = refl
 
@@ -109,64 +118,51 @@ kept-same : {A : Type 0} (g : Given A) (a left : A) → left ≡ handed g a → 
 kept-same own a left e = e
 kept-same (other b) a left e = refl
 
-call-kept : (y : Chain) (gs : Given InputConditioner) (gp gr : Given (List ℕ)) (slice : List ℕ) → isReady (callOn y gs gp gr slice .said) ≡ false → next y (call gs gp gr slice) ≡ y
-unfolding next
-call-kept y gs gp gr slice e = go (callOn y gs gp gr slice .said) refl
-  where
-    k : callOn y gs gp gr slice .machine ≡ machineOf (handed gs (y .machine .state)) (handed gp (y .machine .spans)) (handed gr (y .machine .repairs))
-    k = refused-keeps (machineOf (handed gs (y .machine .state)) (handed gp (y .machine .spans)) (handed gr (y .machine .repairs))) slice e
+record Left (a : Act) (m : Machine) (ws : List Float) : Type 0 where
+  machine : applied a m ws .machine ≡ m
+  words : applied a m ws .words ≡ ws
 
-    go : (s : Said) → callOn y gs gp gr slice .said ≡ s → afterCall y (handed gs (y .machine .state)) gs gp gr slice (callOn y gs gp gr slice) s ≡ y
-    go (ready n) q = absurd (false≢true (sym e ∙ ap isReady q))
-    go (refused l) q =
+-- a row for each act
+left : (a : Act) (m : Machine) (ws : List Float) → isAccepted (applied a m ws .said) ≡ false → Left a m ws
+left (call slice) m ws e = record { machine = refused-keeps m slice e; words = refl }
+left (hop h) m ws e =
+    let k = hop-keeps (m .state) (h .channels) (h .start) (m .spans) ws e in
+    record { machine = λ i. machineOf (k .state i) (k .spans i) (m .repairs); words = k .words }
+
+not-accepted : (y : Chain) (o : Operation) → isAccepted (on y o .said) ≡ false → next y o ≡ y
+unfolding next
+not-accepted y o e = go (on y o .said) refl
+  where
+    l : Lent
+    l = o .lent
+
+    m : Machine
+    m = y .machine
+
+    k : Left (o .act) (machineOf (handed (l .state) (m .state)) (handed (l .spans) (m .spans)) (handed (l .repairs) (m .repairs))) (handed (l .words) (y .words))
+    k = left (o .act) _ _ e
+
+    same : leave l y (on y o) ≡ y
+    same =
         λ i.
         record {
           machine =
               record {
-                state = kept-same gs (y .machine .state) (callOn y gs gp gr slice .machine .state) (ap (λ (m : Machine). m .state) k) i;
-                spans = kept-same gp (y .machine .spans) (callOn y gs gp gr slice .machine .spans) (ap (λ (m : Machine). m .spans) k) i;
-                repairs = kept-same gr (y .machine .repairs) (callOn y gs gp gr slice .machine .repairs) (ap (λ (m : Machine). m .repairs) k) i;
+                state = kept-same (l .state) (m .state) (on y o .machine .state) (ap (λ (n : Machine). n .state) (k .machine)) i;
+                spans = kept-same (l .spans) (m .spans) (on y o .machine .spans) (ap (λ (n : Machine). n .spans) (k .machine)) i;
+                repairs = kept-same (l .repairs) (m .repairs) (on y o .machine .repairs) (ap (λ (n : Machine). n .repairs) (k .machine)) i;
               };
-          words = y .words;
+          words = kept-same (l .words) (y .words) (on y o .words) (k .words) i;
           brought = y .brought;
           released = y .released;
           hops = y .hops;
           answers = y .answers;
         }
 
-hop-kept : (y : Chain) (gs : Given InputConditioner) (gp : Given (List ℕ)) (gw : Given (List Float)) (h : Hop) → isAnswered (saidHop (hopOn y gs gp gw h .called .answer)) ≡ false → next y (hop gs gp gw h) ≡ y
-unfolding next
-hop-kept y gs gp gw h e = go (saidHop (hopOn y gs gp gw h .called .answer)) refl
-  where
-    same : (t : InputConditioner) (p : List ℕ) (w : List Float) → t ≡ handed gs (y .machine .state) → p ≡ handed gp (y .machine .spans) → w ≡ handed gw (y .words)
-        → _≡_ {A = Chain}
-        (record {
-          machine = machineOf (kept gs (y .machine .state) t) (kept gp (y .machine .spans) p) (y .machine .repairs);
-          words = kept gw (y .words) w;
-          brought = y .brought;
-          released = y .released;
-          hops = y .hops;
-          answers = y .answers;
-        })
-        y
-    same t p w a b d =
-        λ i.
-        record {
-          machine = machineOf (kept-same gs (y .machine .state) t a i) (kept-same gp (y .machine .spans) p b i) (y .machine .repairs);
-          words = kept-same gw (y .words) w d i;
-          brought = y .brought;
-          released = y .released;
-          hops = y .hops;
-          answers = y .answers;
-        }
-
-    all : Keeps (handed gs (y .machine .state)) (handed gp (y .machine .spans)) (handed gw (y .words)) (hopOn y gs gp gw h)
-    all = hop-keeps (handed gs (y .machine .state)) (h .channels) (h .start) (handed gp (y .machine .spans)) (handed gw (y .words)) e
-
-    go : (s : image.Said) → saidHop (hopOn y gs gp gw h .called .answer) ≡ s → afterHop y gs gp gw h (hopOn y gs gp gw h) s ≡ y
-    go (image.answered a) q = absurd (false≢true (sym e ∙ ap isAnswered q))
-    go image.nothing q = same _ _ _ (all .state) (all .spans) (all .words)
-    go (image.refused l) q = same _ _ _ (all .state) (all .spans) (all .words)
+    go : (s : Said (Value (o .act))) → on y o .said ≡ s → settle (o .act) l y (on y o) s ≡ y
+    go (accepted v) q = absurd (false≢true (sym e ∙ ap isAccepted q))
+    go nothing q = same
+    go (refused r) q = same
 
 module _ (g : ConditioningConfig) (some : 0 < g .spans) where
   -- ---- what never changes
@@ -243,8 +239,7 @@ module _ (g : ConditioningConfig) (some : 0 < g .spans) where
 
   pub own-call : (xs : List ℕ) (hs : List Hop) (slice : List ℕ) → Reached g xs hs
       → let y = chainAt g xs hs in callRefusal (y .machine .state) slice (y .machine .spans) (y .machine .repairs) ≡ 0
-      → (next (chainAt g xs hs) (call own own own slice) ≡ chainAt g (xs ++ newPart (chainAt g xs hs .machine .state) slice) hs)
-      × Reached g (xs ++ newPart (chainAt g xs hs .machine .state) slice) hs
+      → Step g xs hs (call slice) (xs ++ newPart (chainAt g xs hs .machine .state) slice) hs
   unfolding next
   own-call xs hs slice r e =
       let y = chainAt g xs hs in
@@ -254,8 +249,11 @@ module _ (g : ConditioningConfig) (some : 0 < g .spans) where
       let ys = handsOn c new in
       let p = passes c slice (m .spans) (m .repairs) e in
       let few = ltb-false (2 ^ 48) (c .seen + (length slice - c .held)) (p .few) in
-      let at = chain-is xs hs in (
-        ap (λ (o : Outcome). afterCall y c own own own slice o (o .said)) (taken-by c slice (m .spans) (m .repairs) e)
+      let at = chain-is xs hs in
+      record {
+        taken = ap (λ (o : calls.Outcome). isAccepted (o .said)) (taken-by c slice (m .spans) (m .repairs) e);
+        is =
+            ap (λ (o : calls.Outcome). settle (call slice) allOwn y (afterCalled o (y .words)) (o .said)) (taken-by c slice (m .spans) (m .repairs) e)
             ∙ (λ i.
             record {
               machine = machine-more xs new hs i;
@@ -265,14 +263,15 @@ module _ (g : ConditioningConfig) (some : 0 < g .spans) where
               hops = at .hops i;
               answers = at .answers i;
             })
-            ∙ chain-again xs new hs,
-        record {
-          usable = usable-append xs new (r .usable) (scan-usable (c .held) new (p .fine));
-          few = omega (arith, length-append xs new, length-drop (c .held) slice, few, seen-at xs hs, r .few);
-          order = r .order;
-          watching = r .watching;
-        },
-      )
+            ∙ chain-again xs new hs;
+        reached =
+            record {
+              usable = usable-append xs new (r .usable) (scan-usable (c .held) new (p .fine));
+              few = omega (arith, length-append xs new, length-drop (c .held) slice, few, seen-at xs hs, r .few);
+              order = r .order;
+              watching = r .watching;
+            };
+      }
 
   -- ---- a hop
 
@@ -400,7 +399,7 @@ module _ (g : ConditioningConfig) (some : 0 < g .spans) where
 
   pub own-hop : (xs : List ℕ) (hs : List Hop) (h : Hop) → Reached g xs hs
       → let y = chainAt g xs hs in Taken (y .machine .state) (h .channels) (h .start) (y .machine .spans) (y .words)
-      → (next (chainAt g xs hs) (hop own own own h) ≡ chainAt g xs (hs ++ (h ∷ []))) × Reached g xs (hs ++ (h ∷ []))
+      → Step g xs hs (hop h) xs (hs ++ (h ∷ []))
   unfolding next hops.taken
   own-hop xs hs h r t =
       let y = chainAt g xs hs in
@@ -415,19 +414,24 @@ module _ (g : ConditioningConfig) (some : 0 < g .spans) where
       } in
       let q = hop-taken c (h .channels) (h .start) (y .machine .spans) (y .words) (t .none)
       ∙ ap (hops.followed c (y .machine .spans)) (seen-is hs h xs (r .order) on a)
-      ∙ machine-hop hs h xs (r .order) on a in (
-        ap (λ (o : Hopped). afterHop y own own own h o (saidHop (o .called .answer))) q
+      ∙ machine-hop hs h xs (r .order) on a in
+      record {
+        taken = ap (λ (o : Hopped). isAccepted (saidHop (o .called .answer))) q ∙ ap isAccepted (said-is (answerAt hs h));
+        is =
+            ap (λ (o : Hopped). settle (hop h) allOwn y (afterHopped (y .machine .repairs) (h .channels) o) (saidHop (o .called .answer))) q
             ∙ ap
-            (afterHop y own own own h
+            (settle (hop h) allOwn y
+            (afterHopped (y .machine .repairs) (h .channels)
             (record {
               called = record { state = chainAt g xs (hs ++ (h ∷ [])) .machine .state; answer = hops.answerOf (answerOf (answerAt hs h)) };
               spans = chainAt g xs (hs ++ (h ∷ [])) .machine .spans;
               words = chainAt g xs (hs ++ (h ∷ [])) .words;
             }))
+            )
             (said-is (answerAt hs h))
-            ∙ hop-again xs hs h,
-        record { usable = r .usable; few = r .few; order = order-next hs h (r .order) a; watching = λ e. absurd (false≢true (sym on ∙ e)) },
-      )
+            ∙ hop-again xs hs h;
+        reached = record { usable = r .usable; few = r .few; order = order-next hs h (r .order) a; watching = λ e. absurd (false≢true (sym on ∙ e)) };
+      }
 
   -- ---- any operation
 
@@ -438,39 +442,23 @@ module _ (g : ConditioningConfig) (some : 0 < g .spans) where
     pub is : y ≡ chainAt g samples hops
     pub reached : Reached g samples hops
 
-  by-call : (xs : List ℕ) (hs : List Hop) (gs : Given InputConditioner) (gp gr : Given (List ℕ)) (slice : List ℕ) → Reached g xs hs
-      → isReady (callOn (chainAt g xs hs) gs gp gr slice .said) ≡ true → IsOwn gs → IsOwn gp → IsOwn gr
-      → Leads (next (chainAt g xs hs) (call gs gp gr slice))
-  by-call xs hs own own own slice r e a b d =
+  -- a row for each act
+  steps : (xs : List ℕ) (hs : List Hop) (a : Act) → Reached g xs hs → list.Accepted (chainAt g xs hs) (ownly a) → Leads (next (chainAt g xs hs) (ownly a))
+  steps xs hs (call slice) r e =
       let n = own-call xs hs slice r (ready-none (chainAt g xs hs .machine) slice e) in
-      record { samples = xs ++ newPart (chainAt g xs hs .machine .state) slice; hops = hs; is = n .0; reached = n .1 }
-  by-call xs hs own own (other w) slice r e a b d = absurd d
-  by-call xs hs own (other w) gr slice r e a b d = absurd b
-  by-call xs hs (other s) gp gr slice r e a b d = absurd a
-
-  by-hop : (xs : List ℕ) (hs : List Hop) (gs : Given InputConditioner) (gp : Given (List ℕ)) (gw : Given (List Float)) (h : Hop) → Reached g xs hs
-      → isAnswered (saidHop (hopOn (chainAt g xs hs) gs gp gw h .called .answer)) ≡ true → IsOwn gs → IsOwn gp → IsOwn gw
-      → Leads (next (chainAt g xs hs) (hop gs gp gw h))
-  by-hop xs hs own own own h r e a b d =
+      record { samples = xs ++ newPart (chainAt g xs hs .machine .state) slice; hops = hs; is = n .is; reached = n .reached }
+  steps xs hs (hop h) r e =
       let y = chainAt g xs hs in
       let n = own-hop xs hs h r (answered-taken (y .machine .state) (h .channels) (h .start) (y .machine .spans) (y .words) e) in
-      record { samples = xs; hops = hs ++ (h ∷ []); is = n .0; reached = n .1 }
-  by-hop xs hs own own (other w) h r e a b d = absurd d
-  by-hop xs hs own (other w) gw h r e a b d = absurd b
-  by-hop xs hs (other s) gp gw h r e a b d = absurd a
+      record { samples = xs; hops = hs ++ (h ∷ []); is = n .is; reached = n .reached }
 
-  leads : (xs : List ℕ) (hs : List Hop) (o : Operation) → Reached g xs hs → Found (chainAt g xs hs) o → Leads (next (chainAt g xs hs) o)
-  unfolding Found
-  leads xs hs (call gs gp gr slice) r f = go (isReady (callOn (chainAt g xs hs) gs gp gr slice .said)) refl
+  leads : (xs : List ℕ) (hs : List Hop) (o : Operation) → Reached g xs hs → (list.Accepted (chainAt g xs hs) o → o .lent ≡ allOwn) → Leads (next (chainAt g xs hs) o)
+  leads xs hs o r f = go (isAccepted (on (chainAt g xs hs) o .said)) refl
     where
-      go : (b : Bool) → isReady (callOn (chainAt g xs hs) gs gp gr slice .said) ≡ b → Leads (next (chainAt g xs hs) (call gs gp gr slice))
-      go true e = by-call xs hs gs gp gr slice r e (f e .0) (f e .1 .0) (f e .1 .1)
-      go false e = record { samples = xs; hops = hs; is = call-kept (chainAt g xs hs) gs gp gr slice e; reached = r }
-  leads xs hs (hop gs gp gw h) r f = go (isAnswered (saidHop (hopOn (chainAt g xs hs) gs gp gw h .called .answer))) refl
-    where
-      go : (b : Bool) → isAnswered (saidHop (hopOn (chainAt g xs hs) gs gp gw h .called .answer)) ≡ b → Leads (next (chainAt g xs hs) (hop gs gp gw h))
-      go true e = by-hop xs hs gs gp gw h r e (f e .0) (f e .1 .0) (f e .1 .1)
-      go false e = record { samples = xs; hops = hs; is = hop-kept (chainAt g xs hs) gs gp gw h e; reached = r }
+      go : (b : Bool) → isAccepted (on (chainAt g xs hs) o .said) ≡ b → Leads (next (chainAt g xs hs) o)
+      go true e =
+          subst (λ (l : Lent). let p : Operation = record { lent = l; act = o .act } in list.Accepted (chainAt g xs hs) p → Leads (next (chainAt g xs hs) p)) (sym (f e)) (steps xs hs (o .act) r) e
+      go false e = record { samples = xs; hops = hs; is = not-accepted (chainAt g xs hs) o e; reached = r }
 
   pub ends : (xs : List ℕ) (hs : List Hop) (os : List Operation) → Reached g xs hs → Proper (chainAt g xs hs) os → Leads (run (chainAt g xs hs) os)
   ends xs hs [] r p = record { samples = xs; hops = hs; is = refl; reached = r }

@@ -10,7 +10,7 @@ use lib.Dec.{eqb, lit<}
 use borrow.Author.Tests.{eq-eqb, ne-eqb}
 use lib.ListN.{take, drop, List·getD-map}
 use lib.Seq.{take-all, ext-getD}
-use Rattle.rules.specs.Iq.{Mode, off, observe, apply, Settled, isOff, observing, withheld, correcting}
+use Rattle.rules.specs.Iq.{Mode, off, observe, apply, Settled, Off, Observing, Withheld, Correcting}
 use Rattle.rules.specs.Log as rules
 use Rattle.rules.specs.Log.{Span, mark, noMarks}
 use Rattle.rules.specs.Lists.{upTo}
@@ -58,10 +58,10 @@ module _ (cap : ℕ) (x : Logged) (t : Twelve cap x) where
       (length-map f (ringsOf cap x) ∙ length-upTo (marksAt cap x) 12 ∙ sym (t .rings))
       (λ k h. List·getD-map f (ringsOf cap x) k (noMarks cap) ∙ ap f (getD-upTo (noMarks cap) (marksAt cap x) 12 k (omega (arith, length-map f (ringsOf cap x), length-upTo (marksAt cap x) 12))))
 
-  counts-again : map (λ (m : rules.Marks). m .count) (ringsOf cap x) ≡ x .log .counts
+  counts-again : map (λ (m : rules.Marks). m .samples) (ringsOf cap x) ≡ x .log .counts
   unfolding marksAt
   counts-again =
-      let f : rules.Marks → ℕ = λ (m : rules.Marks). m .count in
+      let f : rules.Marks → ℕ = λ (m : rules.Marks). m .samples in
       ext-getD 0 (map f (ringsOf cap x)) (x .log .counts)
       (length-map f (ringsOf cap x) ∙ length-upTo (marksAt cap x) 12 ∙ sym (t .counts))
       (λ k h. List·getD-map f (ringsOf cap x) k (noMarks cap) ∙ ap f (getD-upTo (noMarks cap) (marksAt cap x) 12 k (omega (arith, length-map f (ringsOf cap x), length-upTo (marksAt cap x) 12))))
@@ -104,16 +104,16 @@ module _ (cap : ℕ) (x : Logged) (m : Span) (r : Rings cap x) where
   dc-at apply k = marked-at cap x 6 m r (lit< tt) k
 
   iq-rings : (s : Settled) → Rings cap (notedIq cap s x m)
-  iq-rings isOff = r
-  iq-rings observing = r
-  iq-rings withheld = marked-rings cap x 11 m r (lit< tt)
-  iq-rings (correcting z) = marked-rings cap x 10 m r (lit< tt)
+  iq-rings Off = r
+  iq-rings Observing = r
+  iq-rings Withheld = marked-rings cap x 11 m r (lit< tt)
+  iq-rings (Correcting z) = marked-rings cap x 10 m r (lit< tt)
 
   iq-at : (s : Settled) (k : ℕ) → marksAt cap (notedIq cap s x m) k ≡ markIf cap (iqMarks s k) (marksAt cap x k) m
-  iq-at isOff k = refl
-  iq-at observing k = refl
-  iq-at withheld k = marked-at cap x 11 m r (lit< tt) k
-  iq-at (correcting z) k = marked-at cap x 10 m r (lit< tt) k
+  iq-at Off k = refl
+  iq-at Observing k = refl
+  iq-at Withheld k = marked-at cap x 11 m r (lit< tt) k
+  iq-at (Correcting z) k = marked-at cap x 10 m r (lit< tt) k
 
 -- ---- a call, ring by ring
 

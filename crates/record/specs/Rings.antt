@@ -3,9 +3,9 @@ use mathlib.Core.Bool.{Bool, false, cond}
 use mathlib.Core.List.{List, foldl}
 use Prim.Native.Nat.{ℕ}
 use lib.Dec.{eqb}
-use Rattle.rules.specs.Iq.{Mode, off, observe, apply, Settled, isOff, observing, withheld, correcting}
+use Rattle.rules.specs.Iq.{Mode, off, observe, apply, Settled, Off, Observing, Withheld, Correcting}
 use Rattle.rules.specs.Log as rules
-use Rattle.rules.specs.Log.{Span, ringNumber, dc, iq, isCorrected, isUncertain, mark}
+use Rattle.rules.specs.Log.{Span, ringNumber, dc, iq, Corrected, Uncertain, mark}
 use Rattle.rules.specs.Lists.{upTo}
 use Rattle.log.specs.View.{Logged, marksAt}
 use Rattle.impulse_run.specs.Noted.{marksFor}
@@ -23,14 +23,14 @@ ringsOf cap x = upTo (marksAt cap x) 12
 abbrev pub dcMarks : Mode → ℕ → Bool
 dcMarks off k = false
 dcMarks observe k = false
-dcMarks apply k = eqb k (ringNumber dc isCorrected)
+dcMarks apply k = eqb k (ringNumber dc Corrected)
 
 -- whether the IQ stage does
 abbrev pub iqMarks : Settled → ℕ → Bool
-iqMarks isOff k = false
-iqMarks observing k = false
-iqMarks withheld k = eqb k (ringNumber iq isUncertain)
-iqMarks (correcting r) k = eqb k (ringNumber iq isCorrected)
+iqMarks Off k = false
+iqMarks Observing k = false
+iqMarks Withheld k = eqb k (ringNumber iq Uncertain)
+iqMarks (Correcting r) k = eqb k (ringNumber iq Corrected)
 
 -- a mark, if it goes to the ring
 abbrev pub markIf : ℕ → Bool → rules.Marks → Span → rules.Marks

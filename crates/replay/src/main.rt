@@ -1,4 +1,6 @@
-// The replay program: a recording on standard input, its report on standard output.
+// The replay program: a recording on standard input, its report on standard output. Where a read fails,
+// nothing is printed there; that, and a report that could not be written whole, is a line on standard
+// error.
 
 ghost use mathlib.Core.Path.{_≡_};
 ghost use Prim.Native.Nat.{_≤_};
@@ -13,13 +15,20 @@ use state::InputConditioner;
 // Blocks to feed at most. Each full one has 2^13 samples, and the chain refuses what comes after 2^48.
 const BLOCKS: u64 = 0x10_0000_0000;
 
+// What was read of a block, or that a read failed: then nothing counts as read.
+struct Block {
+    size: usize,
+    failed: bool,
+}
+
 // What the blocks so far have left: the state, the samples replaced, the number of the last block's
-// refusal or 0, and the size of the block that was read and waits, or 0.
+// refusal or 0, the size of the block that was read and waits, or 0, and whether a read failed.
 struct Played {
     state: InputConditioner,
     replaced: u64,
     number: u64,
     size: usize,
+    failed: bool,
 }
 
 // ---- stores
@@ -51,6 +60,51 @@ fn text_store() -> [u8; 262144]
     [0u8; 262144]
 }
 
+// ---- reading
+
+// One read into a part of a block. One that brings nothing is at the recording's end, or failed and has
+// been told.
+fn read_some(part: &mut [u8]) -> Block
+    ensures { λ r. ⌜ r .size ≤ length (now (part .entry)) ⌝ }
+{
+    let got = libc::read(STDIN_FILENO, part);
+    if got < 0 {
+        os::fail(b"replay: the recording could not be read");
+        return Block {
+            size: 0,
+            failed: true,
+        };
+    }
+    Block {
+        size: io::count(got, part),
+        failed: false,
+    }
+}
+
+// Reads until the block is full, the recording ends, or a read fails.
+fn read_block(bytes: &mut [u8]) -> Block
+    ensures { λ r. ⌜ Counts (r .size) (now (bytes .exit)) ⌝ }
+{
+    let mut size = 0;
+    while size < bytes.len() {
+        let more = read_some(&mut bytes[size..]);
+        if more.failed {
+            return more;
+        }
+        if more.size == 0 {
+            return Block {
+                size,
+                failed: false,
+            };
+        }
+        size += more.size;
+    }
+    Block {
+        size,
+        failed: false,
+    }
+}
+
 // ---- playing
 
 // A block of bytes, fed. None waits then.
@@ -70,8 +124,9 @@ fn feed(
     Played {
         state,
         replaced: std::num::wrapping_add_u64(played.replaced, fed.replaced),
-        number: feeding::call_number(answer),
+        number: calls::number(answer),
         size: 0,
+        failed: false,
     }
 }
 
@@ -79,8 +134,10 @@ fn feed(
 fn read(played: Played, bytes: &mut [u8]) -> Played
     ensures { λ r. ⌜ Counts (r .size) (now (bytes .exit)) ⌝ }
 {
+    let block = read_block(bytes);
     let mut out = played;
-    out.size = io::read_full(STDIN_FILENO, bytes);
+    out.size = block.size;
+    out.failed = block.failed;
     out
 }
 
@@ -130,6 +187,9 @@ fn play(
 fn write_played(played: Played, spans: &[u64], text: &mut [u8]) -> usize
     ensures { λ r. ⌜ r ≤ length (now (text .entry)) ⌝ }
 {
+    if played.failed {
+        return 0;
+    }
     if played.number != 0 {
         return notices::write_refusal(played.number, text);
     }
@@ -137,7 +197,7 @@ fn write_played(played: Played, spans: &[u64], text: &mut [u8]) -> usize
     report::write_report(state, spans, played.replaced, text)
 }
 
-// Puts what is to be printed into the text, and answers how long it is.
+// Puts what is to be printed into the text, and answers how long it is: 0 where a read failed.
 fn answer(
     started: Started,
     size: usize,
@@ -164,6 +224,7 @@ fn answer(
         replaced: 0,
         number: 0,
         size,
+        failed: false,
     };
     let played = play(first, bytes, samples, spans, repairs);
     write_played(played, spans, text)
@@ -172,7 +233,9 @@ fn answer(
 fn print(text: &[u8], size: usize)
     requires { ⌜ size ≤ length (now text) ⌝ }
 {
-    io::write_all(STDOUT_FILENO, &text[..size]);
+    if !io::write_all(STDOUT_FILENO, &text[..size]) {
+        os::fail(b"replay: the report could not be written");
+    }
 }
 
 fn main() {
@@ -181,8 +244,16 @@ fn main() {
     let mut spans = log_store();
     let mut repairs = log_store();
     let mut words = monitor_store();
-    let known = io::read_full(STDIN_FILENO, &mut head);
-    let size = io::read_full(STDIN_FILENO, &mut bytes);
+    let header = read_block(&mut head);
+    if header.failed {
+        return;
+    }
+    let first = read_block(&mut bytes);
+    if first.failed {
+        return;
+    }
+    let known = header.size;
+    let size = first.size;
     let started = starting::start(
         &head[..known],
         &bytes[..size],

@@ -1,21 +1,18 @@
 -- A recording read block by block: whole samples of whole blocks, and a header that what follows it does not change. Assumes nothing.
-use mathlib.Core.Path.{_≡_, refl, ap, sym, _∙_, subst}
-use mathlib.Core.Bool.{Bool, true, false, cond, _&&_}
+use mathlib.Core.Path.{_≡_, refl, ap, sym, _∙_}
+use mathlib.Core.Bool.{cond, _&&_}
 use mathlib.Core.List.{List, [], _∷_, _++_, append-assoc, append-nil, map-append}
-use Prim.Native.Nat.{ℕ, zero, suc, _+_, _*_, _/_, _%_, _≤_, _<_}
+use Prim.Native.Nat.{ℕ, zero, suc, _+_, _*_, _/_, _≤_, _<_}
 use native.Mathlib.Numerals.{unary-clauses}
 use native.Mathlib.Omega.{arith}
 use borrow.Author.Tests.{le-leb}
-use lib.Dec.{T, leb, eqb}
+use lib.Dec.{leb, eqb}
 use lib.ListN.{length, take, drop, length-append, length-drop, List·getD-append}
 use lib.Seq.{take-append-le, drop-append-le, drop-append-add, drop-append-seam}
-use lib.Ieee.{binary64, ofBits, le}
-use Rattle.complex.specs.Complex as complex
-use Rattle.rules.specs.Lists.{upTo, at, indicator}
-use Rattle.rules.specs.ListLaws.{length-upTo, upTo-same, length-map}
-use Rattle.rules.specs.SortLaws.{All}
-use Rattle.rules.specs.Guard.{magnitude, usablePart, usable, guarded, unusable}
-use Rattle.impulse.specs.Stage.{Usable}
+use lib.Ieee.{binary64, ofBits}
+use Rattle.rules.specs.Lists.{upTo, at}
+use Rattle.rules.specs.ListLaws.{upTo-same, length-map}
+use Rattle.rules.specs.Guard.{usable, guarded, unusable}
 use Rattle.recording.specs.Format.{littleEndian, wordAt, wordsIn, headerFits, headerSize, modeBy, calibrationBy, configIn, realAt}
 
 -- ---- words
@@ -104,17 +101,3 @@ pub unusable-append : (xs ys : List ℕ) → unusable (xs ++ ys) ≡ unusable xs
 unfolding unusable
 unusable-append [] ys = omega arith
 unusable-append (x ∷ xs) ys = let r = unusable-append xs ys in omega (arith, r)
-
-zero-usable : T (usable 0)
-unfolding usable usablePart magnitude le complex.sampleOf ofBits
-zero-usable = tt
-
--- what guarding leaves is usable
-pub guarded-usable : (xs : List ℕ) → Usable (guarded xs)
-unfolding guarded
-guarded-usable [] = tt
-guarded-usable (x ∷ xs) = (go (usable x) refl, guarded-usable xs)
-  where
-    go : (b : Bool) → usable x ≡ b → T (usable (cond b x 0))
-    go true e = subst T (sym e) tt
-    go false e = zero-usable

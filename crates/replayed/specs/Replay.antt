@@ -1,16 +1,15 @@
 -- A replay as the program runs it: the start, the blocks one after another up to one that is refused, and the report. Definitions only.
 use mathlib.Core.Path.{_≡_}
 use mathlib.Core.List.{List, [], _∷_, _++_}
-use Prim.Native.Nat.{ℕ, _+_, _≤_, _<_}
+use Prim.Native.Nat.{ℕ, _+_, _≤_}
 use lib.ListN.{length}
 use lib.Ieee.{Float}
-use Rattle.rules.specs.Guard.{unusable}
 use Rattle.making.specs.Making as making
 use Rattle.making.specs.Making.{nothing, made, madeWords}
 use Rattle.chain.specs.Stages.{Machine, machineOf}
-use Rattle.chain.specs.Calls.{Said, refused, ready}
-use Rattle.recording.specs.Format.{headerSize, wordsIn}
-use Rattle.feeding.specs.Feeding.{newWords, fed, callNumber}
+use Rattle.rules.specs.Answers as answers
+use Rattle.rules.specs.Answers.{Said, accepted, refused, numberOf}
+use Rattle.feeding.specs.Feeding.{fed}
 use Rattle.starting.specs.Starting.{startSaid, startState}
 use Rattle.report.specs.Report.{reportText}
 use Rattle.notices.specs.Notices.{refusedText, offText}
@@ -32,14 +31,15 @@ firstBytes (b ∷ bs) = b .bytes
 -- ---- what is printed
 
 -- the text, unless the call was refused
-abbrev pub afterCall : Said → List ℕ → List ℕ
-afterCall (ready k) text = text
-afterCall (refused r) text = refusedText (callNumber (refused r))
+abbrev pub afterCall : Said ℕ → List ℕ → List ℕ
+afterCall (accepted k) text = text
+afterCall answers.nothing text = text
+afterCall (refused r) text = refusedText (numberOf {A = ℕ} (refused r))
 
 -- from a chain, with so many samples replaced so far
 unfoldable pub played : Machine → ℕ → List Block → List ℕ
 played m replaced [] = reportText (reportIn (m .state) (m .spans) replaced)
-played m replaced (b ∷ bs) = let o = fed m (b .bytes) (b .store) in afterCall (o .said) (played (o .machine) (replaced + unusable (newWords (m .state) (b .bytes) (b .store))) bs)
+played m replaced (b ∷ bs) = let o = fed m (b .bytes) (b .store) in afterCall (o .said) (played (o .machine) (replaced + o .replaced) bs)
 
 abbrev pub answeredBy : making.Said → List ℕ → List ℕ
 answeredBy nothing text = offText

@@ -1,19 +1,20 @@
 -- A replay prints what document 01's rules give for the whole recording, however long it is. Assumes nothing.
 use mathlib.Core.Path.{_≡_, refl, ap, sym, _∙_, subst}
-use mathlib.Core.Bool.{Bool, true, false, cond, not, _&&_, false≢true}
+use mathlib.Core.Bool.{Bool, true, false, cond, not, _&&_}
 use mathlib.Core.List.{List, [], _∷_, _++_, append-assoc, append-nil, sum}
-use Prim.Native.Nat.{ℕ, zero, suc, _+_, _-_, _*_, _/_, _^_, _≤_, _<_, min}
+use Prim.Native.Nat.{ℕ, zero, suc, _+_, _-_, _*_, _/_, _^_, _≤_, _<_}
 use native.Mathlib.Nat.{suc-mul, min-eq-left}
 use native.Mathlib.Decide.{decLt}
 use native.Mathlib.Omega.{arith}
 use borrow.Author.Tests.{lt-ltb, le-ltb, le-leb, lt-leb, eq-eqb, ne-eqb}
-use lib.Dec.{T, ltb, leb, eqb}
-use lib.ListN.{length, take, drop, length-append, length-take, length-drop}
+use lib.Dec.{eqb}
+use lib.ListN.{length, take, drop, length-append}
 use lib.Ieee.{Float}
-use lib.Seq.{take-all, length-take-le, drop-append-seam}
+use lib.Seq.{take-all}
+use Rattle.rules.specs.Answers.{Said, refused}
 use Rattle.rules.specs.Guard.{guarded, unusable}
 use Rattle.rules.specs.Iq.{Mode, off, observe, apply, Calibrated, none, with}
-use Rattle.rules.specs.Log.{Stage, impulse, dc, iq, Mark, isRepaired, isFlagged, isCorrected, isUncertain, Marks, ringNumber}
+use Rattle.rules.specs.Log.{Stage, impulse, dc, iq, Mark, Repaired, Flagged, Corrected, Uncertain, Marks, ringNumber}
 use Rattle.rules.specs.Log as log
 use Rattle.rules.specs.RingReading.{spansOf}
 use Rattle.rules.specs.Refusals.{firstOf, tooMany}
@@ -23,33 +24,34 @@ use Rattle.log.specs.Check.{ringOf, countOf, sumTo, spansDropped, droppedInAll}
 use Rattle.log.specs.CheckLaws.{InRange, log-range}
 use Rattle.log.specs.View.{marksAt}
 use Rattle.impulse.specs.Stage.{Usable}
-use Rattle.iq.specs.View.{modeOf, calibratedOf, settledOf}
+use Rattle.iq.specs.View.{modeOf, calibratedOf}
 use Rattle.config.specs.declared.ConditioningConfig.{ConditioningConfig}
 use Rattle.config.specs.Config.{configOf, allOff, refusal}
 use Rattle.state.specs.FitsLaws.{state-groups}
 use Rattle.making.specs.Making as making
 use Rattle.making.specs.Making.{freshState, freshSettings, nothing, made, makingSaid, madeWords, numbered}
 use Rattle.chain.specs.Stages.{Machine, machineOf, newPart, process}
-use Rattle.chain.specs.Calls.{Said, Outcome, taken, refused}
+use Rattle.chain.specs.Calls.{Outcome, taken}
 use Rattle.chain.specs.CallTests.{taken-by, declined-by}
-use Rattle.reading.specs.Reading.{storeFits, readable, spansIn, stateLevel}
 use Rattle.part_limit.specs.Limit.{returned}
 use Rattle.record.specs.Lists.{Chain, madeChain, ByRules}
 use Rattle.record.specs.Made.{Fit, made-fit}
 use Rattle.record.specs.Good.{state-good}
-use Rattle.record.specs.Reaching.{freshChain, core, chainAt, Reached, machine-more}
+use Rattle.record.specs.Reaching.{core, chainAt, Reached, machine-more}
 use Rattle.record.specs.Hopping.{withHops}
 use Rattle.record.specs.Fresh.{fresh-is, made-is}
 use Rattle.record.specs.OneRecord.{at-rules, at-few, spans-long, call-accepted, call-beyond}
-use Rattle.recording.specs.Format.{markFits, modesFit, headerFits, headerSize, configIn, modeBy, wordsIn, samplesIn, startRefusal, inputRefusal, unlessRefused}
+use Rattle.recording.specs.Format.{markFits, modesFit, headerFits, headerSize, configIn, wordsIn, samplesIn, startRefusal, inputRefusal, unlessRefused}
 use Rattle.recording.specs.FormatLaws.{words-many}
 use Rattle.recording.specs.Header.{modeFrom, calibrationFrom, configFrom}
-use Rattle.feeding.specs.Feeding.{heldIn, newMany, newWords, slice, fed, callNumber}
+use Rattle.feeding.specs.Feeding.{heldIn, newMany, newWords, slice, takenBlock, fed}
+use Rattle.feeding.specs.FeedingLaws as feeding
+use Rattle.feeding.specs.FeedingLaws.{guarded-usable, slice-long, fed-said, fed-taken}
 use Rattle.starting.specs.Starting.{idle, startSaid, startState}
-use Rattle.report.specs.Report.{Ring, Report, ringsOf, ringBy, reportText, reportBy, textUnless, playedText, printed}
+use Rattle.report.specs.Report.{Ring, ringsOf, ringBy, reportText, reportBy, textUnless, playedText, printed}
 use Rattle.notices.specs.Notices.{refusedText, offText}
 use Rattle.report.specs.Shown.{shownSpans, shownRing, reportIn}
-use Rattle.replayed.specs.BlockLaws.{words-append, no-words, same-fits, same-config, behind-header, guarded-append, guarded-count, unusable-append, guarded-usable}
+use Rattle.replayed.specs.BlockLaws.{words-append, no-words, same-fits, same-config, behind-header, guarded-append, guarded-count, unusable-append}
 use Rattle.replayed.specs.Replay.{Block, joined, firstBytes, afterCall, played, answeredBy, replayed, Fits, Read}
 
 -- ---- the configuration in the code's types is the header's
@@ -122,7 +124,7 @@ module _ (g : ConditioningConfig) (f : Fit g) (raw : List ℕ) (r : Reached g (g
       λ i.
       cond
       ((lt-ltb 0 cap (omega (arith, capacity-is, f .limits .some-spans)) i && le-leb cap 256 (omega (arith, capacity-is, f .limits .few-spans)) i && eq-eqb (length (chain .machine .spans)) (24 * cap) (spans-long g f (guarded raw) [] r) i)
-      && (lt-ltb (ringOf (c .log) k .head) cap (t .headIn) i && le-leb (ringOf (c .log) k .len) cap (t .lenIn) i))
+      && (lt-ltb (ringOf (c .log) k .head) cap (t .headIn) i && le-leb (ringOf (c .log) k .count) cap (t .countIn) i))
       (spansOf (capacity-is i) (marksAt (capacity-is i) (record { log = c .log; spans = chain .machine .spans }) k .ring))
       []
 
@@ -133,7 +135,7 @@ module _ (g : ConditioningConfig) (f : Fit g) (raw : List ℕ) (r : Reached g (g
       record {
         stage = s;
         mark = m;
-        count = ring-is s m i .count;
+        count = ring-is s m i .samples;
         spans = (spans-shown (ringNumber s m) h ∙ ap (λ (x : Marks). spansOf (g .spans) (x .ring)) (ring-is s m)) i;
       }
 
@@ -150,18 +152,18 @@ module _ (g : ConditioningConfig) (f : Fit g) (raw : List ℕ) (r : Reached g (g
   sum-is =
       omega (
         arith,
-        drop-is impulse isRepaired,
-        drop-is impulse isFlagged,
-        drop-is impulse isCorrected,
-        drop-is impulse isUncertain,
-        drop-is dc isRepaired,
-        drop-is dc isFlagged,
-        drop-is dc isCorrected,
-        drop-is dc isUncertain,
-        drop-is iq isRepaired,
-        drop-is iq isFlagged,
-        drop-is iq isCorrected,
-        drop-is iq isUncertain,
+        drop-is impulse Repaired,
+        drop-is impulse Flagged,
+        drop-is impulse Corrected,
+        drop-is impulse Uncertain,
+        drop-is dc Repaired,
+        drop-is dc Flagged,
+        drop-is dc Corrected,
+        drop-is dc Uncertain,
+        drop-is iq Repaired,
+        drop-is iq Flagged,
+        drop-is iq Corrected,
+        drop-is iq Uncertain,
       )
 
   drops-are : droppedInAll (chain .machine .state .log) ≡ sum _+_ 0 (ringsOf (λ s m. rules.ringOf (configOf g) (guarded raw) [] s m .ring .dropped))
@@ -178,9 +180,9 @@ module _ (g : ConditioningConfig) (f : Fit g) (raw : List ℕ) (r : Reached g (g
         final = (by .count ∙ ap length (by .released ∙ ap (rules.released (configOf g)) brought-is)) i;
         held = (by .held ∙ ap (rules.heldOf (configOf g)) brought-is) i;
         rings =
-            ring-shown impulse isRepaired (omega arith) i ∷ ring-shown impulse isFlagged (omega arith) i ∷ ring-shown impulse isCorrected (omega arith) i ∷ ring-shown impulse isUncertain (omega arith) i
-            ∷ ring-shown dc isRepaired (omega arith) i ∷ ring-shown dc isFlagged (omega arith) i ∷ ring-shown dc isCorrected (omega arith) i ∷ ring-shown dc isUncertain (omega arith) i
-            ∷ ring-shown iq isRepaired (omega arith) i ∷ ring-shown iq isFlagged (omega arith) i ∷ ring-shown iq isCorrected (omega arith) i ∷ ring-shown iq isUncertain (omega arith) i
+            ring-shown impulse Repaired (omega arith) i ∷ ring-shown impulse Flagged (omega arith) i ∷ ring-shown impulse Corrected (omega arith) i ∷ ring-shown impulse Uncertain (omega arith) i
+            ∷ ring-shown dc Repaired (omega arith) i ∷ ring-shown dc Flagged (omega arith) i ∷ ring-shown dc Corrected (omega arith) i ∷ ring-shown dc Uncertain (omega arith) i
+            ∷ ring-shown iq Repaired (omega arith) i ∷ ring-shown iq Flagged (omega arith) i ∷ ring-shown iq Corrected (omega arith) i ∷ ring-shown iq Uncertain (omega arith) i
             ∷ [];
         droppedSpans = drops-are i;
         droppedRepairs = (ap (λ (x : log.Ring). x .dropped) (by .repairs ∙ ap (rules.repairRing (configOf g)) brought-is)) i;
@@ -217,19 +219,11 @@ module _ (g : ConditioningConfig) (f : Fit g) where
     abbrev part : List ℕ
     part = slice (machine .state) (b .bytes) (b .store)
 
-    front-long : length (take (heldIn (machine .state) (b .store)) (b .store)) ≡ machine .state .held
-    front-long = length-take-le (heldIn (machine .state) (b .store)) (b .store) (omega (arith, held-few, t .room)) ∙ held-all
-
-    slice-long : machine .state .held ≤ length (slice (machine .state) (b .bytes) (b .store))
-    unfolding slice
-    slice-long = omega (arith, front-long, length-append (take (heldIn (machine .state) (b .store)) (b .store)) (guarded (newWords (machine .state) (b .bytes) (b .store))))
+    held-in : machine .state .held ≤ length (slice (machine .state) (b .bytes) (b .store))
+    held-in = omega (arith, held-all, slice-long (machine .state) (b .bytes) (b .store) _ _ refl refl)
 
     new-part : newPart (machine .state) (slice (machine .state) (b .bytes) (b .store)) ≡ guarded (wordsIn (b .bytes))
-    unfolding slice
-    new-part =
-        ap (λ (k : ℕ). drop k (slice (machine .state) (b .bytes) (b .store))) (sym front-long)
-        ∙ drop-append-seam (take (heldIn (machine .state) (b .store)) (b .store)) (guarded (newWords (machine .state) (b .bytes) (b .store)))
-        ∙ ap guarded new-all
+    new-part = feeding.new-part (machine .state) (b .bytes) (b .store) _ _ refl refl (omega (arith, held-all)) ∙ ap guarded new-all
 
     all-usable : Usable (newPart (machine .state) (slice (machine .state) (b .bytes) (b .store)))
     all-usable = subst Usable (sym new-part) (guarded-usable words)
@@ -239,13 +233,13 @@ module _ (g : ConditioningConfig) (f : Fit g) where
 
     -- up to 2^48 samples in all the chain goes on with them
     fed-on : length raw + length (wordsIn (b .bytes)) ≤ 2 ^ 48
-        → (fed (chainAt g (guarded raw) [] .machine) (b .bytes) (b .store) ≡ taken (chainAt g (guarded raw) [] .machine) (slice (machine .state) (b .bytes) (b .store)))
+        → (fed (chainAt g (guarded raw) [] .machine) (b .bytes) (b .store) ≡ takenBlock (chainAt g (guarded raw) [] .machine) (b .bytes) (b .store) (taken (chainAt g (guarded raw) [] .machine) (slice (machine .state) (b .bytes) (b .store))))
         × ((process (chainAt g (guarded raw) [] .machine) (newPart (machine .state) (slice (machine .state) (b .bytes) (b .store))) ≡ chainAt g (guarded (raw ++ wordsIn (b .bytes))) [] .machine)
         × Reached g (guarded (raw ++ wordsIn (b .bytes))) [])
     fed-on h =
-        let none = call-accepted g f (guarded raw) [] r part slice-long all-usable (omega (arith, guarded-count raw, new-count, h)) in
+        let none = call-accepted g f (guarded raw) [] r part held-in all-usable (omega (arith, guarded-count raw, new-count, h)) in
         let joined : guarded raw ++ newPart (machine .state) part ≡ guarded (raw ++ words) = ap (λ (l : List ℕ). guarded raw ++ l) new-part ∙ sym (guarded-append raw words) in (
-          taken-by (machine .state) part (machine .spans) (machine .repairs) none,
+          fed-taken (machine .state) (b .bytes) (b .store) _ _ refl refl (machine .spans) (machine .repairs) (taken-by (machine .state) part (machine .spans) (machine .repairs) none),
           (
             machine-more g some (guarded raw) (newPart (machine .state) part) [] ∙ ap (λ (l : List ℕ). chainAt g l [] .machine) joined,
             record { usable = guarded-usable (raw ++ words); few = omega (arith, guarded-count (raw ++ words), length-append raw words, h); order = tt; watching = λ e. refl },
@@ -256,8 +250,8 @@ module _ (g : ConditioningConfig) (f : Fit g) where
     fed-beyond : 2 ^ 48 < length raw + length (wordsIn (b .bytes)) → fed (chainAt g (guarded raw) [] .machine) (b .bytes) (b .store) .said ≡ refused (8 ∷ [])
     unfolding returned
     fed-beyond h =
-        let eight = call-beyond g f (guarded raw) [] r part slice-long all-usable (omega (arith, guarded-count raw, new-count, h)) in
-        ap (λ (o : Outcome). o .said) (declined-by (machine .state) part (machine .spans) (machine .repairs) 8 eight refl)
+        let eight = call-beyond g f (guarded raw) [] r part held-in all-usable (omega (arith, guarded-count raw, new-count, h)) in
+        fed-said machine (b .bytes) (b .store) ∙ ap (λ (o : Outcome). o .said) (declined-by (machine .state) part (machine .spans) (machine .repairs) 8 eight refl)
 
   -- ---- all blocks
 
@@ -299,12 +293,12 @@ module _ (g : ConditioningConfig) (f : Fit g) where
           → Dec (2 ^ 48 < length raw + length (wordsIn (b .bytes))) → played (chainAt g (guarded raw) [] .machine) (unusable raw) (b ∷ bs) ≡ told (raw ++ wordsIn (joined (b ∷ bs)))
       go rest (yes h) =
           let o = fed (chainAt g (guarded raw) [] .machine) (b .bytes) (b .store) in
-          ap (λ (s : Said). afterCall s (played (o .machine) (unusable raw + unusable (newWords (chainAt g (guarded raw) [] .machine .state) (b .bytes) (b .store))) bs)) (fed-beyond raw r b fits h)
+          ap (λ (s : Said ℕ). afterCall s (played (o .machine) (unusable raw + o .replaced) bs)) (fed-beyond raw r b fits h)
           ∙ sym (ap told all-is ∙ total-beyond ((raw ++ wordsIn (b .bytes)) ++ wordsIn (joined bs)) (omega (arith, length-append raw (wordsIn (b .bytes)), length-append (raw ++ wordsIn (b .bytes)) (wordsIn (joined bs)), h)))
       go rest (no h) =
           let on = fed-on raw r b fits (omega arith) in
-          (λ i. afterCall (on .0 i .said) (played (on .0 i .machine) (unusable raw + unusable (new-all raw r b fits i)) bs))
-          ∙ (λ i. played (on .1 .0 i) (sym (unusable-append raw (wordsIn (b .bytes))) i) bs)
+          (λ i. afterCall (on .0 i .said) (played (on .0 i .machine) (unusable raw + on .0 i .replaced) bs))
+          ∙ (λ i. played (on .1 .0 i) ((ap (λ (l : List ℕ). unusable raw + unusable l) (new-all raw r b fits) ∙ sym (unusable-append raw (wordsIn (b .bytes)))) i) bs)
           ∙ rest (on .1 .1)
           ∙ ap told (sym all-is)
 

@@ -5,7 +5,7 @@ use Prim.Native.Nat.{ℕ, _+_}
 use lib.ListN.{length}
 use Rattle.rules.specs.Guard.{guarded, unusable}
 use Rattle.rules.specs.Iq.{Settled}
-use Rattle.rules.specs.Log.{Span, Marks, Stage, impulse, dc, iq, Mark, isRepaired, isFlagged, isCorrected, isUncertain}
+use Rattle.rules.specs.Log.{Span, Marks, Stage, impulse, dc, iq, Mark, Repaired, Flagged, Corrected, Uncertain}
 use Rattle.rules.specs.RingReading.{spansOf}
 use Rattle.rules.specs.Chain.{Config, DcLevel, released, heldOf, ringOf, repairRing, dcLevel, settledBy}
 use Rattle.rules.specs.Refusals.{firstOf, tooMany}
@@ -62,14 +62,14 @@ reportText r =
 
 -- of each ring, in ring order: 'impulse, DC, IQ, then Repaired, Flagged, Corrected, Uncertain'
 abbrev pub marks : List Mark
-marks = isRepaired ∷ isFlagged ∷ isCorrected ∷ isUncertain ∷ []
+marks = Repaired ∷ Flagged ∷ Corrected ∷ Uncertain ∷ []
 
 abbrev pub ringsOf : {A : Type 0} → (Stage → Mark → A) → List A
 ringsOf f = map (f impulse) marks ++ (map (f dc) marks ++ map (f iq) marks)
 
 -- a ring with its count
 abbrev pub ringBy : ℕ → Stage → Mark → Marks → Ring
-ringBy cap s m x = record { stage = s; mark = m; count = x .count; spans = spansOf cap (x .ring) }
+ringBy cap s m x = record { stage = s; mark = m; count = x .samples; spans = spansOf cap (x .ring) }
 
 unfoldable pub reportBy : Config → List ℕ → Report
 reportBy c raw =

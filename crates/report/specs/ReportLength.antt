@@ -7,8 +7,8 @@ use native.Mathlib.Omega.{arith}
 use lib.Dec.{eqb}
 use lib.ListN.{length, take, length-append}
 use lib.Ieee.{binary64, toBits}
-use Rattle.rules.specs.Iq.{Settled, isOff, observing, withheld, correcting}
-use Rattle.rules.specs.Log.{Span, Stage, impulse, dc, iq, Mark, isRepaired, isFlagged, isCorrected, isUncertain, ringNumber}
+use Rattle.rules.specs.Iq.{Settled, Off, Observing, Withheld, Correcting}
+use Rattle.rules.specs.Log.{Span, Stage, impulse, dc, iq, Mark, Repaired, Flagged, Corrected, Uncertain, ringNumber}
 use Rattle.rules.specs.Chain.{DcLevel, noLevel, levelIs}
 use Rattle.log.specs.Check.{countOf, droppedInAll}
 use Rattle.iq.specs.View.{settledOf}
@@ -32,10 +32,10 @@ stage-length iq = omega arith
 
 mark-length : (m : Mark) → length (letters (markName m)) ≤ 9
 unfolding letters
-mark-length isRepaired = omega arith
-mark-length isFlagged = omega arith
-mark-length isCorrected = omega arith
-mark-length isUncertain = omega arith
+mark-length Repaired = omega arith
+mark-length Flagged = omega arith
+mark-length Corrected = omega arith
+mark-length Uncertain = omega arith
 
 ring-length : (s : Stage) (m : Mark) → length (ringName s m) ≤ 17
 unfolding letters ringName
@@ -43,10 +43,10 @@ ring-length s m = omega (arith, length-append (letters (stageName s)) (letters "
 
 settled-length : (s : Settled) → length (letters (settledName s)) ≤ 10
 unfolding letters
-settled-length isOff = omega arith
-settled-length observing = omega arith
-settled-length (correcting r) = omega arith
-settled-length withheld = omega arith
+settled-length Off = omega arith
+settled-length Observing = omega arith
+settled-length (Correcting r) = omega arith
+settled-length Withheld = omega arith
 
 -- ---- lines
 

@@ -74,8 +74,8 @@ module _ (c : InputConditioner) (ws : List ℕ) (k : ℕ) where
       go : (t : Bool) → (storeFits cap (length ws) && readable cap ring) ≡ t → length (cond t (spansIn c ws k) []) ≤ 256
       go true e =
           let p = both (storeFits cap (length ws)) (readable cap ring) e in
-          let q = both (ltb (ring .head) cap) (leb (ring .len) cap) (p .1) in
-          omega (arith, store-is cap (length ws) (p .0) .few, leb-true (ring .len) cap (q .1), length-spans cap (marksAt cap (record { log = c .log; spans = ws }) k .ring))
+          let q = both (ltb (ring .head) cap) (leb (ring .count) cap) (p .1) in
+          omega (arith, store-is cap (length ws) (p .0) .few, leb-true (ring .count) cap (q .1), length-spans cap (marksAt cap (record { log = c .log; spans = ws }) k .ring))
       go false e = omega arith
 
 -- ---- the parts of a report

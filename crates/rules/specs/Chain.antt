@@ -4,12 +4,11 @@ use mathlib.Core.List.{List, [], _∷_, map}
 use Prim.Native.Nat.{ℕ}
 use lib.ListN.{length}
 use lib.Ieee.{Float}
-use Rattle.ieee.specs.Whole.{roundDiv, wholeBy}
 use Rattle.complex.specs.Complex.{Complex}
-use Rattle.rules.specs.Impulse.{Setting, standard, Event, happened, handedOn, held}
+use Rattle.rules.specs.Impulse.{Setting, standard, blockLength, Event, happened, handedOn, held}
 use Rattle.rules.specs.Dc.{corner, firstLevel, levelAfter, blockedAll}
-use Rattle.rules.specs.Iq.{Mode, off, observe, apply, Calibrated, Settled, isOff, observing, withheld, correcting, settled, correctedBy}
-use Rattle.rules.specs.Log.{Ring, Span, spanOf, Marks, marked, repaired, Stage, impulse, dc, iq, Mark, isRepaired, isFlagged, isCorrected, isUncertain, marksOf, repairsOf, longRuns}
+use Rattle.rules.specs.Iq.{Mode, off, observe, apply, Calibrated, Settled, Off, Observing, Withheld, Correcting, settled, correctedBy}
+use Rattle.rules.specs.Log.{Ring, Span, spanOf, Marks, marked, repaired, Stage, impulse, dc, iq, Mark, Repaired, Flagged, Corrected, Uncertain, marksOf, repairsOf, longRuns}
 use Rattle.rules.specs.Monitor.{Hop, Answer, windowLength, answers, openWindow, monitorWords, suspectedSpans}
 
 pub record Config : Type 0 where
@@ -32,10 +31,6 @@ abbrev pub runs : Mode → Bool
 runs off = false
 runs observe = true
 runs apply = true
-
--- 'block length, fs rounded half away from zero'
-unfoldable pub blockLength : Float → ℕ
-blockLength fs = wholeBy roundDiv fs
 
 abbrev pub settingOf : Config → Setting
 settingOf c = standard (blockLength (c .fs)) (isApply (c .impulseMode))
@@ -79,26 +74,26 @@ abbrev pub whole : Config → List ℕ → List Span
 whole c xs = spanOf 0 (length (released c xs)) ∷ []
 
 abbrev pub dcMarks : Config → List ℕ → Mark → List Span
-dcMarks c xs isCorrected = cond (isApply (c .dcMode)) (whole c xs) []
-dcMarks c xs isRepaired = []
-dcMarks c xs isFlagged = []
-dcMarks c xs isUncertain = []
+dcMarks c xs Corrected = cond (isApply (c .dcMode)) (whole c xs) []
+dcMarks c xs Repaired = []
+dcMarks c xs Flagged = []
+dcMarks c xs Uncertain = []
 
--- 'Correcting marks released samples Corrected, withheld Uncertain.' An observing monitor marks the windows that it suspects.
+-- 'Correcting marks released samples Corrected, withheld Uncertain.' 'A suspected window is marked Uncertain only while observing.'
 abbrev pub iqMarks : Config → List ℕ → List Answer → Settled → Mark → List Span
-iqMarks c xs given (correcting r) isCorrected = whole c xs
-iqMarks c xs given (correcting r) isRepaired = []
-iqMarks c xs given (correcting r) isFlagged = []
-iqMarks c xs given (correcting r) isUncertain = []
-iqMarks c xs given withheld isUncertain = whole c xs
-iqMarks c xs given withheld isRepaired = []
-iqMarks c xs given withheld isFlagged = []
-iqMarks c xs given withheld isCorrected = []
-iqMarks c xs given observing isUncertain = suspectedSpans given
-iqMarks c xs given observing isRepaired = []
-iqMarks c xs given observing isFlagged = []
-iqMarks c xs given observing isCorrected = []
-iqMarks c xs given isOff m = []
+iqMarks c xs given (Correcting r) Corrected = whole c xs
+iqMarks c xs given (Correcting r) Repaired = []
+iqMarks c xs given (Correcting r) Flagged = []
+iqMarks c xs given (Correcting r) Uncertain = []
+iqMarks c xs given Withheld Uncertain = whole c xs
+iqMarks c xs given Withheld Repaired = []
+iqMarks c xs given Withheld Flagged = []
+iqMarks c xs given Withheld Corrected = []
+iqMarks c xs given Observing Uncertain = suspectedSpans given
+iqMarks c xs given Observing Repaired = []
+iqMarks c xs given Observing Flagged = []
+iqMarks c xs given Observing Corrected = []
+iqMarks c xs given Off m = []
 
 -- ---- the evidence of the hops
 

@@ -7,7 +7,7 @@ use Rattle.complex.specs.Complex.{sum, difference, product, power, quotient, on
 use Rattle.rules.specs.Lists.{upTo, count}
 use Rattle.rules.specs.Sort.{insert, sort}
 use Rattle.rules.specs.Guard.{magnitude, usablePart, usable, firstUnusableFrom, guarded, unusable}
-use Rattle.rules.specs.Impulse.{powerOf, mean, reference, standsOut, flagged, before, pauses, paused, touches, mends, between, mendedAt, value, eventsAt, events, happened, handedOn}
+use Rattle.rules.specs.Impulse.{powerOf, reference, standsOut, flagged, before, pauses, paused, touches, mends, between, mendedAt, value, eventsAt, events, happened, handedOn}
 use Rattle.rules.specs.Dc.{corner, blocked, weight, clamped, advanced, stepped, levelAfter, blockedAll, restored, restoredAll}
 use Rattle.rules.specs.Iq.{sineSeries, sine, cosineSeries, cosine, turned, coefficient, accepted, centresAgree, settled, corrected, uncorrected}
 use Rattle.rules.specs.Log.{write, roomed, append, joins, lengthened, mark, marked, repairWords, repaired, marksOf, repairsOf, longRuns}
@@ -24,7 +24,7 @@ unfolding magnitude usablePart usable firstUnusableFrom guarded unusable
 guardRules = tt
 
 unfoldable pub impulseRules : Unit {0}
-unfolding upTo count insert sort powerOf mean reference standsOut flagged before pauses paused touches mends between mendedAt value eventsAt events happened handedOn
+unfolding upTo count insert sort powerOf reference standsOut flagged before pauses paused touches mends between mendedAt value eventsAt events happened handedOn
 impulseRules = tt
 
 unfoldable pub dcRules : Unit {0}
@@ -32,7 +32,7 @@ unfolding corner blocked weight clamped advanced stepped levelAfter blockedAll r
 dcRules = tt
 
 unfoldable pub iqRules : Unit {0}
-unfolding sineSeries sine cosineSeries cosine turned coefficient accepted centresAgree settled corrected uncorrected
+unfolding magnitude sineSeries sine cosineSeries cosine turned coefficient accepted centresAgree settled corrected uncorrected
 iqRules = tt
 
 unfoldable pub logRules : Unit {0}

@@ -1,4 +1,5 @@
--- The paper's numbers, by their bit patterns. Definitions only.
+-- The paper's numbers: floats by their bit patterns, and the limits of 'When the conditioner declines'. Definitions only.
+use Prim.Native.Nat.{ℕ, _^_}
 use lib.Ieee.{Float, binary32, binary64, ofBits}
 
 -- ---- f32
@@ -14,8 +15,8 @@ abbrev pub zeroF : Float
 zeroF = ofBits binary64 0
 
 -- 0.5
-abbrev pub half : Float
-half = ofBits binary64 0x3fe0_0000_0000_0000
+abbrev pub oneHalf : Float
+oneHalf = ofBits binary64 0x3fe0_0000_0000_0000
 
 -- 1.0
 abbrev pub one : Float
@@ -64,10 +65,43 @@ thousand = ofBits binary64 0x408f_4000_0000_0000
 abbrev pub mirrorRatio : Float
 mirrorRatio = ofBits binary64 0x400f_d93c_1f52_6de0
 
--- 1e7
+-- 1e7, of fs
 abbrev pub rateLimit : Float
 rateLimit = ofBits binary64 0x4163_12d0_0000_0000
 
--- 1e18
+-- 1e18, of a part
 abbrev pub partLimit : Float
 partLimit = ofBits binary64 0x43ab_c16d_674e_c800
+
+-- 1e36, of a window power
+abbrev pub powerLimit : Float
+powerLimit = ofBits binary64 0x4768_12f9_cf79_20e3
+
+-- 1e60, of a monitor word
+abbrev pub wordLimit : Float
+wordLimit = ofBits binary64 0x4c63_e9e4_e4c2_f344
+
+-- ---- whole numbers
+
+-- of n, the channels
+abbrev pub sizeLimit : ℕ
+sizeLimit = 2048
+
+-- of the capacities
+abbrev pub spanLimit : ℕ
+spanLimit = 256
+
+abbrev pub repairLimit : ℕ
+repairLimit = 4096
+
+-- of the total, a hop's start and a repair's
+abbrev pub totalLimit : ℕ
+totalLimit = 2 ^ 48
+
+-- of the newest span's sum, start and length
+abbrev pub spanEndLimit : ℕ
+spanEndLimit = 2 ^ 49
+
+-- of a counter
+abbrev pub counterLimit : ℕ
+counterLimit = 2 ^ 52

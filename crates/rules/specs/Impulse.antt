@@ -7,6 +7,7 @@ use lib.Dec.{ltb, leb, eqb}
 use lib.IntN.{pos}
 use lib.ListN.{length, take, drop}
 use lib.Ieee.{Float, binary32, binary64, add, mul, div, lt, ofInt}
+use Rattle.ieee.specs.Whole.{roundDiv, wholeBy}
 use Rattle.complex.specs.Complex.{Complex, sum, difference, scaled, power, wordOf, sampleOf}
 use Rattle.rules.specs.Constants.{zeroF, impulseRatio, pauseFraction}
 use Rattle.rules.specs.Lists.{upTo, count, at}
@@ -25,6 +26,12 @@ pub record Setting : Type 0 where
 abbrev pub standard : ℕ → Bool → Setting
 standard block apply = record { half = 16; run = 4; trim = 8; block = block; apply = apply }
 
+abbrev pub width : Setting → ℕ
+width s = s .half + s .half + 1
+
+abbrev pub lookahead : Setting → ℕ
+lookahead s = s .half + s .run + 1
+
 -- the settings that what follows is shown for
 pub record Offered (s : Setting) : Type 0 where
   pub shortest : 1 ≤ s .run
@@ -34,33 +41,25 @@ pub record Offered (s : Setting) : Type 0 where
   pub most : s .half ≤ 32
   pub blocks : 0 < s .block
 
-abbrev pub width : Setting → ℕ
-width s = s .half + s .half + 1
-
-abbrev pub lookahead : Setting → ℕ
-lookahead s = s .half + s .run + 1
-
--- ---- flagging
-
--- 'powers are f32'
-unfoldable pub powerOf : ℕ → Float
-powerOf w = power binary32 (sampleOf w)
+-- ---- the reference and the flag
 
 -- 'Sample j is judged when j+16 arrives.' Of n samples so many are.
 abbrev pub judged : Setting → ℕ → ℕ
 judged s n = n - s .half
 
+-- 'powers are f32'
+unfoldable pub powerOf : ℕ → Float
+powerOf w = power binary32 (sampleOf w)
+
 -- 'Its window is samples j−16 to j+16, cut at 0', and at the last sample; the powers of these
 abbrev pub window : Setting → List ℕ → ℕ → List Float
 window s xs j = map powerOf (drop (j - s .half) (take (j + s .half + 1) xs))
 
--- 'sum the rest in that order in f64, divide by their number: the reference'
-unfoldable pub mean : List Float → Float
-mean l = div binary64 (foldl (add binary64) zeroF l) (ofInt binary64 (pos (length l)))
-
--- 'Sort ascending, drop the 8 strongest'
+-- 'Sort ascending, drop the 8 strongest, sum the rest in that order in f64, divide by their number: the reference.'
 unfoldable pub reference : Setting → List Float → Float
-reference s w = mean (take (length w - s .trim) (sort lt w))
+reference s w =
+    let rest = take (length w - s .trim) (sort lt w) in
+    div binary64 (foldl (add binary64) zeroF rest) (ofInt binary64 (pos (length rest)))
 
 -- 'j is flagged exactly if reference > 0 and power > 144 × reference.'
 unfoldable pub standsOut : Float → Float → Bool
@@ -69,7 +68,39 @@ standsOut r p = lt zeroF r && lt (mul binary64 impulseRatio r) p
 unfoldable pub flagged : Setting → List ℕ → ℕ → Bool
 flagged s xs j = standsOut (reference s (window s xs j)) (powerOf (at xs j))
 
--- ---- runs, by the flags F
+-- ---- blocks and pauses; from here on by any flags F
+
+-- 'block length, fs rounded half away from zero'
+unfoldable pub blockLength : Float → ℕ
+blockLength fs = wholeBy roundDiv fs
+
+-- 'Block of j: j divided by block length'
+abbrev pub blockOf : Setting → ℕ → ℕ
+blockOf s j = j / s .block
+
+-- 'A block is paused exactly if the one before had more than 0.001 × block length flagged (f64).' Whether that one was paused plays no part.
+unfoldable pub pauses : ℕ → Bool → ℕ → Bool
+pauses block was n = lt (mul binary64 pauseFraction (ofInt binary64 (pos block))) (ofInt binary64 (pos n))
+
+unfoldable pub paused : ℕ → (ℕ → Bool) → ℕ → Bool
+paused block F zero = false
+paused block F (suc b) = pauses block (paused block F b) (count F (b * block) block)
+
+-- ---- what happens when j is judged: Log says what each of these marks
+
+pub data Event : Type 0 where
+  -- sample j lies in a paused block
+  uncertain : ℕ → Event
+  -- a run's start and length, and whether it was a long one
+  kept : ℕ → ℕ → Bool → Event
+  -- a run's start and length, and its originals
+  mended : ℕ → ℕ → List ℕ → Event
+
+-- 'Each judged j of a paused block is marked Uncertain.'
+abbrev pub doubtAt : Setting → (ℕ → Bool) → ℕ → List Event
+doubtAt s F j = cond (paused (s .block) F (blockOf s j)) (uncertain j ∷ []) []
+
+-- ---- runs
 
 -- how many flagged samples stand right before j
 unfoldable pub before : (ℕ → Bool) → ℕ → ℕ
@@ -84,34 +115,34 @@ start F j = j - before F j
 abbrev pub closes : (ℕ → Bool) → ℕ → Bool
 closes F j = not (F j) && ltb 0 (before F j)
 
--- ---- blocks
-
--- 'Block of j: j divided by block length'
-abbrev pub blockOf : Setting → ℕ → ℕ
-blockOf s j = j / s .block
-
--- 'A block is paused exactly if the one before had more than 0.001 × block length flagged (f64).' Whether that one was paused plays no part.
-unfoldable pub pauses : ℕ → Bool → ℕ → Bool
-pauses block was n = lt (mul binary64 pauseFraction (ofInt binary64 (pos block))) (ofInt binary64 (pos n))
-
-unfoldable pub paused : ℕ → (ℕ → Bool) → ℕ → Bool
-paused block F zero = false
-paused block F (suc b) = pauses block (paused block F b) (count F (b * block) block)
-
--- one of the n samples from a on lies in a paused block
+-- 'with any sample in a paused block': one of the n from a on
 unfoldable pub touches : Setting → (ℕ → Bool) → ℕ → ℕ → Bool
 touches s F a zero = false
 touches s F a (suc n) = touches s F a n || paused (s .block) F (blockOf s (a + n))
 
--- ---- how a run ends
-
--- 'Over 4: marked Flagged, long-run count plus 1. Else, observing or with any sample in a paused block: Flagged.' Else it is mended.
+-- applying, not over 4, and with no sample in a paused block
 abbrev pub mendable : Setting → Bool → ℕ → Bool
 mendable s touched n = s .apply && (leb n (s .run) && not touched)
 
--- the run that ends at j is mended
-unfoldable pub mends : Setting → (ℕ → Bool) → ℕ → Bool
-mends s F j = closes F j && mendable s (touches s F (start F j) (before F j)) (before F j)
+-- 'Over 4: marked Flagged, long-run count plus 1. Else, observing or with any sample in a paused block: Flagged. Else' it is mended.
+-- Of a run of n samples from a on.
+abbrev pub ending : Setting → Bool → ℕ → ℕ → List ℕ → Event
+ending s touched a n originals = cond (mendable s touched n) (mended a n originals) (kept a n (ltb (s .run) n))
+
+-- the run that ends at j, if one does: 'A run still open is unmarked.'
+abbrev pub endAt : Setting → (ℕ → Bool) → List ℕ → ℕ → List Event
+endAt s F xs j =
+    let a = start F j in
+    let n = before F j in
+    cond (closes F j) (ending s (touches s F a n) a n (take n (drop a xs)) ∷ []) []
+
+-- all that happens when j is judged, and when the first j are
+unfoldable pub eventsAt : Setting → (ℕ → Bool) → List ℕ → ℕ → List Event
+eventsAt s F xs j = doubtAt s F j ++ endAt s F xs j
+
+unfoldable pub events : Setting → (ℕ → Bool) → List ℕ → ℕ → List Event
+events s F xs zero = []
+events s F xs (suc j) = events s F xs j ++ eventsAt s F xs j
 
 -- ---- mending
 
@@ -124,48 +155,36 @@ unfoldable pub between : Complex → Complex → ℕ → ℕ → Complex
 between left right t n = sum binary32 left (scaled binary32 (difference binary32 right left) (fraction t n))
 
 -- 'left is the last raw unflagged sample before, or right if none': of a run that starts at a it stands right before a
-abbrev pub leftPlace : ℕ → ℕ
-leftPlace a = a - 1
-
 abbrev pub leftOf : List ℕ → ℕ → ℕ → ℕ
-leftOf xs a right = cond (eqb a 0) right (at xs (leftPlace a))
+leftOf xs a right = cond (eqb a 0) right (at xs (a - 1))
 
 -- sample k of the run that ends at j, mended
 unfoldable pub mendedAt : (ℕ → Bool) → List ℕ → ℕ → ℕ → ℕ
 mendedAt F xs j k = wordOf (between (sampleOf (leftOf xs (start F j) (at xs j))) (sampleOf (at xs j)) (k - start F j) (before F j))
 
+-- the run that ends at j is mended
+unfoldable pub mends : Setting → (ℕ → Bool) → ℕ → Bool
+mends s F j = closes F j && mendable s (touches s F (start F j) (before F j)) (before F j)
+
+-- where the run that k lies in ends: at the first from k on that is not flagged, or nowhere before J
+unfoldable pub endFrom : (ℕ → Bool) → ℕ → ℕ → ℕ
+endFrom F zero k = k
+endFrom F (suc t) k = let later = endFrom F t (suc k) in cond (F k) later k
+
+-- sample k when J are judged: mended if it lies in a run that is mended, else raw
+unfoldable pub mendedOrRaw : Setting → (ℕ → Bool) → List ℕ → ℕ → ℕ → ℕ
+mendedOrRaw s F xs J k =
+    let j = endFrom F (J - k) k in
+    cond (F k && (ltb j J && mends s F j)) (mendedAt F xs j k) (at xs k)
+
 -- k lies in the run that ends at j
 abbrev pub covers : (ℕ → Bool) → ℕ → ℕ → Bool
 covers F j k = leb (start F j) k && ltb k j
 
--- sample k as the stage hands it on, by the runs that end before J: mended if it lies in a mended one, and else raw
+-- the same, `mendedOrRaw`, by the runs that end before J, one after the other (`value-is` in Values)
 unfoldable pub value : Setting → (ℕ → Bool) → List ℕ → ℕ → ℕ → ℕ
 value s F xs zero k = at xs k
 value s F xs (suc j) k = let raw = value s F xs j k in cond (mends s F j && covers F j k) (mendedAt F xs j k) raw
-
--- ---- what happens when j is judged
-
-pub data Event : Type 0 where
-  -- sample j lies in a paused block
-  uncertain : ℕ → Event
-  -- a run's start and length, and whether it was a long one
-  kept : ℕ → ℕ → Bool → Event
-  -- a run's start and length, and its originals
-  mended : ℕ → ℕ → List ℕ → Event
-
-abbrev pub ending : Setting → Bool → ℕ → ℕ → List ℕ → Event
-ending s touched a n originals = cond (mendable s touched n) (mended a n originals) (kept a n (ltb (s .run) n))
-
-unfoldable pub eventsAt : Setting → (ℕ → Bool) → List ℕ → ℕ → List Event
-eventsAt s F xs j =
-    -- 'Each judged j of a paused block is marked Uncertain.'
-    cond (paused (s .block) F (blockOf s j)) (uncertain j ∷ []) []
-    ++ cond (closes F j) (ending s (touches s F (start F j) (before F j)) (start F j) (before F j) (take (before F j) (drop (start F j) xs)) ∷ []) []
-
--- in the order of j. 'A run still open is unmarked.'
-unfoldable pub events : Setting → (ℕ → Bool) → List ℕ → ℕ → List Event
-events s F xs zero = []
-events s F xs (suc j) = events s F xs j ++ eventsAt s F xs j
 
 -- ---- the whole input
 

@@ -5,7 +5,8 @@ use lib.IntN.{pos}
 use lib.Ieee.{Float, binary64, neg, sub, mul, div, lt, le, ofInt}
 use lib.Ieee.Scale.{finite}
 use Rattle.complex.specs.Complex.{Complex, sum, difference, product, power, quotient, oneMinus, onePlus, conjugate, unscaled, narrowedParts, wordOf, sampleOf}
-use Rattle.rules.specs.Constants.{zeroF, half, one, two, fortyFive, minusFortyFive, radiansPerDegree, coefficientMargin}
+use Rattle.rules.specs.Guard.{magnitude}
+use Rattle.rules.specs.Constants.{zeroF, oneHalf, one, two, fortyFive, minusFortyFive, radiansPerDegree, coefficientMargin}
 
 abbrev pub wholeF : ℕ → Float
 wholeF n = ofInt binary64 (pos n)
@@ -42,7 +43,7 @@ finitePositive x = finite x && lt zeroF x
 
 -- 'gain in 0.5..2, phase in −45..45 and finite centre above 0'
 abbrev pub gainFits : Calibration → Bool
-gainFits c = ranged half two (c .gain)
+gainFits c = ranged oneHalf two (c .gain)
 
 abbrev pub phaseFits : Calibration → Bool
 phaseFits c = ranged minusFortyFive fortyFive (c .phase)
@@ -77,21 +78,22 @@ pub data Calibrated : Type 0 where
 
 -- 'What the chain settles is one of off, observing, correcting with its coefficient, or withheld.'
 pub data Settled : Type 0 where
-  isOff observing withheld : Settled
-  correcting : Complex → Settled
+  Off Observing : Settled
+  Correcting : Complex → Settled
+  Withheld : Settled
 
 -- 'a finite receiver centre above 0 within 1.0 Hz inclusive'
 unfoldable pub centresAgree : Float → Float → Bool
-centresAgree calibrated receiver = finitePositive receiver && ranged (neg one) one (sub binary64 calibrated receiver)
+centresAgree calibrated receiver = finitePositive receiver && le (magnitude (sub binary64 calibrated receiver)) one
 
 abbrev pub correctable : Calibration → Float → Bool
 correctable c receiver = gainFits c && phaseFits c && centreFits c && centresAgree (c .centre) receiver
 
 unfoldable pub settled : Mode → Calibrated → Float → Settled
-settled off c receiver = isOff
-settled observe c receiver = observing
-settled apply none receiver = withheld
-settled apply (with c) receiver = let r = coefficient c in cond (correctable c receiver && accepted r) (correcting r) withheld
+settled off c receiver = Off
+settled observe c receiver = Observing
+settled apply none receiver = Withheld
+settled apply (with c) receiver = let r = coefficient c in cond (correctable c receiver && accepted r) (Correcting r) Withheld
 
 -- ---- correction and its undo
 
@@ -100,10 +102,10 @@ unfoldable pub corrected : Complex → ℕ → ℕ
 corrected r w = let m = sampleOf w in wordOf (narrowedParts (difference binary64 m (product binary64 r (conjugate m))))
 
 abbrev pub correctedBy : Settled → ℕ → ℕ
-correctedBy isOff w = w
-correctedBy observing w = w
-correctedBy withheld w = w
-correctedBy (correcting r) w = corrected r w
+correctedBy Off w = w
+correctedBy Observing w = w
+correctedBy Withheld w = w
+correctedBy (Correcting r) w = corrected r w
 
 -- 'IQ undo: (y + coefficient·conj y)/(1 − power).'
 unfoldable pub uncorrected : Complex → ℕ → ℕ

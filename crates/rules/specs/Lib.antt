@@ -10,6 +10,7 @@ pub mod Log
 pub mod Monitor
 pub mod Undo
 pub mod Refusals
+pub mod Answers
 pub mod Chain
 -- laws
 pub mod TestLaws

@@ -12,13 +12,13 @@ use Rattle.rules.specs.Lists.{at, indicator}
 -- where the oldest entry stands, how many entries there are, how many were dropped, and the words
 pub record Ring : Type 0 where
   pub head : ℕ
-  pub len : ℕ
+  pub count : ℕ
   pub dropped : ℕ
   pub words : List ℕ
 
 -- 'Making fills lent words with 0.'
 abbrev pub emptyRing : ℕ → Ring
-emptyRing size = record { head = 0; len = 0; dropped = 0; words = replicate size 0 }
+emptyRing size = record { head = 0; count = 0; dropped = 0; words = replicate size 0 }
 
 -- the words with those of an entry from place o on
 unfoldable pub write : List ℕ → ℕ → List ℕ → List ℕ
@@ -27,14 +27,14 @@ write ws o (e ∷ es) = write (set ws o e) (o + 1) es
 
 -- 'if full, the oldest goes and the dropped count rises'; 'dropping moves the head on by one, mod capacity too'
 unfoldable pub roomed : ℕ → Ring → Ring
-roomed cap r = cond (ltb (r .len) cap) r (record { head = (r .head + 1) % cap; len = r .len - 1; dropped = r .dropped + 1; words = r .words })
+roomed cap r = cond (ltb (r .count) cap) r (record { head = (r .head + 1) % cap; count = r .count - 1; dropped = r .dropped + 1; words = r .words })
 
 -- 'A ring writes at (head + count) mod capacity'
 abbrev pub nextPlace : ℕ → Ring → ℕ
-nextPlace cap r = (r .head + r .len) % cap
+nextPlace cap r = (r .head + r .count) % cap
 
 abbrev pub entered : ℕ → Ring → List ℕ → Ring
-entered cap r e = record { head = r .head; len = r .len + 1; dropped = r .dropped; words = write (r .words) (nextPlace cap r * length e) e }
+entered cap r e = record { head = r .head; count = r .count + 1; dropped = r .dropped; words = write (r .words) (nextPlace cap r * length e) e }
 
 -- one entry more, the oldest making room
 unfoldable pub append : ℕ → Ring → List ℕ → Ring
@@ -51,15 +51,15 @@ abbrev pub spanWords : Span → List ℕ
 spanWords m = m .start ∷ m .len ∷ []
 
 pub record Marks : Type 0 where
-  pub count : ℕ
+  pub samples : ℕ
   pub ring : Ring
 
 abbrev pub noMarks : ℕ → Marks
-noMarks cap = record { count = 0; ring = emptyRing (2 * cap) }
+noMarks cap = record { samples = 0; ring = emptyRing (2 * cap) }
 
 -- the place of the newest span, where there is one
 abbrev pub newestPlace : ℕ → Ring → ℕ
-newestPlace cap r = (r .head + (r .len - 1)) % cap
+newestPlace cap r = (r .head + (r .count - 1)) % cap
 
 abbrev pub startAt : Ring → ℕ → ℕ
 startAt r i = at (r .words) (i * 2)
@@ -69,14 +69,14 @@ lenAt r i = at (r .words) (i * 2 + 1)
 
 -- 'starting where the ring's newest span ends'
 unfoldable pub joins : ℕ → Ring → ℕ → Bool
-joins cap r s = ltb 0 (r .len) && eqb (startAt r (newestPlace cap r) + lenAt r (newestPlace cap r)) s
+joins cap r s = ltb 0 (r .count) && eqb (startAt r (newestPlace cap r) + lenAt r (newestPlace cap r)) s
 
 -- 'it lengthens that span'
 unfoldable pub lengthened : ℕ → Ring → ℕ → Ring
 lengthened cap r n =
     record {
       head = r .head;
-      len = r .len;
+      count = r .count;
       dropped = r .dropped;
       words = set (r .words) (newestPlace cap r * 2 + 1) (lenAt r (newestPlace cap r) + n);
     }
@@ -86,7 +86,7 @@ unfoldable pub mark : ℕ → Marks → Span → Marks
 mark cap r m =
     cond (eqb (m .len) 0) r
     (record {
-      count = r .count + m .len;
+      samples = r .samples + m .len;
       ring = cond (joins cap (r .ring) (m .start)) (lengthened cap (r .ring) (m .len)) (append cap (r .ring) (spanWords m));
     })
 
@@ -112,7 +112,7 @@ pub data Stage : Type 0 where
   impulse dc iq : Stage
 
 pub data Mark : Type 0 where
-  isRepaired isFlagged isCorrected isUncertain : Mark
+  Repaired Flagged Corrected Uncertain : Mark
 
 abbrev pub stageNumber : Stage → ℕ
 stageNumber impulse = 0
@@ -120,30 +120,30 @@ stageNumber dc = 1
 stageNumber iq = 2
 
 abbrev pub markNumber : Mark → ℕ
-markNumber isRepaired = 0
-markNumber isFlagged = 1
-markNumber isCorrected = 2
-markNumber isUncertain = 3
+markNumber Repaired = 0
+markNumber Flagged = 1
+markNumber Corrected = 2
+markNumber Uncertain = 3
 
 abbrev pub ringNumber : Stage → Mark → ℕ
 ringNumber s m = stageNumber s * 4 + markNumber m
 
--- ---- what the impulse stage's events mark
+-- ---- what the impulse stage's events mark: a mended run is 'marked Repaired and logged with its originals'
 
 abbrev pub spanOf : ℕ → ℕ → Span
 spanOf s n = record { start = s; len = n }
 
 abbrev pub marksOfEvent : Mark → Event → List Span
-marksOfEvent isRepaired (mended a n o) = spanOf a n ∷ []
-marksOfEvent isRepaired (kept a n l) = []
-marksOfEvent isRepaired (uncertain j) = []
-marksOfEvent isFlagged (mended a n o) = []
-marksOfEvent isFlagged (kept a n l) = spanOf a n ∷ []
-marksOfEvent isFlagged (uncertain j) = []
-marksOfEvent isCorrected e = []
-marksOfEvent isUncertain (mended a n o) = []
-marksOfEvent isUncertain (kept a n l) = []
-marksOfEvent isUncertain (uncertain j) = spanOf j 1 ∷ []
+marksOfEvent Repaired (mended a n o) = spanOf a n ∷ []
+marksOfEvent Repaired (kept a n l) = []
+marksOfEvent Repaired (uncertain j) = []
+marksOfEvent Flagged (mended a n o) = []
+marksOfEvent Flagged (kept a n l) = spanOf a n ∷ []
+marksOfEvent Flagged (uncertain j) = []
+marksOfEvent Corrected e = []
+marksOfEvent Uncertain (mended a n o) = []
+marksOfEvent Uncertain (kept a n l) = []
+marksOfEvent Uncertain (uncertain j) = spanOf j 1 ∷ []
 
 unfoldable pub marksOf : Mark → List Event → List Span
 marksOf m [] = []

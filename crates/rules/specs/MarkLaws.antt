@@ -26,13 +26,13 @@ newestEnd cap r = startAt r (newestPlace cap r) + lenAt r (newestPlace cap r)
 
 -- a ring whose newest span is the one of n samples that ends at e
 pub record Newest (cap : ℕ) (r : Ring) (e n : ℕ) : Type 0 where
-  pub some : 0 < r .len
+  pub some : 0 < r .count
   pub ends : newestEnd cap r ≡ e
   pub long : n ≤ lenAt r (newestPlace cap r)
 
 pub joins-at : (cap : ℕ) (r : Ring) (e n : ℕ) → Newest cap r e n → joins cap r e ≡ true
 unfolding joins
-joins-at cap r e n k = simp (lt-ltb 0 (r .len) (k .some), eq-eqb (newestEnd cap r) e (k .ends))
+joins-at cap r e n k = simp (lt-ltb 0 (r .count) (k .some), eq-eqb (newestEnd cap r) e (k .ends))
 
 pub joins-so : (cap : ℕ) (r : Ring) (s : ℕ) → joins cap r s ≡ true → Newest cap r s 0
 unfolding joins
@@ -40,7 +40,7 @@ joins-so cap r s e = let h = both _ _ e in record { some = ltb-true 0 _ (h .0); 
 
 module _ (cap : ℕ) (r : Ring) (k : Sound 2 cap r) where
   pub newest-fits : newestPlace cap r * 2 + 1 < length (r .words)
-  newest-fits = omega (arith, place-fits 2 cap (newestPlace cap r) (mod-lt (r .head + (r .len - 1)) (k .some)), k .long)
+  newest-fits = omega (arith, place-fits 2 cap (newestPlace cap r) (mod-lt (r .head + (r .count - 1)) (k .some)), k .long)
 
   lengthened-newest : (s n : ℕ) → Newest cap r s 0 → Newest cap (lengthened cap r n) (s + n) n
   unfolding lengthened
@@ -60,7 +60,7 @@ module _ (cap : ℕ) (r : Ring) (k : Sound 2 cap r) where
       let f : getD (set (r .words) (p * 2 + 1) l) (p * 2 + 1) 0 + b ≡ lenAt r p + (a + b) = omega arith in
       λ i. record {
         head = r .head;
-        len = r .len;
+        count = r .count;
         dropped = r .dropped;
         words = (ap (set (set (r .words) (p * 2 + 1) l) (p * 2 + 1)) f ∙ set-set (r .words) (p * 2 + 1) l (lenAt r p + (a + b))) i;
       }
@@ -68,12 +68,12 @@ module _ (cap : ℕ) (r : Ring) (k : Sound 2 cap r) where
   -- the span that was entered is the newest
   append-newest : (s n : ℕ) → newestPlace cap (append cap r (s ∷ n ∷ [])) ≡ nextPlace cap (roomed cap r)
   unfolding append
-  append-newest s n = let q = roomed cap r in ap (λ (x : ℕ). (q .head + x) % cap) (let e : q .len + 1 - 1 ≡ q .len = omega arith in e)
+  append-newest s n = let q = roomed cap r in ap (λ (x : ℕ). (q .head + x) % cap) (let e : q .count + 1 - 1 ≡ q .count = omega arith in e)
 
   entered-fits : nextPlace cap (roomed cap r) * 2 + 1 < length (roomed cap r .words)
   entered-fits =
       let h = roomed-sound 2 cap r k in
-      omega (arith, place-fits 2 cap (nextPlace cap (roomed cap r)) (mod-lt (roomed cap r .head + roomed cap r .len) (k .some)), h .sound .long)
+      omega (arith, place-fits 2 cap (nextPlace cap (roomed cap r)) (mod-lt (roomed cap r .head + roomed cap r .count) (k .some)), h .sound .long)
 
   -- its start and its length
   entered-start : (s n : ℕ) → let q = append cap r (s ∷ n ∷ []) in startAt q (newestPlace cap q) ≡ s
@@ -91,7 +91,7 @@ module _ (cap : ℕ) (r : Ring) (k : Sound 2 cap r) where
       let p = nextPlace cap q in
       rw (append-newest s n) (getD-set-same (set (q .words) (p * 2) s) (p * 2 + 1) n 0 (simp length-set entered-fits))
 
-  entered-some : (s n : ℕ) → 0 < append cap r (s ∷ n ∷ []) .len
+  entered-some : (s n : ℕ) → 0 < append cap r (s ∷ n ∷ []) .count
   unfolding append
   entered-some s n = omega arith
 
@@ -107,7 +107,7 @@ module _ (cap : ℕ) (r : Ring) (k : Sound 2 cap r) where
       let both = set one (p * 2 + 1) a in
       λ i. record {
         head = q .head;
-        len = q .len + 1;
+        count = q .count + 1;
         dropped = q .dropped;
         words =
             ((λ j. set both (append-newest s a j * 2 + 1) (ap (λ (n : ℕ). n + b) (entered-len s a) j))
@@ -138,7 +138,7 @@ module _ (cap : ℕ) (r : Ring) (k : Sound 2 cap r) where
         some = k .some;
         long = length-set (r .words) (newestPlace cap r * 2 + 1) (lenAt r (newestPlace cap r) + n) ∙ k .long;
         headIn = k .headIn;
-        lenIn = k .lenIn;
+        countIn = k .countIn;
       }
 
   pub spanned-sound : (s n : ℕ) → Sound 2 cap (spanned cap r s n)
@@ -168,7 +168,7 @@ mark-zero cap r s = refl
 
 -- what a mark of some length comes to
 abbrev pub grown : ℕ → Marks → Span → Marks
-grown cap r m = record { count = r .count + m .len; ring = spanned cap (r .ring) (m .start) (m .len) }
+grown cap r m = record { samples = r .samples + m .len; ring = spanned cap (r .ring) (m .start) (m .len) }
 
 -- what holds of both holds of a mark
 pub mark-cases : (P : Marks → Type 0) (cap : ℕ) (r : Marks) (m : Span) → (m .len ≡ 0 → P r) → (0 < m .len → P (grown cap r m)) → P (mark cap r m)
@@ -183,8 +183,8 @@ pub mark-some : (cap : ℕ) (r : Marks) (m : Span) → 0 < m .len → mark cap r
 mark-some cap r m h = mark-cases (λ q. q ≡ grown cap r m) cap r m (λ z. absurd (omega arith)) (λ z. refl)
 
 -- 'Another adds its length to its count'
-pub mark-count : (cap : ℕ) (r : Marks) (m : Span) → mark cap r m .count ≡ r .count + m .len
-mark-count cap r m = mark-cases (λ q. q .count ≡ r .count + m .len) cap r m (λ z. omega arith) (λ z. refl)
+pub mark-samples : (cap : ℕ) (r : Marks) (m : Span) → mark cap r m .samples ≡ r .samples + m .len
+mark-samples cap r m = mark-cases (λ q. q .samples ≡ r .samples + m .len) cap r m (λ z. omega arith) (λ z. refl)
 
 module _ (cap : ℕ) (r : Marks) (k : Sound 2 cap (r .ring)) where
   -- Marking twice, the second where the first ends, is marking once with the sum.
@@ -196,8 +196,8 @@ module _ (cap : ℕ) (r : Marks) (k : Sound 2 cap (r .ring)) where
       mark-cases (λ q. q ≡ mark cap r (spanOf s (a + b))) cap (grown cap r (spanOf s a)) (spanOf (s + a) b)
       (λ y. let e : a + b ≡ a = omega arith in rw e (sym (mark-some cap r (spanOf s a) z)))
       (λ y.
-      let e : r .count + a + b ≡ r .count + (a + b) = omega arith in
-      (λ i. record { count = e i; ring = spanned-join cap (r .ring) k s a b i }) ∙ sym (mark-some cap r (spanOf s (a + b)) (omega arith))))
+      let e : r .samples + a + b ≡ r .samples + (a + b) = omega arith in
+      (λ i. record { samples = e i; ring = spanned-join cap (r .ring) k s a b i }) ∙ sym (mark-some cap r (spanOf s (a + b)) (omega arith))))
 
   pub mark-sound : (m : Span) → Sound 2 cap (mark cap r m .ring)
   mark-sound m = mark-cases (λ q. Sound 2 cap (q .ring)) cap r m (λ z. k) (λ z. spanned-sound cap (r .ring) k (m .start) (m .len))
@@ -206,9 +206,9 @@ module _ (cap : ℕ) (r : Marks) (k : Sound 2 cap (r .ring)) where
   mark-drops m = mark-cases (λ q. q .ring .dropped ≤ r .ring .dropped + 1) cap r m (λ z. omega arith) (λ z. spanned-drops cap (r .ring) k (m .start) (m .len))
 
   -- no more spans are dropped than samples are marked
-  pub mark-dropped : (m : Span) → r .ring .dropped ≤ r .count → mark cap r m .ring .dropped ≤ mark cap r m .count
+  pub mark-dropped : (m : Span) → r .ring .dropped ≤ r .samples → mark cap r m .ring .dropped ≤ mark cap r m .samples
   mark-dropped m h =
-      mark-cases (λ q. q .ring .dropped ≤ q .count) cap r m (λ z. h) (λ z. omega (arith, spanned-drops cap (r .ring) k (m .start) (m .len)))
+      mark-cases (λ q. q .ring .dropped ≤ q .samples) cap r m (λ z. h) (λ z. omega (arith, spanned-drops cap (r .ring) k (m .start) (m .len)))
 
   -- a mark's span is the newest
   pub mark-newest : (m : Span) → 0 < m .len → Newest cap (mark cap r m .ring) (m .start + m .len) (m .len)
@@ -216,7 +216,7 @@ module _ (cap : ℕ) (r : Marks) (k : Sound 2 cap (r .ring)) where
 
 -- the newest span, if there is one, ends at b or before
 abbrev pub EndsBy : ℕ → ℕ → Ring → Type 0
-EndsBy cap b r = 0 < r .len → newestEnd cap r ≤ b
+EndsBy cap b r = 0 < r .count → newestEnd cap r ≤ b
 
 pub mark-ends : (cap : ℕ) (r : Marks) → Sound 2 cap (r .ring) → (m : Span) (b : ℕ) → EndsBy cap b (r .ring) → m .start + m .len ≤ b → EndsBy cap b (mark cap r m .ring)
 mark-ends cap r k m b h f =
@@ -236,19 +236,19 @@ AllEndBy b ms = All (λ m. m .start + m .len ≤ b) ms
 -- what marks from a sound ring keep
 pub record Kept (cap : ℕ) (r q : Marks) (ms : List Span) : Type 0 where
   pub sound : Sound 2 cap (q .ring)
-  pub count : q .count ≡ r .count + lengths ms
+  pub samples : q .samples ≡ r .samples + lengths ms
   pub drops : q .ring .dropped ≤ r .ring .dropped + length ms
-  pub dropped : r .ring .dropped ≤ r .count → q .ring .dropped ≤ q .count
+  pub dropped : r .ring .dropped ≤ r .samples → q .ring .dropped ≤ q .samples
   pub ends : (b : ℕ) → EndsBy cap b (r .ring) → AllEndBy b ms → EndsBy cap b (q .ring)
 
 pub marks-kept : (cap : ℕ) (r : Marks) (ms : List Span) → Sound 2 cap (r .ring) → Kept cap r (foldl (mark cap) r ms) ms
 unfolding lengths
-marks-kept cap r [] k = record { sound = k; count = omega arith; drops = omega arith; dropped = λ h. h; ends = λ b h a. h }
+marks-kept cap r [] k = record { sound = k; samples = omega arith; drops = omega arith; dropped = λ h. h; ends = λ b h a. h }
 marks-kept cap r (m ∷ ms) k =
     let t = marks-kept cap (mark cap r m) ms (mark-sound cap r k m) in
     record {
       sound = t .sound;
-      count = omega (arith, t .count, mark-count cap r m);
+      samples = omega (arith, t .samples, mark-samples cap r m);
       drops = omega (arith, t .drops, mark-drops cap r k m);
       dropped = λ h. t .dropped (mark-dropped cap r k m h);
       ends = λ b h a. t .ends b (mark-ends cap r k m b h (a .0)) (a .1);
@@ -269,11 +269,11 @@ marked-kept cap ms h = marks-kept cap (noMarks cap) ms (empty-sound 2 cap h)
 pub marked-sound : (cap : ℕ) (ms : List Span) → 0 < cap → Sound 2 cap (marked cap ms .ring)
 marked-sound cap ms h = marked-kept cap ms h .sound
 
-pub marked-count : (cap : ℕ) (ms : List Span) → 0 < cap → marked cap ms .count ≡ lengths ms
-marked-count cap ms h = omega (arith, marked-kept cap ms h .count)
+pub marked-samples : (cap : ℕ) (ms : List Span) → 0 < cap → marked cap ms .samples ≡ lengths ms
+marked-samples cap ms h = omega (arith, marked-kept cap ms h .samples)
 
 pub marked-dropped : (cap : ℕ) (ms : List Span) → 0 < cap → marked cap ms .ring .dropped ≤ lengths ms
-marked-dropped cap ms h = omega (arith, marked-kept cap ms h .dropped (omega arith), marked-count cap ms h)
+marked-dropped cap ms h = omega (arith, marked-kept cap ms h .dropped (omega arith), marked-samples cap ms h)
 
 pub marked-ends : (cap : ℕ) (ms : List Span) (b : ℕ) → 0 < cap → AllEndBy b ms → EndsBy cap b (marked cap ms .ring)
 marked-ends cap ms b h a = marked-kept cap ms h .ends b (λ z. absurd (omega arith)) a

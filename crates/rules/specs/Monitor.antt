@@ -7,7 +7,7 @@ use lib.ListN.{length, getD, replicate}
 use lib.Ieee.{Float, binary64, add, mul, div, lt, le}
 use Rattle.ieee.specs.Whole.{ceilDiv, wholeBy}
 use Rattle.complex.specs.Complex.{Complex, product, power, sampleOf}
-use Rattle.rules.specs.Constants.{zeroF, half, one, five, thousand, mirrorRatio}
+use Rattle.rules.specs.Constants.{zeroF, oneHalf, one, five, thousand, mirrorRatio}
 use Rattle.rules.specs.Lists.{at, upTo}
 use Rattle.rules.specs.Log.{Span, spanOf}
 use Rattle.rules.specs.Sort.{sort}
@@ -76,7 +76,7 @@ strongest n P (suc k) = let best = strongest n P k in cond (eligible n k) (stron
 unfoldable pub floorOf : List Float → Float
 floorOf ps =
     let s = sort lt ps in
-    mul binary64 (add binary64 (getD s ((length ps - 1) / 2) zeroF) (getD s (length ps / 2) zeroF)) half
+    mul binary64 (add binary64 (getD s ((length ps - 1) / 2) zeroF) (getD s (length ps / 2) zeroF)) oneHalf
 
 abbrev pub clampedToOne : Float → Float
 clampedToOne x = cond (lt x zeroF) zeroF (cond (lt one x) one x)
@@ -135,9 +135,9 @@ abbrev pub windowStart : List Hop → ℕ
 windowStart [] = 0
 windowStart (h ∷ hs) = h .start
 
--- 'When end − first ≥ max(1, ceiling of 5·fs), it reports': the hop h is the newest of the window w
+-- 'When end − first ≥ max(1, ceiling of 5·fs), it reports': the hop h is the newest of the window w, and `enough` is that length
 abbrev pub due : ℕ → ℕ → List Hop → Hop → Bool
-due n length w h = leb length (hopEnd n h - windowStart (w ++ (h ∷ [])))
+due n enough w h = leb enough (hopEnd n h - windowStart (w ++ (h ∷ [])))
 
 abbrev pub reportOf : ℕ → List Hop → Hop → Report
 reportOf n w h =
@@ -151,26 +151,26 @@ pub data Answer : Type 0 where
 
 -- the answer to the hop h, after the hops w of the window that is open
 abbrev pub answerTo : ℕ → ℕ → List Hop → Hop → Answer
-answerTo n length w h = cond (due n length w h) (report (reportOf n w h)) noReport
+answerTo n enough w h = cond (due n enough w h) (report (reportOf n w h)) noReport
 
 -- 'it reports and starts afresh'
 abbrev pub nextWindow : ℕ → ℕ → List Hop → Hop → List Hop
-nextWindow n length w h = cond (due n length w h) [] (w ++ (h ∷ []))
+nextWindow n enough w h = cond (due n enough w h) [] (w ++ (h ∷ []))
 
 -- the answers to hops, and the window that is open after them
 unfoldable pub answers : ℕ → ℕ → List Hop → List Hop → List Answer
-answers n length w [] = []
-answers n length w (h ∷ hs) = answerTo n length w h ∷ answers n length (nextWindow n length w h) hs
+answers n enough w [] = []
+answers n enough w (h ∷ hs) = answerTo n enough w h ∷ answers n enough (nextWindow n enough w h) hs
 
 unfoldable pub openWindow : ℕ → ℕ → List Hop → List Hop → List Hop
-openWindow n length w [] = w
-openWindow n length w (h ∷ hs) = openWindow n length (nextWindow n length w h) hs
+openWindow n enough w [] = w
+openWindow n enough w (h ∷ hs) = openWindow n enough (nextWindow n enough w h) hs
 
 -- 'Its lent f64 words are n powers, n real and n imaginary product sums, and n for sorting that an accepted hop leaves 0; a report leaves all 0.'
 unfoldable pub monitorWords : ℕ → List Hop → List Float
 monitorWords n w = upTo (powerSum w) n ++ (upTo (realSum n w) n ++ (upTo (imagSum n w) n ++ replicate n zeroF))
 
--- 'A suspected window is marked Uncertain only while observing.'
+-- the suspected windows, as spans
 abbrev pub suspectedSpan : Answer → List Span
 suspectedSpan noReport = []
 suspectedSpan (report r) = cond (r .suspected) (spanOf (r .start) (r .end - r .start) ∷ []) []

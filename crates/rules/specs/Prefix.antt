@@ -10,7 +10,7 @@ use lib.ListN.{length, drop, length-append, length-drop, List·getD-append}
 use lib.Seq.{take-append-le, drop-append-le}
 use Rattle.complex.specs.Complex.{wordOf, sampleOf}
 use Rattle.rules.specs.Lists.{at, count}
-use Rattle.rules.specs.Impulse.{Setting, lookahead, flagged, judged, before, start, blockOf, paused, touches, mends, between, leftPlace, leftOf, mendedAt, value, eventsAt, events}
+use Rattle.rules.specs.Impulse.{Setting, lookahead, flagged, judged, before, start, blockOf, paused, touches, mends, between, leftOf, mendedAt, value, eventsAt, events}
 use Rattle.rules.specs.Runs.{before-le, value-fixed}
 
 -- ---- flags that agree below J
@@ -53,9 +53,9 @@ module _ (s : Setting) (F G : ℕ → Bool) (xs ys : List ℕ) (J : ℕ) (same :
   left-same : (a right : ℕ) → a < J → leftOf xs a right ≡ leftOf ys a right
   left-same a right h = go (eqb a 0)
     where
-      go : (b : Bool) → cond b right (at xs (leftPlace a)) ≡ cond b right (at ys (leftPlace a))
+      go : (b : Bool) → cond b right (at xs (a - 1)) ≡ cond b right (at ys (a - 1))
       go true = refl
-      go false = alike (leftPlace a) (omega arith)
+      go false = alike (a - 1) (omega arith)
 
   mended-same : (j k : ℕ) → j < J → mendedAt F xs j k ≡ mendedAt G ys j k
   unfolding mendedAt

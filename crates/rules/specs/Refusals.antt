@@ -1,12 +1,31 @@
 -- Document 01, 'When the conditioner declines': the causes that speak of plain input, as tests with their numbers. Definitions only.
+--
+-- Where each cause stands. Limits are in Constants. A path is crates/NAME/specs/FILE.
+--   1, 2, 3, 4      badRate, badSize, badCapacity, badLength
+--   5               state/Causes badState, by state/Fits stateFits, whose rings are tested by log/Check logFits
+--     lent words    state/Causes badSpans (a call, a hop), hops/Hops badWords (a hop), undo/Undoing badRecords (repair undo)
+--   6               shortSlice
+--   7               anyUnusable, with its place unusableAt; anyBeyond, with firstBeyondFrom
+--   8, 9, 10        tooMany, badStart, unfitCoefficient
+--   11, 12, 13      badGain, badPhase, badCentre
+--   14, 15          recording/Format badHeader, noSample
+-- Where each operation's order stands.
+--   making          makingRefusal; 'all off answers nothing' first: making/Making makingSaid
+--   a call          chain/Calls callRefusal
+--   a hop           hops/Hops hopRefusal, then hopTold: IQ off, and image/Observe hopSaid
+--   repair undo     undo/Undoing undoRefusal
+--   IQ undo         iqUndoRefusal
+--   DC undo         dcUndoRefusal
+--   validation      validation
+--   replay          recording/Format startRefusal, then making: starting/Starting startSaid
 use mathlib.Core.Bool.{Bool, not, _&&_, _||_, cond}
 use mathlib.Core.List.{List, [], _∷_}
-use Prim.Native.Nat.{ℕ, suc, _+_, _*_, _^_}
+use Prim.Native.Nat.{ℕ, suc, _+_, _*_}
 use lib.Dec.{ltb, eqb}
 use lib.ListN.{length}
 use lib.Ieee.{Float, le}
 use Rattle.complex.specs.Complex.{Complex, sampleOf}
-use Rattle.rules.specs.Constants.{one, rateLimit, partLimit}
+use Rattle.rules.specs.Constants.{one, rateLimit, partLimit, sizeLimit, spanLimit, repairLimit, totalLimit}
 use Rattle.rules.specs.Guard.{magnitude, firstUnusableFrom}
 use Rattle.rules.specs.Iq.{Calibration, gainFits, phaseFits, centreFits, accepted, ranged}
 
@@ -26,11 +45,11 @@ badRate fs = record { holds = not (ranged one rateLimit fs); number = 1 }
 
 -- 'n above 2048'
 abbrev pub badSize : ℕ → Cause
-badSize n = record { holds = ltb 2048 n; number = 2 }
+badSize n = record { holds = ltb sizeLimit n; number = 2 }
 
 -- 'Capacities (added): spans 1..256, repairs 1..4096.'
 abbrev pub badCapacity : ℕ → ℕ → Cause
-badCapacity spans repairs = record { holds = eqb spans 0 || ltb 256 spans || eqb repairs 0 || ltb 4096 repairs; number = 3 }
+badCapacity spans repairs = record { holds = eqb spans 0 || ltb spanLimit spans || eqb repairs 0 || ltb repairLimit repairs; number = 3 }
 
 -- 'lent length not 6·repairs, 24·spans, 4·n, or output unequal'
 abbrev pub badLength : ℕ → ℕ → Cause
@@ -60,11 +79,11 @@ anyBeyond ws = record { holds = ltb (firstBeyondFrom 0 ws) (length ws); number =
 
 -- 'total above 2^48'
 abbrev pub tooMany : ℕ → ℕ → Cause
-tooMany seen new = record { holds = ltb (2 ^ 48) (seen + new); number = 8 }
+tooMany seen new = record { holds = ltb totalLimit (seen + new); number = 8 }
 
 -- 'hop start above 2^48 or before the last hop's end'
 abbrev pub badStart : ℕ → ℕ → Cause
-badStart end start = record { holds = ltb (2 ^ 48) start || ltb start end; number = 9 }
+badStart end start = record { holds = ltb totalLimit start || ltb start end; number = 9 }
 
 -- 'coefficient unfit'
 abbrev pub unfitCoefficient : Complex → Cause

@@ -88,28 +88,28 @@ pub record Sound (width cap : ℕ) (r : Ring) : Type 0 where
   pub some : 0 < cap
   pub long : length (r .words) ≡ width * cap
   pub headIn : r .head < cap
-  pub lenIn : r .len ≤ cap
+  pub countIn : r .count ≤ cap
 
 pub empty-sound : (width cap : ℕ) → 0 < cap → Sound width cap (emptyRing (width * cap))
-empty-sound width cap h = record { some = h; long = length-replicate (width * cap) 0; headIn = h; lenIn = omega arith }
+empty-sound width cap h = record { some = h; long = length-replicate (width * cap) 0; headIn = h; countIn = omega arith }
 
 -- room was made: the ring is sound and not full, and at most one entry went
 pub record HasRoom (width cap : ℕ) (r q : Ring) : Type 0 where
   pub sound : Sound width cap q
-  pub room : q .len < cap
+  pub room : q .count < cap
   pub same : q .words ≡ r .words
   pub drops : q .dropped ≤ r .dropped + 1
 
 pub roomed-sound : (width cap : ℕ) (r : Ring) → Sound width cap r → HasRoom width cap r (roomed cap r)
 unfolding roomed
-roomed-sound width cap r k = go (ltb (r .len) cap) refl
+roomed-sound width cap r k = go (ltb (r .count) cap) refl
   where
-    go : (b : Bool) → ltb (r .len) cap ≡ b → HasRoom width cap r (cond b r (record { head = (r .head + 1) % cap; len = r .len - 1; dropped = r .dropped + 1; words = r .words }))
+    go : (b : Bool) → ltb (r .count) cap ≡ b → HasRoom width cap r (cond b r (record { head = (r .head + 1) % cap; count = r .count - 1; dropped = r .dropped + 1; words = r .words }))
     go true e = record { sound = k; room = ltb-true _ _ e; same = refl; drops = omega arith }
     go false e =
         record {
-          sound = record { some = k .some; long = k .long; headIn = mod-lt _ (k .some); lenIn = omega (arith, k .lenIn) };
-          room = omega (arith, k .lenIn, k .some);
+          sound = record { some = k .some; long = k .long; headIn = mod-lt _ (k .some); countIn = omega (arith, k .countIn) };
+          room = omega (arith, k .countIn, k .some);
           same = refl;
           drops = omega arith;
         }
@@ -123,7 +123,7 @@ append-sound width cap r e k =
       some = k .some;
       long = length-write (q .words) (nextPlace cap q * length e) e ∙ h .sound .long;
       headIn = h .sound .headIn;
-      lenIn = omega (arith, h .room);
+      countIn = omega (arith, h .room);
     }
 
 pub append-drops : (width cap : ℕ) (r : Ring) (e : List ℕ) → Sound width cap r → append cap r e .dropped ≤ r .dropped + 1
@@ -143,17 +143,17 @@ filled-sound width cap r [] k = k
 filled-sound width cap r (e ∷ es) k = filled-sound width cap (append cap r e) es (append-sound width cap r e k)
 
 -- while there is room, nothing is dropped and the oldest entry stays where it is
-pub append-room : (cap : ℕ) (r : Ring) (e : List ℕ) → r .len < cap → append cap r e ≡ entered cap r e
+pub append-room : (cap : ℕ) (r : Ring) (e : List ℕ) → r .count < cap → append cap r e ≡ entered cap r e
 unfolding append roomed
-append-room cap r e h = rw (lt-ltb (r .len) cap h)
+append-room cap r e h = rw (lt-ltb (r .count) cap h)
 
 pub record Unwrapped (r q : Ring) (n : ℕ) : Type 0 where
   pub head : q .head ≡ r .head
-  pub len : q .len ≡ r .len + n
+  pub count : q .count ≡ r .count + n
   pub dropped : q .dropped ≡ r .dropped
 
-pub filled-unwrapped : (cap : ℕ) (r : Ring) (es : List (List ℕ)) → r .len + length es ≤ cap → Unwrapped r (filled cap r es) (length es)
-filled-unwrapped cap r [] h = record { head = refl; len = omega arith; dropped = refl }
+pub filled-unwrapped : (cap : ℕ) (r : Ring) (es : List (List ℕ)) → r .count + length es ≤ cap → Unwrapped r (filled cap r es) (length es)
+filled-unwrapped cap r [] h = record { head = refl; count = omega arith; dropped = refl }
 filled-unwrapped cap r (e ∷ es) h =
     let k = filled-unwrapped cap (entered cap r e) es (omega arith) in
-    rw (append-room cap r e (omega arith)) (record { head = k .head; len = omega (arith, k .len); dropped = k .dropped })
+    rw (append-room cap r e (omega arith)) (record { head = k .head; count = omega (arith, k .count); dropped = k .dropped })

@@ -35,15 +35,15 @@ upTo-map g f (suc n) = map-append g (upTo f n) (f n ∷ []) ∙ ap (λ l. l ++ (
 
 -- oldest first
 unfoldable pub entriesOf : ℕ → ℕ → Ring → List (List ℕ)
-entriesOf width cap r = upTo (λ i. entryAt width (r .words) ((r .head + i) % cap)) (r .len)
+entriesOf width cap r = upTo (λ i. entryAt width (r .words) ((r .head + i) % cap)) (r .count)
 
 -- one more; the oldest goes when there are as many as there is room for
 abbrev pub appended : {A : Type 0} → ℕ → List A → A → List A
 appended cap l a = cond (ltb (length l) cap) l (drop 1 l) ++ (a ∷ [])
 
-pub length-entries : (width cap : ℕ) (r : Ring) → length (entriesOf width cap r) ≡ r .len
+pub length-entries : (width cap : ℕ) (r : Ring) → length (entriesOf width cap r) ≡ r .count
 unfolding entriesOf
-length-entries width cap r = length-upTo (λ i. entryAt width (r .words) ((r .head + i) % cap)) (r .len)
+length-entries width cap r = length-upTo (λ i. entryAt width (r .words) ((r .head + i) % cap)) (r .count)
 
 pub empty-entries : (width cap size : ℕ) → entriesOf width cap (emptyRing size) ≡ []
 unfolding entriesOf upTo
@@ -73,16 +73,16 @@ places-differ cap h i n a b e =
     turn cap (h + i) (n - i) (omega arith) (omega arith) (sym (ap (λ (m : ℕ). m % cap) q) ∙ sym e)
 
 -- where there is room, the new entry is behind the others
-module _ (width cap : ℕ) (r : Ring) (e : List ℕ) (k : Sound width cap r) (n : length e ≡ width) (room : r .len < cap) where
+module _ (width cap : ℕ) (r : Ring) (e : List ℕ) (k : Sound width cap r) (n : length e ≡ width) (room : r .count < cap) where
   entered-entries : entriesOf width cap (entered cap r e) ≡ entriesOf width cap r ++ (e ∷ [])
   unfolding entriesOf upTo
   entered-entries =
       let ws = write (r .words) (nextPlace cap r * length e) e in
-      rw (add-one (r .len))
+      rw (add-one (r .count))
       (λ j.
-      upTo-same (λ i. entryAt width ws ((r .head + i) % cap)) (λ i. entryAt width (r .words) ((r .head + i) % cap)) (r .len)
-      (λ i h. entry-kept width (r .words) e (nextPlace cap r) ((r .head + i) % cap) n (places-differ cap (r .head) i (r .len) h room)) j
-      ++ (entry-written width cap (r .words) e (nextPlace cap r) (k .long) n (mod-lt (r .head + r .len) (k .some)) j ∷ []))
+      upTo-same (λ i. entryAt width ws ((r .head + i) % cap)) (λ i. entryAt width (r .words) ((r .head + i) % cap)) (r .count)
+      (λ i h. entry-kept width (r .words) e (nextPlace cap r) ((r .head + i) % cap) n (places-differ cap (r .head) i (r .count) h room)) j
+      ++ (entry-written width cap (r .words) e (nextPlace cap r) (k .long) n (mod-lt (r .head + r .count) (k .some)) j ∷ []))
 
 -- from the second on
 pub behind-first : {A : Type 0} (E : ℕ → A) (cap h n : ℕ) → upTo (λ i. E (((h + 1) % cap + i) % cap)) n ≡ drop 1 (upTo (λ i. E ((h + i) % cap)) (suc n))
@@ -91,21 +91,21 @@ behind-first E cap h n =
     (λ i l. ap E (mod-add-mod (h + 1) cap i ∙ ap (λ (m : ℕ). m % cap) (let q : h + 1 + i ≡ h + suc i = omega arith in q)))
     ∙ sym (ap (drop 1) (upTo-front (λ i. E ((h + i) % cap)) n))
 
-roomed-entries : (width cap : ℕ) (r : Ring) → 0 < cap → entriesOf width cap (roomed cap r) ≡ cond (ltb (r .len) cap) (entriesOf width cap r) (drop 1 (entriesOf width cap r))
+roomed-entries : (width cap : ℕ) (r : Ring) → 0 < cap → entriesOf width cap (roomed cap r) ≡ cond (ltb (r .count) cap) (entriesOf width cap r) (drop 1 (entriesOf width cap r))
 unfolding entriesOf roomed
-roomed-entries width cap r k = go (ltb (r .len) cap) refl
+roomed-entries width cap r k = go (ltb (r .count) cap) refl
   where
     E : ℕ → List ℕ
     E i = entryAt width (r .words) i
 
-    go : (b : Bool) → ltb (r .len) cap ≡ b
-        → (let q = cond b r (record { head = (r .head + 1) % cap; len = r .len - 1; dropped = r .dropped + 1; words = r .words }) in upTo (λ i. entryAt width (q .words) ((q .head + i) % cap)) (q .len))
-        ≡ cond b (upTo (λ i. E ((r .head + i) % cap)) (r .len)) (drop 1 (upTo (λ i. E ((r .head + i) % cap)) (r .len)))
+    go : (b : Bool) → ltb (r .count) cap ≡ b
+        → (let q = cond b r (record { head = (r .head + 1) % cap; count = r .count - 1; dropped = r .dropped + 1; words = r .words }) in upTo (λ i. entryAt width (q .words) ((q .head + i) % cap)) (q .count))
+        ≡ cond b (upTo (λ i. E ((r .head + i) % cap)) (r .count)) (drop 1 (upTo (λ i. E ((r .head + i) % cap)) (r .count)))
     go true e = refl
     go false e =
-        let full = ltb-false (r .len) cap e in
-        behind-first E cap (r .head) (r .len - 1)
-        ∙ ap (λ (n : ℕ). drop 1 (upTo (λ i. E ((r .head + i) % cap)) n)) (let q : suc (r .len - 1) ≡ r .len = omega arith in q)
+        let full = ltb-false (r .count) cap e in
+        behind-first E cap (r .head) (r .count - 1)
+        ∙ ap (λ (n : ℕ). drop 1 (upTo (λ i. E ((r .head + i) % cap)) n)) (let q : suc (r .count - 1) ≡ r .count = omega arith in q)
 
 -- Appending in the words is appending to the list of entries.
 pub append-entries : (width cap : ℕ) (r : Ring) (e : List ℕ) → Sound width cap r → length e ≡ width
@@ -180,7 +180,7 @@ spanIn ws i = spanOf (at ws (i * 2)) (at ws (i * 2 + 1))
 
 -- oldest first
 unfoldable pub spansOf : ℕ → Ring → List Span
-spansOf cap r = upTo (λ i. spanIn (r .words) ((r .head + i) % cap)) (r .len)
+spansOf cap r = upTo (λ i. spanIn (r .words) ((r .head + i) % cap)) (r .count)
 
 -- the newest span ends at s
 abbrev pub endsAt : List Span → ℕ → Bool
@@ -222,13 +222,13 @@ pub spans-entries : (cap : ℕ) (r : Ring) → spansOf cap r ≡ map entrySpan (
 unfolding spansOf entriesOf
 spans-entries cap r =
     sym
-    (upTo-map entrySpan (λ i. entryAt 2 (r .words) ((r .head + i) % cap)) (r .len)
-    ∙ upTo-same (λ i. entrySpan (entryAt 2 (r .words) ((r .head + i) % cap))) (λ i. spanIn (r .words) ((r .head + i) % cap)) (r .len)
+    (upTo-map entrySpan (λ i. entryAt 2 (r .words) ((r .head + i) % cap)) (r .count)
+    ∙ upTo-same (λ i. entrySpan (entryAt 2 (r .words) ((r .head + i) % cap))) (λ i. spanIn (r .words) ((r .head + i) % cap)) (r .count)
     (λ i h. span-entry (r .words) ((r .head + i) % cap)))
 
-pub length-spans : (cap : ℕ) (r : Ring) → length (spansOf cap r) ≡ r .len
+pub length-spans : (cap : ℕ) (r : Ring) → length (spansOf cap r) ≡ r .count
 unfolding spansOf
-length-spans cap r = length-upTo (λ i. spanIn (r .words) ((r .head + i) % cap)) (r .len)
+length-spans cap r = length-upTo (λ i. spanIn (r .words) ((r .head + i) % cap)) (r .count)
 
 map-behind : {A B : Type 0} (g : A → B) (l : List A) → map g (drop 1 l) ≡ drop 1 (map g l)
 map-behind g [] = refl
@@ -291,11 +291,11 @@ module _ (cap : ℕ) (ws : List ℕ) (h : ℕ) where
 -- joining is the newest span's end
 pub joins-ends : (cap : ℕ) (r : Ring) (s : ℕ) → joins cap r s ≡ endsAt (spansOf cap r) s
 unfolding joins spansOf
-joins-ends cap r s = ends-by cap (r .words) (r .head) (r .len) s
+joins-ends cap r s = ends-by cap (r .words) (r .head) (r .count) s
 
 lengthened-spans : (cap : ℕ) (r : Ring) (n : ℕ) → Sound 2 cap r → spansOf cap (lengthened cap r n) ≡ longer (spansOf cap r) n
 unfolding lengthened spansOf
-lengthened-spans cap r n k = longer-by cap (r .words) (r .head) (r .len) n (k .lenIn) (newest-fits cap r k)
+lengthened-spans cap r n k = longer-by cap (r .words) (r .head) (r .count) n (k .countIn) (newest-fits cap r k)
 
 spanned-spans : (cap : ℕ) (r : Ring) (m : Span) → Sound 2 cap r
     → spansOf cap (spanned cap r (m .start) (m .len)) ≡ cond (endsAt (spansOf cap r) (m .start)) (longer (spansOf cap r) (m .len)) (appended cap (spansOf cap r) m)

@@ -9,7 +9,7 @@ use Rattle.rules.specs.Log.{Ring, repairWidth}
 
 -- the records that a repair ring holds, oldest first
 unfoldable pub heldRecords : ℕ → Ring → List (List ℕ)
-heldRecords cap r = upTo (λ i. take repairWidth (drop ((r .head + i) % cap * repairWidth) (r .words))) (r .len)
+heldRecords cap r = upTo (λ i. take repairWidth (drop ((r .head + i) % cap * repairWidth) (r .words))) (r .count)
 
 -- 'those outside the slice are skipped': the slice ys begins with sample `first`
 abbrev pub returned : ℕ → List ℕ → ℕ → ℕ → List ℕ

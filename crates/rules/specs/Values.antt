@@ -1,55 +1,63 @@
--- What `value` means: mended in a mended run, raw elsewhere; and the same as one closed expression, with no pass over the runs. Assumes nothing.
+-- What `value` means: mended in a run that is mended, else raw. Assumes nothing.
 use mathlib.Core.Path.{_≡_, refl, ap, sym, _∙_, subst}
 use mathlib.Core.Bool.{Bool, true, false, cond, _&&_, false≢true}
 use mathlib.Core.List.{List}
 use Prim.Native.Nat.{ℕ, zero, suc, _+_, _-_, _≤_, _<_}
+use native.Mathlib.Decide.{decLt, ℕ-discrete}
 use native.Mathlib.Omega.{arith}
 use lib.Dec.{ltb}
 use borrow.Author.Tests.{ltb-true, lt-ltb, le-leb}
 use Rattle.rules.specs.Lists.{at}
-use Rattle.rules.specs.Impulse.{Setting, before, start, mends, mendedAt, covers, value}
-use Rattle.rules.specs.Runs.{before-on, run-flagged, hit-says, value-hit, value-miss, value-missed}
+use Rattle.rules.specs.Impulse.{Setting, start, mends, mendedAt, endFrom, mendedOrRaw, covers, value}
+use Rattle.rules.specs.TestLaws.{both}
+use Rattle.rules.specs.Runs.{start-on, run-flagged, hit-says, value-hit, value-miss, value-missed}
 
--- ---- how far a run goes on
+-- ---- where a run ends
 
 module _ (F : ℕ → Bool) where
-  -- how many flagged stand from k on, of at most t
-  unfoldable pub ahead : ℕ → ℕ → ℕ
-  ahead zero k = 0
-  ahead (suc t) k = cond (F k) (suc (ahead t (suc k))) 0
-
-  ahead-pos : (t k : ℕ) → F k ≡ true → 0 < ahead (suc t) k
-  unfolding ahead
-  ahead-pos t k e = rw e (omega arith)
-
-  ahead-flagged : (t k i : ℕ) → i < ahead t k → F (k + i) ≡ true
-  unfolding ahead
-  ahead-flagged zero k i h = absurd (omega arith)
-  ahead-flagged (suc t) k i h = go (F k) refl i h (λ n q. ahead-flagged t (suc k) n q)
+  end-after : (t k : ℕ) → k ≤ endFrom F t k
+  unfolding endFrom
+  end-after zero k = omega arith
+  end-after (suc t) k = go (F k) (end-after t (suc k))
     where
-      go : (b : Bool) → F k ≡ b → (i : ℕ) → i < cond b (suc (ahead t (suc k))) 0 → ((n : ℕ) → n < ahead t (suc k) → F (suc k + n) ≡ true) → F (k + i) ≡ true
-      go true e zero h r = ap F (let q : k + 0 ≡ k = omega arith in q) ∙ e
-      go true e (suc i) h r = ap F (let q : k + suc i ≡ suc k + i = omega arith in q) ∙ r i (omega arith)
-      go false e i h r = absurd (omega arith)
+      go : (b : Bool) → suc k ≤ endFrom F t (suc k) → k ≤ cond b (endFrom F t (suc k)) k
+      go true h = omega arith
+      go false h = omega arith
 
-  -- flagged up to an unflagged one
-  ahead-is : (t k n : ℕ) → n < t → ((i : ℕ) → i < n → F (k + i) ≡ true) → F (k + n) ≡ false → ahead t k ≡ n
-  unfolding ahead
-  ahead-is zero k n h on off = absurd (omega arith)
-  ahead-is (suc t) k zero h on off = rw (ap F (let q : k ≡ k + 0 = omega arith in q) ∙ off)
-  ahead-is (suc t) k (suc n) h on off =
-      rw (ap F (let q : k ≡ k + 0 = omega arith in q) ∙ on 0 (omega arith))
-      (ap suc
-      (ahead-is t (suc k) n (omega arith) (λ i q. ap F (let z : suc k + i ≡ k + suc i = omega arith in z) ∙ on (suc i) (omega arith))
-      (ap F (let z : suc k + n ≡ k + suc n = omega arith in z) ∙ off)))
+  end-some : (t k : ℕ) → F k ≡ true → 0 < t → k < endFrom F t k
+  unfolding endFrom
+  end-some zero k e h = absurd (omega arith)
+  end-some (suc t) k e h = rw e (end-after t (suc k))
 
-  -- n flagged from k on stand in the run right before k + n
-  before-ge : (n k : ℕ) → ((i : ℕ) → i < n → F (k + i) ≡ true) → n ≤ before F (k + n)
-  before-ge zero k on = omega arith
-  before-ge (suc n) k on =
-      let r = before-ge n k (λ i h. on i (omega arith)) in
-      let e = before-on F (k + n) (on n (omega arith)) in
-      subst (λ (z : ℕ). suc n ≤ before F z) (let q : suc (k + n) ≡ k + suc n = omega arith in q) (omega arith)
+  -- up to there all are flagged
+  end-flagged : (t k i : ℕ) → k ≤ i → i < endFrom F t k → F i ≡ true
+  unfolding endFrom
+  end-flagged zero k i a h = absurd (omega arith)
+  end-flagged (suc t) k i a h = go (F k) refl (ℕ-discrete k i) h (end-flagged t (suc k) i)
+    where
+      go : (b : Bool) → F k ≡ b → Dec (k ≡ i) → i < cond b (endFrom F t (suc k)) k → (suc k ≤ i → i < endFrom F t (suc k) → F i ≡ true) → F i ≡ true
+      go true e (yes q) h r = ap F (sym q) ∙ e
+      go true e (no q) h r = r (omega arith) h
+      go false e d h r = absurd (omega arith)
+
+  -- it is the first that is not
+  end-is : (t k j : ℕ) → k ≤ j → j < k + t → ((i : ℕ) → k ≤ i → i < j → F i ≡ true) → F j ≡ false → endFrom F t k ≡ j
+  unfolding endFrom
+  end-is zero k j a h on off = absurd (omega arith)
+  end-is (suc t) k j a h on off = go (ℕ-discrete k j) (λ b. end-is t (suc k) j b (omega arith) (λ i c. on i (omega arith)) off)
+    where
+      go : Dec (k ≡ j) → (suc k ≤ j → endFrom F t (suc k) ≡ j) → cond (F k) (endFrom F t (suc k)) k ≡ j
+      go (yes q) r = rw (ap F q ∙ off) q
+      go (no q) r = rw (on k (omega arith) (omega arith)) (r (omega arith))
+
+  -- flagged from k up to j: they stand in the run right before j
+  start-le : (j k : ℕ) → k ≤ j → ((i : ℕ) → k ≤ i → i < j → F i ≡ true) → start F j ≤ k
+  start-le zero k h on = omega arith
+  start-le (suc j) k h on = go (decLt k (suc j)) (λ b. start-le j k b (λ i c d. on i c (omega arith)))
+    where
+      go : Dec (k < suc j) → (k ≤ j → start F j ≤ k) → start F (suc j) ≤ k
+      go (yes q) r = let e = start-on F j (on j (omega arith) (omega arith)) in omega (arith, r (omega arith))
+      go (no q) r = omega arith
 
 -- ---- values
 
@@ -85,43 +93,26 @@ module _ (s : Setting) (F : ℕ → Bool) (xs : List ℕ) where
       go true e r = let t = hit-says s F xs j k e in absurd (none j (omega arith) (split (mends s F j) (covers F j k) e) (t .from) (t .upto))
       go false e r = value-miss s F xs j k e ∙ r
 
-  -- the closed expression
-  abbrev pub endAfter : ℕ → ℕ
-  endAfter k = k + ahead F (suc (s .run)) k
-
-  unfoldable pub closed : ℕ → ℕ → ℕ
-  unfolding ahead
-  closed J k = cond (F k && (ltb (endAfter k) J && mends s F (endAfter k))) (mendedAt F xs (endAfter k) k) (at xs k)
-
-  pub closed-is : (J k : ℕ) → value s F xs J k ≡ closed J k
-  unfolding closed
-  closed-is J k = go (F k && (ltb (endAfter k) J && mends s F (endAfter k))) refl
+  -- the reader's form
+  pub value-is : (J k : ℕ) → value s F xs J k ≡ mendedOrRaw s F xs J k
+  unfolding mendedOrRaw
+  value-is J k = go (F k && (ltb j J && mends s F j)) refl
     where
       j : ℕ
-      j = endAfter k
-
-      first : (a b : Bool) → a && b ≡ true → a ≡ true
-      first true b e = refl
-      first false b e = e
-
-      second : (a b : Bool) → a && b ≡ true → b ≡ true
-      second true b e = e
-      second false b e = absurd (false≢true e)
+      j = endFrom F (J - k) k
 
       go : (t : Bool) → F k && (ltb j J && mends s F j) ≡ t → value s F xs J k ≡ cond t (mendedAt F xs j k) (at xs k)
       go true e =
-          let on = first (F k) (ltb j J && mends s F j) e in
-          let rest = second (F k) (ltb j J && mends s F j) e in
-          let n = ahead-pos F (s .run) k on in
-          let b = before-ge F (ahead F (suc (s .run)) k) k (λ i h. ahead-flagged F (suc (s .run)) k i h) in
-          value-mended J j k (ltb-true j J (first (ltb j J) (mends s F j) rest)) (second (ltb j J) (mends s F j) rest) (omega arith) (omega arith)
+          let p = both (F k) (ltb j J && mends s F j) e in
+          let q = both (ltb j J) (mends s F j) (p .1) in
+          let ended = ltb-true j J (q .0) in
+          let on : (i : ℕ) → k ≤ i → i < j → F i ≡ true = λ i. end-flagged F (J - k) k i in
+          let some = end-some F (J - k) k (p .0) (omega (arith, end-after F (J - k) k)) in
+          value-mended J j k ended (q .1) (start-le F j k (omega arith) on) some
       go false e =
           value-other J k
           (λ i h m a b.
           let t = hit-says s F xs i k (rw (m, le-leb (start F i) k a, lt-ltb k i b)) in
-          let here : k + (i - k) ≡ i = omega arith in
-          let n : ahead F (suc (s .run)) k ≡ i - k =
-          ahead-is F (suc (s .run)) k (i - k) (omega (arith, t .short)) (λ z q. run-flagged F i (k + z) (omega arith) (omega arith)) (ap F here ∙ t .off) in
-          let same : endAfter k ≡ i = omega arith in
+          let same : j ≡ i = end-is F (J - k) k i (omega arith) (omega arith) (λ z c. run-flagged F i z (omega arith)) (t .off) in
           let all : F k && (ltb j J && mends s F j) ≡ true = rw (same, m, lt-ltb i J h, run-flagged F i k a b) in
           false≢true (sym e ∙ all))

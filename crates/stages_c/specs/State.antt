@@ -1,12 +1,12 @@
 -- What a caller in another language keeps and hands over, in floats and numbers. Definitions only.
 use mathlib.Core.Bool.{Bool, cond}
-use mathlib.Core.List.{List}
+use mathlib.Core.List.{List, [], _∷_}
 use Prim.Native.Nat.{ℕ}
 use lib.Dec.{eqb}
 use lib.ListN.{getD, set}
 use lib.Ieee.{Float, nan}
 use Rattle.complex.specs.Complex.{Complex}
-use Rattle.rules.specs.Iq.{Mode, off, observe, apply, Calibration, Calibrated, none, with, Settled, isOff, observing, withheld, correcting}
+use Rattle.rules.specs.Iq.{Mode, off, observe, apply, Calibration, Calibrated, none, with, Settled, Off, Observing, Withheld, Correcting}
 use Rattle.dc.specs.declared.DcBlocker.{DcBlocker}
 
 -- the weight and the level's parts, with the count beside them
@@ -28,13 +28,21 @@ calibratedFrom present c = cond present (with c) none
 
 -- what was settled: its number, and the coefficient where it corrects
 abbrev pub settledNumber : Settled → ℕ
-settledNumber isOff = 0
-settledNumber observing = 1
-settledNumber (correcting z) = 2
-settledNumber withheld = 3
+settledNumber Off = 0
+settledNumber Observing = 1
+settledNumber (Correcting z) = 2
+settledNumber Withheld = 3
 
 abbrev pub settledRho : List Float → Settled → List Float
-settledRho s isOff = s
-settledRho s observing = s
-settledRho s (correcting z) = put s z
-settledRho s withheld = s
+settledRho s Off = s
+settledRho s Observing = s
+settledRho s (Correcting z) = put s z
+settledRho s Withheld = s
+
+-- ---- a word lent for a place
+
+-- the place that comes with a refusal's number; where there is none the word stays as it was
+abbrev pub placeIn : ℕ → List ℕ → ℕ
+placeIn was [] = was
+placeIn was (n ∷ []) = was
+placeIn was (n ∷ k ∷ l) = k

@@ -1,5 +1,6 @@
 // The stages under C names, for drivers in other languages. A blocker is its count and three
-// floats: the weight and the level's parts. A refusal is its number, with its place beside it.
+// floats: the weight and the level's parts. A refusal is its number; 7 comes with its place, and every
+// other answer leaves the word lent for it as it was.
 
 ghost use mathlib.Core.Path.{_≡_};
 ghost use Prim.Native.Nat.{_+_, _<_, _^_};
@@ -13,7 +14,7 @@ ghost use Rattle.part_limit.specs.Limit.{returned};
 ghost use Rattle.dc.specs.Undo.{undoReturned, undoWords};
 ghost use Rattle.iq.specs.View.{calibrationOf, modeOf, calibratedOf};
 ghost use Rattle.correction.specs.Undo as iqUndo;
-ghost use Rattle.stages_c.specs.State.{blockerIn, kept, put, modeFrom, calibratedFrom, settledNumber, settledRho};
+ghost use Rattle.stages_c.specs.State.{blockerIn, kept, put, modeFrom, calibratedFrom, settledNumber, settledRho, placeIn};
 use complex::Complex64;
 use dc::DcBlocker;
 use iq::Calibration;
@@ -77,6 +78,7 @@ pub extern "C" fn dc_observe(state: &mut [f64; 3], n: u64, samples: &[u64]) -> u
 #[no_mangle]
 pub extern "C" fn dc_revert(y: &[u64], fs: f64, out: &mut [u64], place: &mut usize) -> u64
     ensures answer { λ r. ⌜ returned r (now (place .exit)) ≡ undoReturned fs (now (out .entry)) (now (y .entry)) ⌝ }
+    ensures place { λ r. ⌜ now (place .exit) ≡ placeIn (now (place .entry)) (undoReturned fs (now (out .entry)) (now (y .entry))) ⌝ }
     ensures written { λ r. ⌜ now (out .exit) ≡ undoWords fs (now (out .entry)) (now (y .entry)) ⌝ }
 {
     let answer = dc::revert_dc(y, fs, out);
@@ -186,6 +188,7 @@ pub extern "C" fn iq_process(re: f64, im: f64, samples: &mut [u64])
 #[no_mangle]
 pub extern "C" fn iq_revert(samples: &mut [u64], re: f64, im: f64, place: &mut usize) -> u64
     ensures answer { λ r. ⌜ returned r (now (place .exit)) ≡ iqUndo.undoReturned (record { re = re; im = im }) (now (samples .entry)) ⌝ }
+    ensures place { λ r. ⌜ now (place .exit) ≡ placeIn (now (place .entry)) (iqUndo.undoReturned (record { re = re; im = im }) (now (samples .entry))) ⌝ }
     ensures written { λ r. ⌜ now (samples .exit) ≡ iqUndo.undoWords (record { re = re; im = im }) (now (samples .entry)) ⌝ }
 {
     let answer = correction::revert_iq(samples, Complex64 { re, im });

@@ -1,16 +1,16 @@
 -- Powers copied to other words and sorted there, on plain lists. Assumes nothing.
-use mathlib.Core.Path.{_≡_, sym, ap, _∙_}
+use mathlib.Core.Path.{_≡_, refl, sym, ap, _∙_}
+use mathlib.Core.Bool.{Bool, _&&_}
 use mathlib.Core.List.{List, [], _∷_, _++_}
 use Prim.Native.Nat.{ℕ, zero, suc, _+_, _-_, _≤_, _<_}
 use native.Mathlib.Omega.{arith}
 use native.Mathlib.Numerals.{add-one}
-use lib.ListN.{length, getD, take, drop, set, replicate, length-set, length-append, length-drop, length-replicate, take-append-drop}
-use lib.Seq.{take-suc, take-suc-set, drop-set-lt, drop-drop, take-at, drop-at, length-take-le}
+use lib.ListN.{length, getD, take, drop, set, length-set, length-append, length-drop, take-append-drop, List·getD-append}
+use lib.Seq.{take-suc, take-suc-set, drop-set-lt, drop-drop, take-at, length-take-le}
 use lib.Ieee.{Float, lt}
-use Rattle.rules.specs.Constants.{zeroF}
 use Rattle.rules.specs.Sort.{sort}
 use Rattle.rules.specs.SortLaws.{sort-length}
-use Rattle.impulse.specs.State.{padded}
+use Rattle.log.specs.Check.{allTo}
 
 -- the first k of xs stand over the first k of ws₀
 abbrev pub Copied : {A : Type 0} → List A → ℕ → List A → List A → ℕ → Type 0
@@ -36,34 +36,35 @@ module _ {A : Type 0} (d : A) (xs : List A) (n : ℕ) (ws₀ ws : List A) (k : �
       ∙ (λ i. c .2 i ++ c .3 i)
       ∙ ap (λ (i : ℕ). take i xs ++ drop i ws₀) e
 
-drop-replicate : {A : Type 0} (n m : ℕ) (z : A) → drop n (replicate m z) ≡ replicate (m - n) z
-drop-replicate zero m z = ap (λ (i : ℕ). replicate i z) (let e : m ≡ m - 0 = omega arith in e)
-drop-replicate (suc n) zero z = ap (λ (i : ℕ). replicate i z) (let e : 0 ≡ 0 - suc n = omega arith in e)
-drop-replicate (suc n) (suc m) z = drop-replicate n m z ∙ ap (λ (i : ℕ). replicate i z) (let e : m - n ≡ suc m - suc n = omega arith in e)
-
--- n powers over zeros, sorted where they stand
-module _ (n : ℕ) (xs ws : List Float) (few : n ≤ 33) (whole : length xs ≡ 33) (copied : ws ≡ take n xs ++ drop n (replicate 33 zeroF)) where
+-- the first n of xs stand over the first n of zs, and are sorted there
+module _ (n : ℕ) (xs zs ws : List Float) (few : n ≤ length xs) (room : n ≤ length zs) (copied : ws ≡ take n xs ++ drop n zs) where
   front : length (take n xs) ≡ n
-  front = length-take-le n xs (omega arith)
+  front = length-take-le n xs few
 
-  pub copied-length : length ws ≡ 33
+  pub copied-length : length ws ≡ length zs
   copied-length =
-      let l = ap length copied ∙ length-append (take n xs) (drop n (replicate 33 zeroF)) in
-      let m = length-drop n (replicate 33 zeroF) in
-      let r = length-replicate 33 zeroF in
-      omega (arith, front, l, m, r)
+      let l = ap length copied ∙ length-append (take n xs) (drop n zs) in
+      let m = length-drop n zs in
+      omega (arith, front, l, m)
 
-  pub sorted-over : (last : List Float) → last ≡ sort lt (take n ws) → last ++ drop n ws ≡ padded 33 (sort lt (take n xs))
-  sorted-over last e =
-      let count : length (sort lt (take n xs)) ≡ n = sort-length lt (take n xs) ∙ front in
-      ap (λ (l : List Float). l ++ drop n ws) (e ∙ ap (sort lt) (ap (take n) copied ∙ take-at (take n xs) (drop n (replicate 33 zeroF)) n front))
-      ∙ ap (λ (l : List Float). sort lt (take n xs) ++ l)
-      (ap (drop n) copied ∙ drop-at (take n xs) (drop n (replicate 33 zeroF)) n front ∙ drop-replicate n 33 zeroF ∙ ap (λ (k : ℕ). replicate (33 - k) zeroF) (sym count))
+  module _ (last : List Float) (e : last ≡ sort lt (take n ws)) where
+    last-is : last ≡ sort lt (take n xs)
+    last-is = e ∙ ap (sort lt) (ap (take n) copied ∙ take-at (take n xs) (drop n zs) n front)
 
-  pub padded-length : length (padded 33 (sort lt (take n xs))) ≡ 33
-  padded-length =
-      let s = sort lt (take n xs) in
-      let count : length s ≡ n = sort-length lt (take n xs) ∙ front in
-      let l = length-append s (replicate (33 - length s) zeroF) in
-      let r = length-replicate (33 - length s) zeroF in
-      omega (arith, count, l, r)
+    last-length : length last ≡ n
+    last-length = ap length last-is ∙ sort-length lt (take n xs) ∙ front
+
+    pub over-length : length (last ++ drop n ws) ≡ length zs
+    over-length =
+        let l = length-append last (drop n ws) in
+        let m = length-drop n ws in
+        omega (arith, copied-length, last-length, l, m)
+
+    pub over-first : (k : ℕ) (d : Float) → k < n → getD (last ++ drop n ws) k d ≡ getD (sort lt (take n xs)) k d
+    over-first k d h = List·getD-append last (drop n ws) d k (omega (arith, last-length)) ∙ ap (λ (l : List Float). getD l k d) last-is
+
+-- tests that agree on the first n are passed alike
+pub all-same : (f g : ℕ → Bool) (n : ℕ) → ((k : ℕ) → k < n → f k ≡ g k) → allTo f n ≡ allTo g n
+unfolding allTo
+all-same f g zero h = refl
+all-same f g (suc n) h = let l = all-same f g n (λ k q. h k (omega arith)) in let m = h n (omega arith) in λ i. l i && m i

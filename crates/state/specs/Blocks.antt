@@ -11,7 +11,7 @@ use Rattle.ieee.specs.Bounds.{or-le}
 use Rattle.ieee.specs.Whole.{roundDiv, wholeBy}
 use Rattle.rules.specs.Constants.{one, rateLimit}
 use Rattle.rules.specs.Iq.{ranged}
-use Rattle.rules.specs.Chain.{blockLength}
+use Rattle.rules.specs.Impulse.{blockLength}
 
 -- a number that is not below 1 does not round to 0
 round-some : (a c : ℕ) → 0 < c → c ≤ a → 0 < roundDiv a c

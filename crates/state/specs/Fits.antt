@@ -1,17 +1,17 @@
 -- Document 01's number 5, as far as it speaks of a state: its causes in groups, each as a test that a fit state passes. Definitions only.
 use mathlib.Core.Bool.{Bool, true, cond, _&&_}
 use mathlib.Core.List.{List}
-use Prim.Native.Nat.{ℕ, _+_, _-_, _^_, min}
+use Prim.Native.Nat.{ℕ, _+_, _^_, min}
 use lib.Dec.{ltb, leb, eqb}
 use lib.ListN.{getD, take}
 use lib.Ieee.{Float, binary64, le, lt, toBits, ofBits}
 use Rattle.ieee.specs.Plain.{signClear}
-use Rattle.rules.specs.Constants.{zeroF}
+use Rattle.rules.specs.Constants.{zeroF, powerLimit, counterLimit}
 use Rattle.rules.specs.Sort.{sort}
 use Rattle.rules.specs.Guard.{magnitude}
 use Rattle.rules.specs.Refusals.{withinLimit}
-use Rattle.rules.specs.Iq.{Settled, isOff, observing, withheld, correcting, accepted}
-use Rattle.rules.specs.Chain.{blockLength}
+use Rattle.rules.specs.Iq.{Settled, Off, Observing, Withheld, Correcting, accepted}
+use Rattle.rules.specs.Impulse.{Setting, standard, width, lookahead, judged, blockLength}
 use Rattle.part_limit.specs.Limit.{limited}
 use Rattle.log.specs.Check.{allTo, ringFits, logFits}
 use Rattle.impulse.specs.declared.Run.{Run}
@@ -21,7 +21,6 @@ use Rattle.impulse.specs.declared.Left.{Left}
 use Rattle.impulse.specs.declared.Left.the-variants.{Neighbour, Missing}
 use Rattle.impulse.specs.declared.Gate.{Gate}
 use Rattle.impulse.specs.declared.ImpulseSuppressor.{ImpulseSuppressor}
-use Rattle.impulse.specs.State.{padded}
 use Rattle.dc.specs.declared.DcBlocker.{DcBlocker}
 use Rattle.iq.specs.View.{settledOf}
 use Rattle.image.specs.declared.Begun.{Begun}
@@ -33,13 +32,30 @@ use Rattle.state.specs.declared.InputConditioner.{InputConditioner}
 
 -- not: 'a counter > 2^52'
 abbrev pub counter : ℕ → Bool
-counter k = leb k (2 ^ 52)
+counter k = leb k counterLimit
 
 -- ---- the settings
 
 -- not: 'a setting that making refuses; block length not that of fs'
 unfoldable pub settingsFit : Settings → ℕ → Bool
 settingsFit s block = eqb (settingRefusal (s .fs) (s .n) (s .spans) (s .repairs)) 0 && eqb block (blockLength (s .fs))
+
+-- ---- the impulse stage's fixed numbers, whatever its block length and mode
+
+abbrev fixed : Setting
+fixed = standard 0 true
+
+-- 'window 33'
+abbrev pub windowSize : ℕ
+windowSize = width fixed
+
+-- 'lookahead 21'
+abbrev pub lookaheadSize : ℕ
+lookaheadSize = lookahead fixed
+
+-- 'the next judged', of so many received
+abbrev pub nextJudged : ℕ → ℕ
+nextJudged received = judged fixed received
 
 -- ---- the samples seen, released and held
 
@@ -48,7 +64,7 @@ applies c = c .settings .impulse && c .suppressor .gate .apply
 
 -- 'min(21, received) if impulse applies, else .. 0'
 abbrev pub heldBy : Bool → ℕ → ℕ
-heldBy applies seen = cond applies (min 21 seen) 0
+heldBy applies seen = cond applies (min lookaheadSize seen) 0
 
 -- not: 'released + held ≠ received; held not min(21, received) if impulse applies, else not 0'
 unfoldable pub countsFit : Bool → ℕ → ℕ → ℕ → Bool
@@ -70,28 +86,46 @@ leftFits Missing = true
 leftFits (Neighbour x) = withinLimit x
 
 unfoldable pub gateFits : Gate → Bool
-gateFits g = counter (g .received) && counter (g .block) && counter (g .flagged) && runFits (g .run) (g .received - 16) && leftFits (g .left)
-
--- 1e36
-abbrev pub powerLimit : Float
-powerLimit = ofBits binary64 0x4768_12f9_cf79_20e3
+gateFits g =
+    counter (g .received) && counter (g .block) && counter (g .flagged)
+    && runFits (g .run) (nextJudged (g .received))
+    && leftFits (g .left)
 
 -- not: 'a window power not within 1e36; a window .. power with its sign bit set'
 unfoldable pub powerFits : Float → Bool
 powerFits p = signClear p && le (magnitude p) powerLimit
 
--- not: 'its sorted list not that window sorted': the first n of the window's powers, and then zeros, bit by bit
-unfoldable pub sortedFits : ℕ → List Float → List Float → Bool
-sortedFits n window sorted =
-    allTo (λ k. eqb (toBits binary64 (getD sorted k zeroF)) (toBits binary64 (getD (padded 33 (sort lt (take n window))) k zeroF))) 33
+-- 'pending .. min(21, received), window .. min(33, received)': both hold the newest of so many as the stage has received, none where it never ran.
+-- The arrays are circular by sample number, so these stand in their first places. No other place is tested.
+abbrev pub windowHeld : ℕ → ℕ
+windowHeld received = min windowSize received
 
--- not: 'when impulse runs, pending ≠ min(21, received), window ≠ min(33, received)': both hold the newest of so many samples as the gate has received, and those are all that were seen
-unfoldable pub suppressorFits : ImpulseSuppressor → ℕ → Bool
-suppressorFits m seen =
-    eqb (m .gate .received) seen
-    && allTo (λ k. powerFits (getD (m .window) k zeroF)) 33
-    && sortedFits (min seen 33) (m .window) (m .sorted)
-    && allTo (λ k. withinLimit (getD (m .pending) k 0)) 21
+abbrev pub pendingHeld : ℕ → ℕ
+pendingHeld received = min lookaheadSize received
+
+-- the first n powers of a window
+abbrev pub powersFit : ℕ → List Float → Bool
+powersFit n window = allTo (λ k. powerFits (getD window k zeroF)) n
+
+-- the first n pending samples; not: 'a .. pending .. part not within 1e18'
+abbrev pub samplesFit : ℕ → List ℕ → Bool
+samplesFit n pending = allTo (λ k. withinLimit (getD pending k 0)) n
+
+unfoldable pub arraysFit : ℕ → List Float → List ℕ → Bool
+arraysFit received window pending = powersFit (windowHeld received) window && samplesFit (pendingHeld received) pending
+
+-- not: 'its sorted list not that window sorted', of n powers, bit by bit
+unfoldable pub sortedFits : ℕ → List Float → List Float → Bool
+sortedFits n window sorted = allTo (λ k. eqb (toBits binary64 (getD sorted k zeroF)) (toBits binary64 (getD (sort lt (take n window)) k zeroF))) n
+
+-- not: 'when impulse runs, pending ≠ min(21, received), window ≠ min(33, received) or its sorted list not that window sorted'. The stage's own count
+-- says what the arrays hold, so it has to be that of the samples seen.
+unfoldable pub runningFits : ImpulseSuppressor → ℕ → Bool
+runningFits m seen = eqb (m .gate .received) seen && sortedFits (windowHeld (m .gate .received)) (m .window) (m .sorted)
+
+-- the arrays in every mode, and the rest where the stage runs
+unfoldable pub suppressorFits : ImpulseSuppressor → Bool → ℕ → Bool
+suppressorFits m running seen = arraysFit (m .gate .received) (m .window) (m .pending) && cond running (runningFits m seen) true
 
 -- ---- the other stages
 
@@ -101,10 +135,10 @@ blockerFits b = counter (b .n) && limited (b .dc .re) && limited (b .dc .im)
 
 -- not: 'a coefficient unfit'
 abbrev pub coefficientFits : Settled → Bool
-coefficientFits isOff = true
-coefficientFits observing = true
-coefficientFits withheld = true
-coefficientFits (correcting r) = accepted r
+coefficientFits Off = true
+coefficientFits Observing = true
+coefficientFits Withheld = true
+coefficientFits (Correcting r) = accepted r
 
 -- not: 'a mirror window's first after its end'
 abbrev pub begunFits : Begun → ℕ → Bool
@@ -130,9 +164,5 @@ frontFits c =
     && countsFit (applies c) (c .seen) (c .released) (c .held)
     && gateFits (c .suppressor .gate)
 
--- the suppressor, 'when impulse runs'
-unfoldable pub impulseFits : InputConditioner → Bool
-impulseFits c = cond (c .settings .impulse) (suppressorFits (c .suppressor) (c .seen)) true
-
 unfoldable pub stateFits : InputConditioner → Bool
-stateFits c = frontFits c && impulseFits c && logsFit c && stagesFit c
+stateFits c = frontFits c && suppressorFits (c .suppressor) (c .settings .impulse) (c .seen) && logsFit c && stagesFit c

@@ -1,17 +1,16 @@
 -- What a state that fits keeps to. Assumes nothing.
 use mathlib.Core.Path.{_≡_, sym, ap, _∙_, subst}
 use mathlib.Core.Bool.{Bool, true, cond, _&&_}
-use Prim.Native.Nat.{ℕ, _+_, _-_, _^_, _≤_, _<_, min}
+use mathlib.Core.List.{List}
+use Prim.Native.Nat.{ℕ, _+_, _^_, _≤_, _<_}
 use native.Mathlib.Omega.{arith}
 use lib.Dec.{ltb, eqb}
-use lib.ListN.{getD}
+use lib.Ieee.{Float}
 use borrow.Author.Tests.{leb-true, eqb-true}
 use Rattle.rules.specs.TestLaws.{both}
-use Rattle.rules.specs.Constants.{zeroF}
-use Rattle.rules.specs.Refusals.{withinLimit}
-use Rattle.rules.specs.Chain.{blockLength}
+use Rattle.rules.specs.Impulse.{blockLength}
 use Rattle.part_limit.specs.Limit.{limited}
-use Rattle.log.specs.Check.{allTo, ringFits, logFits}
+use Rattle.log.specs.Check.{ringFits, logFits}
 use Rattle.impulse.specs.declared.Open.{Open}
 use Rattle.impulse.specs.declared.Open.the-variants.{Running, Closed}
 use Rattle.impulse.specs.declared.Gate.{Gate}
@@ -24,7 +23,7 @@ use Rattle.config.specs.Config.{settingRefusal}
 use Rattle.config.specs.ConfigLaws.{Limits, setting-limits}
 use Rattle.state.specs.declared.Settings.{Settings}
 use Rattle.state.specs.declared.InputConditioner.{InputConditioner}
-use Rattle.state.specs.Fits.{counter, settingsFit, applies, heldBy, countsFit, runFits, leftFits, gateFits, powerFits, sortedFits, suppressorFits, blockerFits, coefficientFits, begunFits, monitorFits, logsFit, stagesFit, frontFits, impulseFits, stateFits}
+use Rattle.state.specs.Fits.{counter, nextJudged, settingsFit, applies, heldBy, countsFit, runFits, leftFits, gateFits, windowHeld, pendingHeld, powersFit, samplesFit, arraysFit, sortedFits, runningFits, suppressorFits, blockerFits, coefficientFits, begunFits, monitorFits, logsFit, stagesFit, frontFits, stateFits}
 use Rattle.state.specs.Blocks.{block-some}
 
 pub three : (a b c : Bool) → (a && b && c) ≡ true → (a ≡ true) × (b ≡ true) × (c ≡ true)
@@ -70,17 +69,17 @@ pub record GateFits (g : Gate) : Type 0 where
   pub received : g .received ≤ 2 ^ 52
   pub block : g .block ≤ 2 ^ 52
   pub flagged : g .flagged ≤ 2 ^ 52
-  pub open-run : runFits (g .run) (g .received - 16) ≡ true
+  pub open-run : runFits (g .run) (nextJudged (g .received)) ≡ true
   pub run : runEnd (g .run) ≤ g .received
   pub left : leftFits (g .left) ≡ true
 
 pub gate-fits : (g : Gate) → gateFits g ≡ true → GateFits g
 unfolding gateFits
 gate-fits g e =
-    let r = runFits (g .run) (g .received - 16) in
+    let r = runFits (g .run) (nextJudged (g .received)) in
     let p = both (counter (g .received) && counter (g .block) && counter (g .flagged) && r) (leftFits (g .left)) e in
     let q = four (counter (g .received)) (counter (g .block)) (counter (g .flagged)) r (p .0) in
-    let h : runEnd (g .run) ≤ g .received - 16 = run-end (g .run) (g .received - 16) (q .3) in
+    let h : runEnd (g .run) ≤ nextJudged (g .received) = run-end (g .run) (nextJudged (g .received)) (q .3) in
     record {
       received = leb-true _ _ (q .0);
       block = leb-true _ _ (q .1);
@@ -90,23 +89,38 @@ gate-fits g e =
       left = p .1;
     }
 
-pub record SuppressorFits (m : ImpulseSuppressor) (seen : ℕ) : Type 0 where
-  pub received : m .gate .received ≡ seen
-  pub powers : allTo (λ k. powerFits (getD (m .window) k zeroF)) 33 ≡ true
-  pub sorted : sortedFits (min seen 33) (m .window) (m .sorted) ≡ true
-  pub pending : allTo (λ k. withinLimit (getD (m .pending) k 0)) 21 ≡ true
+pub record ArraysFit (received : ℕ) (window : List Float) (pending : List ℕ) : Type 0 where
+  pub powers : powersFit (windowHeld received) window ≡ true
+  pub samples : samplesFit (pendingHeld received) pending ≡ true
 
-pub suppressor-fits : (m : ImpulseSuppressor) (seen : ℕ) → suppressorFits m seen ≡ true → SuppressorFits m seen
+pub arrays-fit : (received : ℕ) (window : List Float) (pending : List ℕ) → arraysFit received window pending ≡ true → ArraysFit received window pending
+unfolding arraysFit
+arrays-fit received window pending e =
+    let p = both (powersFit (windowHeld received) window) (samplesFit (pendingHeld received) pending) e in
+    record { powers = p .0; samples = p .1 }
+
+pub record RunningFits (m : ImpulseSuppressor) (seen : ℕ) : Type 0 where
+  pub received : m .gate .received ≡ seen
+  pub sorted : sortedFits (windowHeld (m .gate .received)) (m .window) (m .sorted) ≡ true
+
+pub running-fits : (m : ImpulseSuppressor) (seen : ℕ) → runningFits m seen ≡ true → RunningFits m seen
+unfolding runningFits
+running-fits m seen e =
+    let p = both (eqb (m .gate .received) seen) (sortedFits (windowHeld (m .gate .received)) (m .window) (m .sorted)) e in
+    record { received = eqb-true _ _ (p .0); sorted = p .1 }
+
+pub record SuppressorFits (m : ImpulseSuppressor) (running : Bool) (seen : ℕ) : Type 0 where
+  pub arrays : ArraysFit (m .gate .received) (m .window) (m .pending)
+  pub runs : running ≡ true → RunningFits m seen
+
+pub suppressor-fits : (m : ImpulseSuppressor) (running : Bool) (seen : ℕ) → suppressorFits m running seen ≡ true → SuppressorFits m running seen
 unfolding suppressorFits
-suppressor-fits m seen e =
-    let p =
-    four
-    (eqb (m .gate .received) seen)
-    (allTo (λ k. powerFits (getD (m .window) k zeroF)) 33)
-    (sortedFits (min seen 33) (m .window) (m .sorted))
-    (allTo (λ k. withinLimit (getD (m .pending) k 0)) 21)
-    e in
-    record { received = eqb-true _ _ (p .0); powers = p .1; sorted = p .2; pending = p .3 }
+suppressor-fits m running seen e =
+    let p = both (arraysFit (m .gate .received) (m .window) (m .pending)) (cond running (runningFits m seen) true) e in
+    record {
+      arrays = arrays-fit (m .gate .received) (m .window) (m .pending) (p .0);
+      runs = λ h. running-fits m seen (sym (ap (λ (b : Bool). cond b (runningFits m seen) true) h) ∙ p .1);
+    }
 
 pub record BlockerFits (b : DcBlocker) : Type 0 where
   pub updates : b .n ≤ 2 ^ 52
@@ -135,7 +149,7 @@ pub record Groups (c : InputConditioner) : Type 0 where
   pub settings : SettingsFit (c .settings) (c .suppressor .gate .blocklen)
   pub counts : CountsFit (applies c) (c .seen) (c .released) (c .held)
   pub gate : GateFits (c .suppressor .gate)
-  pub suppressor : c .settings .impulse ≡ true → SuppressorFits (c .suppressor) (c .seen)
+  pub suppressor : SuppressorFits (c .suppressor) (c .settings .impulse) (c .seen)
   pub log : logFits (c .settings .spans) (c .log) ≡ true
   pub repairs : ringFits (c .settings .repairs) (c .repairs) (c .longruns) ≡ true
   pub blocker : BlockerFits (c .blocker)
@@ -148,10 +162,6 @@ module _ (c : InputConditioner) where
   front e =
       three (settingsFit (c .settings) (c .suppressor .gate .blocklen)) (countsFit (applies c) (c .seen) (c .released) (c .held)) (gateFits (c .suppressor .gate)) e
 
-  running : impulseFits c ≡ true → c .settings .impulse ≡ true → suppressorFits (c .suppressor) (c .seen) ≡ true
-  unfolding impulseFits
-  running e h = sym (ap (λ (b : Bool). cond b (suppressorFits (c .suppressor) (c .seen)) true) h) ∙ e
-
   logs : logsFit c ≡ true → (logFits (c .settings .spans) (c .log) ≡ true) × (ringFits (c .settings .repairs) (c .repairs) (c .longruns) ≡ true)
   unfolding logsFit
   logs e = both (logFits (c .settings .spans) (c .log)) (ringFits (c .settings .repairs) (c .repairs) (c .longruns)) e
@@ -160,9 +170,10 @@ module _ (c : InputConditioner) where
   unfolding stagesFit
   stages e = three (blockerFits (c .blocker)) (coefficientFits (settledOf (c .settings .iq))) (monitorFits (c .monitor)) e
 
-  parts : stateFits c ≡ true → (frontFits c ≡ true) × (impulseFits c ≡ true) × (logsFit c ≡ true) × (stagesFit c ≡ true)
+  parts : stateFits c ≡ true
+      → (frontFits c ≡ true) × (suppressorFits (c .suppressor) (c .settings .impulse) (c .seen) ≡ true) × (logsFit c ≡ true) × (stagesFit c ≡ true)
   unfolding stateFits
-  parts e = four (frontFits c) (impulseFits c) (logsFit c) (stagesFit c) e
+  parts e = four (frontFits c) (suppressorFits (c .suppressor) (c .settings .impulse) (c .seen)) (logsFit c) (stagesFit c) e
 
   pub state-groups : stateFits c ≡ true → Groups c
   state-groups e =
@@ -174,7 +185,7 @@ module _ (c : InputConditioner) where
         settings = settings-fit (c .settings) (c .suppressor .gate .blocklen) (f .0);
         counts = counts-fit (applies c) (c .seen) (c .released) (c .held) (f .1);
         gate = gate-fits (c .suppressor .gate) (f .2);
-        suppressor = λ h. suppressor-fits (c .suppressor) (c .seen) (running (p .1) h);
+        suppressor = suppressor-fits (c .suppressor) (c .settings .impulse) (c .seen) (p .1);
         log = l .0;
         repairs = l .1;
         blocker = blocker-fits (c .blocker) (t .0);
@@ -214,7 +225,7 @@ groups-fit c g =
       flags = g .gate .flagged;
       received = g .gate .received;
       run = g .gate .run;
-      runs = λ h. g .suppressor h .received;
+      runs = λ h. g .suppressor .runs h .received;
       log = g .log;
       repairs = g .repairs;
       updates = g .blocker .updates;

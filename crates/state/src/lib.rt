@@ -1,9 +1,9 @@
 // The chain's state, and number 5's tests of it, a function for each group of causes.
 
 ghost use mathlib.Core.Path.{_≡_};
-ghost use mathlib.Core.Bool.{true, _&&_};
+ghost use mathlib.Core.Bool.{true, false, _&&_};
 ghost use mathlib.Core.List.{_++_};
-ghost use Prim.Native.Nat.{_-_, _≤_, min};
+ghost use Prim.Native.Nat.{_≤_, min};
 ghost use lib.Dec.{eqb};
 ghost use lib.ListN.{length, getD, take, drop};
 ghost use lib.Ieee.{binary64, lt, eq, toBits};
@@ -16,7 +16,7 @@ ghost use Rattle.log.specs.Check.{allTo};
 ghost use Rattle.ordered.specs.Rising.{climbs, Held};
 ghost use Rattle.iq.specs.View.{settledOf};
 ghost use Rattle.state.specs.Occurs.{occurs};
-ghost use Rattle.state.specs.Fits.{counter, settingsFit, applies, heldBy, countsFit, endsAt, runFits, leftFits, gateFits, powerFits, sortedFits, suppressorFits, blockerFits, coefficientFits, begunFits, monitorFits, logsFit, stagesFit, frontFits, impulseFits, stateFits};
+ghost use Rattle.state.specs.Fits.{counter, windowSize, lookaheadSize, nextJudged, settingsFit, applies, heldBy, countsFit, endsAt, runFits, leftFits, gateFits, powerFits, powersFit, samplesFit, arraysFit, sortedFits, suppressorFits, blockerFits, coefficientFits, begunFits, monitorFits, logsFit, stagesFit, frontFits, stateFits};
 use dc::DcBlocker;
 use image::Begun;
 use image::ImageMonitor;
@@ -69,6 +69,16 @@ fn settings_fit(s: Settings, blocklen: u64) -> bool
 
 // ---- the samples seen, released and held
 
+// How many of the newest samples a number of places holds, of so many that came.
+fn holds(places: usize, came: u64) -> usize
+    ensures { λ r. ⌜ r ≡ min places came ⌝ }
+{
+    if came < places as u64 {
+        return came as usize;
+    }
+    places
+}
+
 // How many samples are held of so many seen.
 fn held_by(applies: bool, seen: u64) -> usize
     ensures { λ r. ⌜ r ≡ heldBy applies seen ⌝ }
@@ -76,10 +86,7 @@ fn held_by(applies: bool, seen: u64) -> usize
     if !applies {
         return 0;
     }
-    if seen < 21 {
-        return seen as usize;
-    }
-    21
+    holds(ImpulseSuppressor::LOOKAHEAD, seen)
 }
 
 fn counts_fit(applies: bool, seen: u64, released: u64, held: usize) -> bool
@@ -132,12 +139,12 @@ fn left_fits(left: Left) -> bool
 
 // The next sample to be judged, of so many received.
 fn next_judged(received: u64) -> u64
-    ensures { λ r. ⌜ r ≡ received - 16 ⌝ }
+    ensures { λ r. ⌜ r ≡ nextJudged received ⌝ }
 {
-    if received < 16 {
+    if received < ImpulseSuppressor::HALF_WINDOW as u64 {
         return 0;
     }
-    received - 16
+    received - ImpulseSuppressor::HALF_WINDOW as u64
 }
 
 fn counters_fit(received: u64, block: u64, flagged: u64) -> bool
@@ -175,29 +182,61 @@ fn power_fits(p: f32) -> bool
     ieee::widen(p) <= 1.0e36
 }
 
-fn powers_fit(window: &[f32; 33]) -> bool
-    requires { ⌜ length (now window) ≡ 33 ⌝ }
-    ensures { λ r. ⌜ r ≡ allTo (λ k. powerFits (getD (now (window .entry)) k zeroF)) 33 ⌝ }
+// Whether the first n powers fit, with no branch between them.
+fn first_powers_fit(window: &[f32; ImpulseSuppressor::WINDOW], n: usize) -> bool
+    requires { ⌜ n ≤ windowSize ⌝ ∗ ⌜ length (now window) ≡ windowSize ⌝ }
+    ensures { λ r. ⌜ r ≡ powersFit n (now (window .entry)) ⌝ }
 {
     let mut fit = true;
     let mut k: usize = 0;
-    while k < 33 {
+    while k < n {
         fit = fit & power_fits(window[k]);
         k += 1;
     }
     fit
 }
 
-fn pending_fits(pending: &[u64; 21]) -> bool
-    requires { ⌜ length (now pending) ≡ 21 ⌝ }
-    ensures { λ r. ⌜ r ≡ allTo (λ k. withinLimit (getD (now (pending .entry)) k 0)) 21 ⌝ }
+// The same: nearly always all of them fit, and a loop of a fixed length is the faster one.
+fn powers_fit(window: &[f32; ImpulseSuppressor::WINDOW], n: usize) -> bool
+    requires { ⌜ n ≤ windowSize ⌝ ∗ ⌜ length (now window) ≡ windowSize ⌝ }
+    ensures { λ r. ⌜ r ≡ powersFit n (now (window .entry)) ⌝ }
 {
-    part_limit::first_beyond(pending) == 21
+    if first_powers_fit(window, ImpulseSuppressor::WINDOW) {
+        return true;
+    }
+    first_powers_fit(window, n)
+}
+
+// Whether the first n samples are within the limit.
+fn samples_fit(pending: &[u64; ImpulseSuppressor::LOOKAHEAD], n: usize) -> bool
+    requires { ⌜ n ≤ lookaheadSize ⌝ ∗ ⌜ length (now pending) ≡ lookaheadSize ⌝ }
+    ensures { λ r. ⌜ r ≡ samplesFit n (now (pending .entry)) ⌝ }
+{
+    n <= part_limit::first_beyond(pending)
+}
+
+// What the window and the pending samples hold, when so many samples have come.
+fn arrays_fit(
+    received: u64,
+    window: &[f32; ImpulseSuppressor::WINDOW],
+    pending: &[u64; ImpulseSuppressor::LOOKAHEAD],
+) -> bool
+    requires { ⌜ length (now window) ≡ windowSize ⌝ ∗ ⌜ length (now pending) ≡ lookaheadSize ⌝ }
+    ensures { λ r. ⌜ r ≡ arraysFit received (now (window .entry)) (now (pending .entry)) ⌝ }
+{
+    if !powers_fit(window, holds(ImpulseSuppressor::WINDOW, received)) {
+        return false;
+    }
+    samples_fit(pending, holds(ImpulseSuppressor::LOOKAHEAD, received))
 }
 
 // The first n powers of the window, widened, over the first of these words.
-fn copy_powers(window: &[f32; 33], n: usize, wide: &mut [f64; 33])
-    requires { ⌜ n ≤ 33 ⌝ ∗ ⌜ length (now window) ≡ 33 ⌝ ∗ ⌜ length (now wide) ≡ 33 ⌝ }
+fn copy_powers(
+    window: &[f32; ImpulseSuppressor::WINDOW],
+    n: usize,
+    wide: &mut [f64; ImpulseSuppressor::WINDOW],
+)
+    requires { ⌜ n ≤ windowSize ⌝ ∗ ⌜ length (now window) ≡ windowSize ⌝ ∗ ⌜ length (now wide) ≡ windowSize ⌝ }
     ensures { λ _. ⌜ now (wide .exit) ≡ take n (now (window .entry)) ++ drop n (now (wide .entry)) ⌝ }
 {
     let mut k: usize = 0;
@@ -207,12 +246,16 @@ fn copy_powers(window: &[f32; 33], n: usize, wide: &mut [f64; 33])
     }
 }
 
-// Whether the powers are those, bit by bit.
-fn same_powers(sorted: &[f32; 33], wide: &[f64; 33]) -> bool
-    requires { ⌜ length (now sorted) ≡ 33 ⌝ ∗ ⌜ length (now wide) ≡ 33 ⌝ }
-    ensures { λ r. ⌜ r ≡ allTo (λ k. eqb (toBits binary64 (getD (now (sorted .entry)) k zeroF)) (toBits binary64 (getD (now (wide .entry)) k zeroF))) 33 ⌝ }
+// Whether the first n powers are those, bit by bit.
+fn same_powers(
+    n: usize,
+    sorted: &[f32; ImpulseSuppressor::WINDOW],
+    wide: &[f64; ImpulseSuppressor::WINDOW],
+) -> bool
+    requires { ⌜ n ≤ windowSize ⌝ ∗ ⌜ length (now sorted) ≡ windowSize ⌝ ∗ ⌜ length (now wide) ≡ windowSize ⌝ }
+    ensures { λ r. ⌜ r ≡ allTo (λ k. eqb (toBits binary64 (getD (now (sorted .entry)) k zeroF)) (toBits binary64 (getD (now (wide .entry)) k zeroF))) n ⌝ }
 {
-    for k in 0..33 {
+    for k in 0..n {
         let given = ieee::to_bits64(ieee::widen(sorted[k]));
         if given != ieee::to_bits64(wide[k]) {
             return false;
@@ -222,14 +265,18 @@ fn same_powers(sorted: &[f32; 33], wide: &[f64; 33]) -> bool
 }
 
 // By sorting the window.
-fn sorts_to(n: usize, window: &[f32; 33], sorted: &[f32; 33]) -> bool
-    requires { ⌜ n ≤ 33 ⌝ ∗ ⌜ length (now window) ≡ 33 ⌝ ∗ ⌜ length (now sorted) ≡ 33 ⌝ }
+fn sorts_to(
+    n: usize,
+    window: &[f32; ImpulseSuppressor::WINDOW],
+    sorted: &[f32; ImpulseSuppressor::WINDOW],
+) -> bool
+    requires { ⌜ n ≤ windowSize ⌝ ∗ ⌜ length (now window) ≡ windowSize ⌝ ∗ ⌜ length (now sorted) ≡ windowSize ⌝ }
     ensures { λ r. ⌜ r ≡ sortedFits n (now (window .entry)) (now (sorted .entry)) ⌝ }
 {
-    let mut wide = [0.0f64; 33];
+    let mut wide = [0.0f64; ImpulseSuppressor::WINDOW];
     copy_powers(window, n, &mut wide);
     floor::sort_words(&mut wide[..n]);
-    same_powers(sorted, &wide)
+    same_powers(n, sorted, &wide)
 }
 
 // ---- a full window, without sorting it
@@ -249,28 +296,28 @@ fn equal(a: f32, b: f32) -> bool
 }
 
 // Whether the powers are above 0, and each above the one before.
-fn ascends(sorted: &[f32; 33]) -> bool
-    requires { ⌜ length (now sorted) ≡ 33 ⌝ }
+fn ascends(sorted: &[f32; ImpulseSuppressor::WINDOW]) -> bool
+    requires { ⌜ length (now sorted) ≡ windowSize ⌝ }
     ensures result { λ r. ⌜ r ≡ climbs lt zeroF (now (sorted .entry)) ⌝ }
     ensures values { λ r. ⌜ All Held (now (sorted .entry)) ⌝ }
 {
     let mut rising = below(0.0, sorted[0]);
     let mut k: usize = 0;
-    while k < 32 {
+    while k < ImpulseSuppressor::WINDOW - 1 {
         rising = rising & below(sorted[k], sorted[k + 1]);
         k += 1;
     }
     rising
 }
 
-fn occurs(window: &[f32; 33], x: f32) -> bool
-    requires { ⌜ length (now window) ≡ 33 ⌝ }
+fn occurs(window: &[f32; ImpulseSuppressor::WINDOW], x: f32) -> bool
+    requires { ⌜ length (now window) ≡ windowSize ⌝ }
     ensures result { λ r. ⌜ r ≡ occurs x (now (window .entry)) ⌝ }
     ensures values { λ r. ⌜ All Held (now (window .entry)) ⌝ }
 {
     let mut found = false;
     let mut k: usize = 0;
-    while k < 33 {
+    while k < ImpulseSuppressor::WINDOW {
         found = found | equal(x, window[k]);
         k += 1;
     }
@@ -278,14 +325,17 @@ fn occurs(window: &[f32; 33], x: f32) -> bool
 }
 
 // Whether each power of the sorted list occurs in the window.
-fn all_occur(window: &[f32; 33], sorted: &[f32; 33]) -> bool
-    requires { ⌜ length (now window) ≡ 33 ⌝ ∗ ⌜ length (now sorted) ≡ 33 ⌝ }
-    ensures result { λ r. ⌜ r ≡ allTo (λ k. occurs (getD (now (sorted .entry)) k zeroF) (now (window .entry))) 33 ⌝ }
+fn all_occur(
+    window: &[f32; ImpulseSuppressor::WINDOW],
+    sorted: &[f32; ImpulseSuppressor::WINDOW],
+) -> bool
+    requires { ⌜ length (now window) ≡ windowSize ⌝ ∗ ⌜ length (now sorted) ≡ windowSize ⌝ }
+    ensures result { λ r. ⌜ r ≡ allTo (λ k. occurs (getD (now (sorted .entry)) k zeroF) (now (window .entry))) windowSize ⌝ }
     ensures values { λ r. ⌜ All Held (now (window .entry)) ⌝ }
 {
     let mut all = true;
     let mut k: usize = 0;
-    while k < 33 {
+    while k < ImpulseSuppressor::WINDOW {
         all = all & occurs(window, sorted[k]);
         k += 1;
     }
@@ -294,8 +344,11 @@ fn all_occur(window: &[f32; 33], sorted: &[f32; 33]) -> bool
 
 // Whether it is known without sorting that the sorted list is the window sorted: as many different
 // powers, in order, each of which occurs there.
-fn is_arranged(window: &[f32; 33], sorted: &[f32; 33]) -> bool
-    requires { ⌜ length (now window) ≡ 33 ⌝ ∗ ⌜ length (now sorted) ≡ 33 ⌝ }
+fn is_arranged(
+    window: &[f32; ImpulseSuppressor::WINDOW],
+    sorted: &[f32; ImpulseSuppressor::WINDOW],
+) -> bool
+    requires { ⌜ length (now window) ≡ windowSize ⌝ ∗ ⌜ length (now sorted) ≡ windowSize ⌝ }
     ensures { λ r. ⌜ (r ≡ true → sort lt (now (window .entry)) ≡ now (sorted .entry)) ⌝ }
 {
     if !ascends(sorted) {
@@ -304,11 +357,15 @@ fn is_arranged(window: &[f32; 33], sorted: &[f32; 33]) -> bool
     all_occur(window, sorted)
 }
 
-fn sorted_fits(n: usize, window: &[f32; 33], sorted: &[f32; 33]) -> bool
-    requires { ⌜ n ≤ 33 ⌝ ∗ ⌜ length (now window) ≡ 33 ⌝ ∗ ⌜ length (now sorted) ≡ 33 ⌝ }
+fn sorted_fits(
+    n: usize,
+    window: &[f32; ImpulseSuppressor::WINDOW],
+    sorted: &[f32; ImpulseSuppressor::WINDOW],
+) -> bool
+    requires { ⌜ n ≤ windowSize ⌝ ∗ ⌜ length (now window) ≡ windowSize ⌝ ∗ ⌜ length (now sorted) ≡ windowSize ⌝ }
     ensures { λ r. ⌜ r ≡ sortedFits n (now (window .entry)) (now (sorted .entry)) ⌝ }
 {
-    if n != 33 {
+    if n != ImpulseSuppressor::WINDOW {
         return sorts_to(n, window, sorted);
     }
     if is_arranged(window, sorted) {
@@ -317,33 +374,40 @@ fn sorted_fits(n: usize, window: &[f32; 33], sorted: &[f32; 33]) -> bool
     sorts_to(n, window, sorted)
 }
 
-// How many samples the window holds, of so many seen.
-fn window_count(seen: u64) -> usize
-    ensures { λ r. ⌜ r ≡ min seen 33 ⌝ }
-{
-    if seen < 33 {
-        return seen as usize;
-    }
-    33
-}
+// ---- the stage's state
 
-fn suppressor_fits(m: ImpulseSuppressor, seen: u64) -> bool
-    ensures { λ r. ⌜ r ≡ suppressorFits m seen ⌝ }
+// The arrays, and where the stage runs how many samples it has received, and its sorted list.
+fn suppressor_fits(m: ImpulseSuppressor, running: bool, seen: u64) -> bool
+    ensures { λ r. ⌜ r ≡ suppressorFits m running seen ⌝ }
 {
     let gate = m.gate;
     let window = m.window;
     let sorted = m.sorted;
     let pending = m.pending;
+    if !arrays_fit(gate.received, &window, &pending) {
+        return false;
+    }
+    if !running {
+        return true;
+    }
     if gate.received != seen {
         return false;
     }
-    if !powers_fit(&window) {
+    sorted_fits(
+        holds(ImpulseSuppressor::WINDOW, gate.received),
+        &window,
+        &sorted,
+    )
+}
+
+// Whether the stage is off and no sample has come to it, so that there is nothing to test.
+fn is_untouched(running: bool, received: u64) -> bool
+    ensures { λ r. ⌜ (r ≡ true → (running ≡ false) × (received ≡ 0)) ⌝ }
+{
+    if running {
         return false;
     }
-    if !sorted_fits(window_count(seen), &window, &sorted) {
-        return false;
-    }
-    pending_fits(&pending)
+    received == 0
 }
 
 // ---- the other stages
@@ -433,16 +497,16 @@ impl InputConditioner {
         gate_fits(gate)
     }
 
-    // The suppressor, where its stage runs.
     fn impulse_fits(self) -> bool
-        ensures { λ r. ⌜ r ≡ impulseFits self ⌝ }
+        ensures { λ r. ⌜ r ≡ suppressorFits (self .suppressor) (self .settings .impulse) (self .seen) ⌝ }
     {
         let settings = self.settings;
         let suppressor = self.suppressor;
-        if !settings.impulse {
+        let gate = suppressor.gate;
+        if is_untouched(settings.impulse, gate.received) {
             return true;
         }
-        suppressor_fits(suppressor, self.seen)
+        suppressor_fits(suppressor, settings.impulse, self.seen)
     }
 
     fn logs_fit(self) -> bool

@@ -23,6 +23,7 @@ use log::Ring;
 use making::MakingAnswer;
 use state::InputConditioner;
 use state::Settings;
+use undo::Undone;
 
 // How many words a state has, and how many of them the settings and the stages take, but for the coefficient.
 pub const WORDS: usize = 170;
@@ -102,7 +103,7 @@ pub struct Told {
     pub value: u64,
 }
 
-// A state was made, samples are ready, or a hop was added with no report.
+// A state was made, samples are ready, a hop was added with no report, or the originals are back.
 pub const ACCEPTED: u64 = 0;
 
 // There was nothing to do.
@@ -156,6 +157,14 @@ pub fn told_hop(answer: HopSaid) -> Told {
             value: place as u64,
         },
         HopSaid::Early => plain(9),
+    }
+}
+
+fn told_undone(answer: Undone) -> Told {
+    match answer {
+        Undone::Restored => plain(ACCEPTED),
+        Undone::BadState => plain(5),
+        Undone::BadLength => plain(4),
     }
 }
 
@@ -336,7 +345,7 @@ fn write_counts(state: InputConditioner, words: &mut [u64; WORDS]) {
 }
 
 fn write_ring(ring: Ring, words: &mut [u64; WORDS], at: usize) {
-    let list = [ring.head as u64, ring.len as u64, ring.dropped];
+    let list = [ring.head as u64, ring.count as u64, ring.dropped];
     put(&list, words, at);
 }
 
@@ -490,7 +499,7 @@ fn read_ring(words: &[u64], at: usize) -> Ring
 {
     Ring {
         head: word(words, at) as usize,
-        len: word(words, at + 1) as usize,
+        count: word(words, at + 1) as usize,
         dropped: word(words, at + 2),
     }
 }
@@ -632,4 +641,17 @@ pub fn hop(
     );
     write_state(called.state, words);
     called.answer
+}
+
+// Repair undo with so many words of the repair store. The first of the samples has this number.
+pub fn undo_repairs(
+    words: &[u64; WORDS],
+    repairs: &[u64],
+    length: usize,
+    samples: &mut [u64],
+    first: u64,
+) -> Told {
+    let r = part(repairs, length);
+    let answer = undo::revert_repairs(read_state(words), &repairs[..r], samples, first);
+    told_undone(answer)
 }

@@ -23,16 +23,16 @@ use state_words::plain;
 
 // ---- the log
 
-fn write_ring(count: u64, ring: Ring) {
-    let words = [count, ring.head as u64, ring.len as u64, ring.dropped];
+fn write_ring(samples: u64, ring: Ring) {
+    let words = [samples, ring.head as u64, ring.count as u64, ring.dropped];
     write_words(&words);
 }
 
 fn write_rings(log: ConditioningLog) {
     for k in 0..12 {
-        let count = log.counts[k];
+        let samples = log.counts[k];
         let ring = log.rings[k];
-        write_ring(count, ring);
+        write_ring(samples, ring);
     }
 }
 
@@ -53,7 +53,7 @@ fn write_counts(log: ConditioningLog) {
     let words = [
         log.dropped,
         ring.head as u64,
-        ring.len as u64,
+        ring.count as u64,
         ring.dropped,
         log.longruns,
     ];

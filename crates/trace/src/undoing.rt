@@ -12,7 +12,6 @@ use state_words::Told;
 use state_words::WORDS;
 use state_words::part;
 use state_words::plain;
-use undo::Undone;
 
 fn beyond(place: usize) -> Told {
     Told {
@@ -23,18 +22,9 @@ fn beyond(place: usize) -> Told {
 
 // ---- repairs
 
-fn told_undone(answer: Undone) -> Told {
-    match answer {
-        Undone::Restored => plain(0),
-        Undone::BadState => plain(5),
-        Undone::BadLength => plain(4),
-    }
-}
-
 pub fn repairs(state: &[u64; WORDS], head: Head, input: &mut [u64], repairs: &[u64]) {
-    let b = part(repairs, head.b as usize);
-    let answer = undo::revert_repairs(state_words::read_state(state), &repairs[..b], input, head.a);
-    answer_slice(9, told_undone(answer), input, head.how);
+    let told = state_words::undo_repairs(state, repairs, head.b as usize, input, head.a);
+    answer_slice(9, told, input, head.how);
 }
 
 // ---- DC

@@ -102,7 +102,7 @@ placeOf cap head i = (head + i) % cap * 6
 abbrev pub heldAt : ℕ → Ring → ℕ → List ℕ
 heldAt cap r i = recordIn (r .words) (placeOf cap (r .head) i)
 
-pub held-are : (cap : ℕ) (r : Ring) → heldRecords cap r ≡ upTo (heldAt cap r) (r .len)
+pub held-are : (cap : ℕ) (r : Ring) → heldRecords cap r ≡ upTo (heldAt cap r) (r .count)
 unfolding heldRecords
 held-are cap r = refl
 
@@ -110,11 +110,11 @@ held-are cap r = refl
 pub place-in : (cap : ℕ) (r : Ring) (i : ℕ) → Sound 6 cap r → placeOf cap (r .head) i + 6 ≤ length (r .words)
 place-in cap r i s = omega (arith, place-fits 6 cap ((r .head + i) % cap) (mod-lt (r .head + i) (s .some)), s .long)
 
-pub held-fit : (cap : ℕ) (r : Ring) → recordsFit (heldRecords cap r) ≡ allTo (λ i. recordFits (heldAt cap r i)) (r .len)
-held-fit cap r = ap recordsFit (held-are cap r) ∙ fit-upTo (heldAt cap r) (r .len)
+pub held-fit : (cap : ℕ) (r : Ring) → recordsFit (heldRecords cap r) ≡ allTo (λ i. recordFits (heldAt cap r i)) (r .count)
+held-fit cap r = ap recordsFit (held-are cap r) ∙ fit-upTo (heldAt cap r) (r .count)
 
-pub each-fits : (cap : ℕ) (r : Ring) (i : ℕ) → recordsFit (heldRecords cap r) ≡ true → i < r .len → recordFits (heldAt cap r i) ≡ true
-each-fits cap r i e h = all-at (λ j. recordFits (heldAt cap r j)) (r .len) i (sym (held-fit cap r) ∙ e) h
+pub each-fits : (cap : ℕ) (r : Ring) (i : ℕ) → recordsFit (heldRecords cap r) ≡ true → i < r .count → recordFits (heldAt cap r i) ≡ true
+each-fits cap r i e h = all-at (λ j. recordFits (heldAt cap r j)) (r .count) i (sym (held-fit cap r) ∙ e) h
 
 -- ---- one original
 

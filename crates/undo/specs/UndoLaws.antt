@@ -8,6 +8,7 @@ use borrow.Author.Tests.{eq-eqb}
 use lib.Dec.{lit≤}
 use lib.ListN.{length, take, drop}
 use lib.Seq.{take-length}
+use Rattle.rules.specs.Answers.{accepted}
 use Rattle.rules.specs.Lists.{at}
 use Rattle.rules.specs.SortLaws.{All}
 use Rattle.rules.specs.Impulse.{Setting, flagged, judged, value, events, handedOn, happened}
@@ -22,7 +23,7 @@ use Rattle.impulse.specs.Repairs.{Original, all-original, undo-slice, undo-hand
 use Rattle.state.specs.declared.InputConditioner.{InputConditioner}
 use Rattle.state.specs.Fits.{stateFits}
 use Rattle.state.specs.FitsLaws.{state-fit}
-use Rattle.undo.specs.Undoing.{recordsOf, undoRefusal, restored, undoOf}
+use Rattle.undo.specs.Undoing.{recordsOf, undoRefusal, undoOf}
 use Rattle.undo.specs.Records.{Fit, fit-records}
 use Rattle.undo.specs.UndoTests.{refusal-by, outcome-by}
 
@@ -64,10 +65,10 @@ module _ (c : InputConditioner) (repairs : List ℕ) (rs : List (List ℕ)) (m :
 
   -- where none was dropped, all are undone
   pub made-undone : length rs ≤ c .settings .repairs → (ys : List ℕ) (first : ℕ)
-      → undoOf c repairs ys first ≡ record { said = restored; samples = undoneAll first rs ys }
+      → undoOf c repairs ys first ≡ record { said = accepted tt; samples = undoneAll first rs ys }
   made-undone h ys first =
       outcome-by c repairs ys first 0 made-accepted
-      ∙ ap (λ (es : List (List ℕ)). record { said = restored; samples = undoneAll first es ys }) (ap (heldRecords (c .settings .repairs)) (m .ring) ∙ held-repaired (c .settings .repairs) rs some (m .wide) h)
+      ∙ ap (λ (es : List (List ℕ)). record { said = accepted tt; samples = undoneAll first es ys }) (ap (heldRecords (c .settings .repairs)) (m .ring) ∙ held-repaired (c .settings .repairs) rs some (m .wide) h)
 
 -- ---- the repairs of the impulse stage
 
@@ -92,17 +93,17 @@ module _ (c : InputConditioner) (repairs xs : List ℕ) (s : Setting) (r : s .ru
   -- no repair was dropped: any slice of what the stage hands on becomes that of the input
   pub slice-returns : length (repairsOf (happened s xs)) ≤ c .settings .repairs → (ys : List ℕ) (first : ℕ) → first + length ys ≤ length xs
       → ((i : ℕ) → i < length ys → at ys i ≡ value s (flagged s xs) xs (judged s (length xs)) (first + i))
-      → undoOf c repairs ys first ≡ record { said = restored; samples = take (length ys) (drop first xs) }
+      → undoOf c repairs ys first ≡ record { said = accepted tt; samples = take (length ys) (drop first xs) }
   slice-returns h ys first w same =
       made-undone c repairs (repairsOf (happened s xs)) stage-made h ys first
-      ∙ ap (λ (l : List ℕ). record { said = restored; samples = l }) (undo-slice s r xs ys first w same)
+      ∙ ap (λ (l : List ℕ). record { said = accepted tt; samples = l }) (undo-slice s r xs ys first w same)
 
   -- and all that it handed on becomes the input
   pub input-returns : length (repairsOf (happened s xs)) ≤ c .settings .repairs
-      → undoOf c repairs (handedOn s xs) 0 ≡ record { said = restored; samples = take (length (handedOn s xs)) xs }
+      → undoOf c repairs (handedOn s xs) 0 ≡ record { said = accepted tt; samples = take (length (handedOn s xs)) xs }
   input-returns h =
       made-undone c repairs (repairsOf (happened s xs)) stage-made h (handedOn s xs) 0
-      ∙ ap (λ (l : List ℕ). record { said = restored; samples = l }) (undo-handed s r xs)
+      ∙ ap (λ (l : List ℕ). record { said = accepted tt; samples = l }) (undo-handed s r xs)
 
 -- ---- a chain, by its configuration
 
@@ -140,7 +141,7 @@ module _ (k : Config) (c : InputConditioner) (repairs xs : List ℕ) (long : len
 
   -- no repair was dropped: what the impulse stage handed on becomes the input
   pub chain-returns : length (repairsOf (impulseEvents k xs)) ≤ k .repairs
-      → undoOf c repairs (afterImpulse k xs) 0 ≡ record { said = restored; samples = take (length (afterImpulse k xs)) xs }
+      → undoOf c repairs (afterImpulse k xs) 0 ≡ record { said = accepted tt; samples = take (length (afterImpulse k xs)) xs }
   chain-returns h =
       made-undone c repairs (repairsOf (impulseEvents k xs)) chain-made (omega arith) (afterImpulse k xs) 0
-      ∙ ap (λ (l : List ℕ). record { said = restored; samples = l }) (chain-back k xs)
+      ∙ ap (λ (l : List ℕ). record { said = accepted tt; samples = l }) (chain-back k xs)

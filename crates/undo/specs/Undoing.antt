@@ -1,12 +1,14 @@
 -- Repair undo: what it declines, and what it makes of a slice. Definitions only.
 use mathlib.Core.Bool.{Bool, true, not, cond, _&&_}
 use mathlib.Core.List.{List, [], _∷_}
-use Prim.Native.Nat.{ℕ, _*_, _^_}
+use Prim.Native.Nat.{ℕ, _*_}
 use lib.Dec.{ltb, leb, eqb}
 use lib.ListN.{length, take, drop}
+use Rattle.rules.specs.Constants.{totalLimit}
 use Rattle.rules.specs.Lists.{at}
 use Rattle.rules.specs.Log.{repairWidth}
 use Rattle.rules.specs.Undo.{heldRecords, undoneAll}
+use Rattle.rules.specs.Answers.{Said, accepted, refused}
 use Rattle.rules.specs.Refusals.{Cause, firstOf, badLength}
 use Rattle.log.specs.View.{ringIn}
 use Rattle.state.specs.declared.InputConditioner.{InputConditioner}
@@ -22,7 +24,7 @@ recordIn ws place = take repairWidth (drop place ws)
 
 -- not: 'in repair undo a held record's length not 1..4 or start > 2^48'
 unfoldable pub recordFits : List ℕ → Bool
-recordFits e = ltb 0 (at e 1) && leb (at e 1) 4 && leb (at e 0) (2 ^ 48)
+recordFits e = ltb 0 (at e 1) && leb (at e 1) 4 && leb (at e 0) totalLimit
 
 unfoldable pub recordsFit : List (List ℕ) → Bool
 recordsFit [] = true
@@ -44,18 +46,14 @@ undoRefusal c repairs = firstOf (badState c ∷ badLength (6 * c .settings .repa
 -- ---- the operation
 
 -- in document 01's words: what the table returns, or that the originals are back
-pub data Said : Type 0 where
-  refused : List ℕ → Said
-  restored : Said
-
-abbrev pub said : Undone → Said
-said answer.Restored = restored
+abbrev pub said : Undone → Said (Unit {0})
+said answer.Restored = accepted tt
 said answer.BadState = refused (5 ∷ [])
 said answer.BadLength = refused (4 ∷ [])
 
 -- the answer, and the slice
 pub record Outcome : Type 0 where
-  pub said : Said
+  pub said : Said (Unit {0})
   pub samples : List ℕ
 
 -- 'Logged originals return to their places, oldest first; those outside the slice are skipped': the slice begins with sample `first`
@@ -63,5 +61,5 @@ unfoldable pub undoOf : InputConditioner → List ℕ → List ℕ → ℕ → O
 undoOf c repairs samples first =
     let n = undoRefusal c repairs in
     cond (eqb n 0)
-    (record { said = restored; samples = undoneAll first (recordsOf c repairs) samples })
+    (record { said = accepted tt; samples = undoneAll first (recordsOf c repairs) samples })
     (record { said = refused (n ∷ []); samples = samples })

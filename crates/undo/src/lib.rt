@@ -47,7 +47,7 @@ fn records_fit(ring: Ring, repairs: &[u64], capacity: usize) -> bool
     ensures { λ r. ⌜ r ≡ recordsFit (heldRecords capacity (ringIn ring (now (repairs .entry)))) ⌝ }
 {
     let head = ring.head;
-    let held = ring.len;
+    let held = ring.count;
     for i in 0..held {
         if !record_fits(repairs, (head + i) % capacity * 6) {
             return false;
@@ -92,7 +92,7 @@ fn undo_records(samples: &mut [u64], first: u64, ring: Ring, repairs: &[u64], ca
     ensures { λ r. ⌜ now (samples .exit) ≡ undoneAll first (heldRecords capacity (ringIn ring (now (repairs .entry)))) (now (samples .entry)) ⌝ }
 {
     let head = ring.head;
-    let held = ring.len;
+    let held = ring.count;
     for i in 0..held {
         undo_record(samples, first, repairs, (head + i) % capacity * 6);
     }

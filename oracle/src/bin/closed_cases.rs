@@ -54,7 +54,7 @@ fn complex(z: Complex64) -> String {
 
 fn ring(r: &Ring) -> String {
     format!(
-        "record {{ head = {}; len = {}; dropped = {}; words = {} }}",
+        "record {{ head = {}; count = {}; dropped = {}; words = {} }}",
         r.head,
         r.held,
         r.dropped,
@@ -63,7 +63,7 @@ fn ring(r: &Ring) -> String {
 }
 
 fn marks(r: &SpanRing) -> String {
-    format!("record {{ count = {}; ring = {} }}", r.count, ring(&r.ring))
+    format!("record {{ samples = {}; ring = {} }}", r.count, ring(&r.ring))
 }
 
 fn evidence(r: &Option<ImageResult>) -> String {
@@ -228,7 +228,7 @@ fn stage(name: &str, fs: f64, samples: &[Complex32], spans: usize) {
         &chain.log().impulse_long_runs().to_string(),
         "longRuns",
     );
-    for (k, mark) in [(0, "isRepaired"), (1, "isFlagged"), (3, "isUncertain")] {
+    for (k, mark) in [(0, "Repaired"), (1, "Flagged"), (3, "Uncertain")] {
         let part = ["repaired", "flagged", "", "uncertain"][k];
         let text = marks(&record.rings[k]);
         known(
@@ -563,7 +563,7 @@ use mathlib.Core.List.{List, [], _∷_}
 use Prim.Native.Nat.{ℕ}
 use Rattle.rules.specs.Lists.{upTo}
 use Rattle.rules.specs.Impulse.{Setting, standard, Event, value, events, happened, handedOn}
-use Rattle.rules.specs.Log.{marked, repaired, isRepaired, isFlagged, isUncertain, marksOf, repairsOf, longRuns}
+use Rattle.rules.specs.Log.{marked, repaired, Repaired, Flagged, Uncertain, marksOf, repairsOf, longRuns}
 use Rattle.rules.specs.ByFlags.{from, flagsOf, look, happened-by, handed-by}
 use Rattle.rules.specs.Computing.{floats, impulseRules, logRules}
 ";

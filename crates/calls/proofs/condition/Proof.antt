@@ -1,73 +1,76 @@
--- `calls::condition` tests the state and the stores, and then the slice. Assumes nothing.
-use mathlib.Core.Path.{_≡_, sym, _∙_}
-use mathlib.Core.Bool.{true}
+-- `calls::condition`: refused unread, or for a sample, or accepted. Assumes nothing.
+use mathlib.Core.Path.{_≡_, refl, sym, ap, _∙_}
+use mathlib.Core.List.{List}
+use Prim.Native.Nat.{ℕ, _+_, _-_, _≤_}
 use native.Mathlib.Omega.{arith}
-use borrow.Author.Tests.{eq-eqb, ne-eqb, not-true, not-false}
+use lib.Dec.{eqb}
+use lib.ListN.{length, take, drop, length-drop}
+use lib.Seq.{take-all}
+use borrow.Author.Tests.{ne-eqb, ltb-true}
 use denote.Ref.{now}
-use Rattle.rules.specs.ListLaws.{length-map}
-use Rattle.state.specs.Fits.{stateFits}
-use Rattle.state.specs.FitsLaws.{Fit, state-fit}
-use Rattle.chain.specs.CallTests.{unfit-state, repairs-wrong, spans-wrong, unfit-spans}
+use Rattle.rules.specs.Refusals.{unusableAt}
+use Rattle.chain.specs.Calls.{unreadRefusal, Outcome}
+use Rattle.chain.specs.CallTests.{told-number, passes, unread-declined, scan-at, scan-fine, unusable-sample, accepted-call}
 use borrow.Author.Needs.{needs}
 use Rattle.calls.proofs.condition.Statement.{statement}
 use Rattle.calls.proofs.condition.Tie as tie
 
--- the state is fit
-fits : (c : tie.Else1) → stateFits (c .before .before .before .before .before .args .state) ≡ true
-fits c = sym (c .before .fits2 .ensures) ∙ not-false _ (c .if1 .left)
+-- nothing is refused unread
+none : (c : tie.Else1) → let a = c .before .before .before .before .before .before .before .before .args in unreadRefusal (a .state) (length (now (a .samples))) (now (a .spans)) (now (a .repairs)) ≡ 0
+none c = told-number _ _ _ (c .before .before .refusal .ensures) (c .before .number .ensures) ∙ c .if1 .left
 
-fit : (c : tie.Else1) → Fit (c .before .before .before .before .before .args .state)
-fit c = state-fit _ (fits c)
+long : (c : tie.Else1) → let a = c .before .before .before .before .before .before .before .before .args in a .state .held ≤ length (now (a .samples))
+long c = let a = c .before .before .before .before .before .before .before .before .args in passes (a .state) (length (now (a .samples))) (now (a .spans)) (now (a .repairs)) (none c) .held-in
 
-fits-requires : tie.Need-fits-requires
-fits-requires c κs = search needs
+-- the part that is scanned is the slice behind the held samples
+part : (held : ℕ) (xs : List ℕ) → take (length xs - held) (drop held xs) ≡ drop held xs
+part held xs = take-all (length xs - held) (drop held xs) (let l = length-drop held xs in omega arith)
 
-returns : tie.Need-returns
-returns c =
-    let a = c .before .before .before .before .before .args in
-    unfit-state (a .state) (now (a .samples)) (now (a .spans)) (now (a .repairs)) (sym (c .before .fits2 .ensures) ∙ not-true _ (c .if1 .taken))
+refusal-requires : tie.Need-refusal-requires
+refusal-requires c κs = search needs
 
-mul-if2 : tie.Need-mul-if2
-mul-if2 c = let f = fit (c .before .before) .settings .few-repairs in omega arith
-
-returns-2 : tie.Need-returns-2
-returns-2 c =
-    let a = c .before .before .before .before .before .before .before .before .args in
-    repairs-wrong (a .state) (now (a .samples)) (now (a .spans)) (now (a .repairs)) (fits (c .before .before .before)) (ne-eqb _ _ (c .if2 .taken))
-
-mul-if3 : tie.Need-mul-if3
-mul-if3 c = let f = fit (c .before .before .before .before) .settings .few-spans in omega arith
-
-returns-3 : tie.Need-returns-3
-returns-3 c =
-    let a = c .before .before .before .before .before .before .before .before .before .before .args in
-    spans-wrong (a .state) (now (a .samples)) (now (a .spans)) (now (a .repairs)) (fits (c .before .before .before .before .before)) (eq-eqb _ _ (c .before .before .if2 .left)) (ne-eqb _ _ (c .if3 .taken))
-
-ends-fit-requires : tie.Need-ends-fit-requires
-ends-fit-requires c κs = let l = c .before .before .if3 .left in (fit (c .before .before .before .before .before .before .before) .log, omega arith)
+number-requires : tie.Need-number-requires
+number-requires c κs = search needs
 
 same-length : tie.Need-same-length
 same-length c = search needs
 
-returns-4 : tie.Need-returns-4
-returns-4 c =
-    let a = c .before .before .before .before .before .before .before .before .before .before .before .before .before .before .args in
-    unfit-spans (a .state) (now (a .samples)) (now (a .spans)) (now (a .repairs)) (fits (c .before .before .before .before .before .before .before .before .before)) (eq-eqb _ _ (c .before .before .before .before .before .before .if2 .left)) (eq-eqb _ _ (c .before .before .before .before .if3 .left)) (sym (c .before .ends-fit .ensures) ∙ not-true _ (c .if4 .taken))
-
-take-slice-requires : tie.Need-take-slice-requires
-take-slice-requires c κs =
-    let s = c .before .before .before .before .before .before .before .before .before .before .before .before .before .before .before .before .before in
-    record {
-      fits = fits (c .before .before .before .before .before .before .before .before .before .before .before .before);
-      rings = sym (length-map _ (s .args .state .log .rings)) ∙ s .good .0 .1 .1 .1 .1 .1 .1 .1 .1 .1 .0 .1 .1 .0 .1 .0 .1;
-      counts = sym (length-map _ (s .args .state .log .counts)) ∙ s .good .0 .1 .1 .1 .1 .1 .1 .1 .1 .1 .0 .1 .1 .1 .0 .1 .0 .1;
-      repairs-long = c .before .before .before .before .before .before .before .before .before .if2 .left;
-      spans-long = c .before .before .before .before .before .before .before .if3 .left;
-      ends = sym (c .before .before .before .before .ends-fit .ensures) ∙ not-false _ (c .before .before .before .if4 .left);
-    }
-
 same-length-2 : tie.Need-same-length-2
 same-length-2 c = search needs
+
+returns : tie.Need-returns
+returns c =
+    let a = c .before .before .before .before .before .before .before .before .args in
+    let n = unreadRefusal (a .state) (length (now (a .samples))) (now (a .spans)) (now (a .repairs)) in
+    let told = c .before .before .refusal .ensures in
+    let some = ap (λ (k : ℕ). eqb k 0) (told-number n _ _ told (c .before .number .ensures)) ∙ ne-eqb _ _ (c .if1 .taken) in
+    let d = unread-declined (a .state) (now (a .samples)) (now (a .spans)) (now (a .repairs)) n refl some in
+    (told ∙ d .0, d .1)
+
+mul-first-unusable : tie.Need-mul-first-unusable
+mul-first-unusable c = let l = long c in omega arith
+
+sub-first-unusable : tie.Need-sub-first-unusable
+sub-first-unusable c = let l = long c in omega arith
+
+part-first-unusable-start : tie.Need-part-first-unusable-start
+part-first-unusable-start c = let l = long (c .before) in omega arith
+
+part-first-unusable-end : tie.Need-part-first-unusable-end
+part-first-unusable-end c = search needs
+
+first-unusable-requires : tie.Need-first-unusable-requires
+first-unusable-requires c κs = search needs
+
+enum-known-found : tie.Need-enum-known-found
+enum-known-found c = search needs
+
+add-t20 : tie.Need-add-t20
+add-t20 c =
+    let s = c .before .before .before .before .before .before .before .before .before .before .before .before .before .before in
+    let a = s .args in
+    let u = scan-at (a .state .held) (now (a .samples)) _ (part (a .state .held) (now (a .samples))) _ (sym (c .before .found .given .1) ∙ c .before .before .before .first-unusable .ensures) in
+    omega (arith, u .1, ltb-true (unusableAt (a .state .held) (drop (a .state .held) (now (a .samples)))) (a .state .held + length (drop (a .state .held) (now (a .samples)))) (u .0), length-drop (a .state .held) (now (a .samples)), long (c .before .before .before .before .before .before), s .good .1 .0)
 
 same-length-3 : tie.Need-same-length-3
 same-length-3 c = search needs
@@ -75,24 +78,61 @@ same-length-3 c = search needs
 same-length-4 : tie.Need-same-length-4
 same-length-4 c = search needs
 
-returns-5 : tie.Need-returns-5
-returns-5 c = search needs
+same-length-5 : tie.Need-same-length-5
+same-length-5 c = search needs
+
+returns-2 : tie.Need-returns-2
+returns-2 c =
+    let a = c .before .before .before .before .before .before .before .before .before .before .before .before .before .before .args in
+    unusable-sample (a .state) (now (a .samples)) (now (a .spans)) (now (a .repairs)) (none (c .before .before .before .before .before .before)) _
+    (scan-at (a .state .held) (now (a .samples)) _ (part (a .state .held) (now (a .samples))) _ (sym (c .before .found .given .1) ∙ c .before .before .before .first-unusable .ensures))
+
+enum-told : tie.Need-enum-told
+enum-told c = search needs
+
+accept-requires : tie.Need-accept-requires
+accept-requires c κs = none (c .before .before .before .before .before .before .before .before)
+
+same-length-6 : tie.Need-same-length-6
+same-length-6 c = search needs
+
+same-length-7 : tie.Need-same-length-7
+same-length-7 c = search needs
+
+same-length-8 : tie.Need-same-length-8
+same-length-8 c = search needs
+
+returns-3 : tie.Need-returns-3
+returns-3 c =
+    let a = c .before .before .before .before .before .before .before .before .before .before .before .before .before .before .before .before .before .before .before .before .before .before .before .args in
+    let r = c .before .before .before .before .before .before .accept .ensures in
+    let fine = scan-fine (a .state .held) (now (a .samples)) _ (part (a .state .held) (now (a .samples))) (sym (c .before .before .before .before .before .before .before .before .before .before .enum-told .given .1) ∙ c .before .before .before .before .before .before .before .before .before .before .before .before .first-unusable .ensures) in
+    let e = accepted-call (a .state) (now (a .samples)) (now (a .spans)) (now (a .repairs)) (none (c .before .before .before .before .before .before .before .before .before .before .before .before .before .before .before)) fine in
+    (r .0 ∙ sym (ap (λ (o : Outcome). o .said) e), (r .1 .0 ∙ sym (ap (λ (o : Outcome). o .machine) e), r .1 .1 ∙ sym (ap (λ (o : Outcome). o .samples) e)))
 
 pub condition-spec : {M : Type 1} → statement M
 condition-spec =
     tie.close
     (tie.spec
-    fits-requires
-    returns
-    mul-if2
-    returns-2
-    mul-if3
-    returns-3
-    ends-fit-requires
+    refusal-requires
+    number-requires
     same-length
-    returns-4
-    take-slice-requires
     same-length-2
+    returns
+    mul-first-unusable
+    sub-first-unusable
+    part-first-unusable-start
+    part-first-unusable-end
+    first-unusable-requires
+    enum-known-found
+    add-t20
     same-length-3
     same-length-4
-    returns-5)
+    same-length-5
+    returns-2
+    enum-told
+    accept-requires
+    same-length-6
+    same-length-7
+    same-length-8
+    returns-3)

@@ -2,7 +2,7 @@
 use mathlib.Core.Path.{_≡_, refl, sym, ap, _∙_}
 use mathlib.Core.List.{List, map}
 use Prim.Native.Nat.{ℕ}
-use Rattle.rules.specs.Iq.{Settled, isOff, observing, withheld, correctedBy}
+use Rattle.rules.specs.Iq.{Settled, Off, Observing, Withheld, correctedBy}
 use Rattle.iq.specs.declared.Iq.{Iq}
 use Rattle.iq.specs.View.{settledOf}
 use Rattle.correction.specs.Maps.{unchanged}
@@ -30,10 +30,10 @@ by : (i : Iq) (s : Settled) (xs : List ℕ) {ys : List ℕ} → settledOf i ≡ 
 by i s xs e h = h ∙ ap (λ (t : Settled). map (correctedBy t) xs) (sym e)
 
 returns : tie.Need-returns
-returns c = by (c .before .before .before .args .iq) isOff (c .before .before .before .args .samples .now) (ap settledOf (c .enum-told .given .1)) (unchanged isOff (λ w. refl) _)
+returns c = by (c .before .before .before .args .iq) Off (c .before .before .before .args .samples .now) (ap settledOf (c .enum-told .given .1)) (unchanged Off (λ w. refl) _)
 
 returns-2 : tie.Need-returns-2
-returns-2 c = by (c .before .before .before .args .iq) observing (c .before .before .before .args .samples .now) (ap settledOf (c .enum-told2 .given .1)) (unchanged observing (λ w. refl) _)
+returns-2 c = by (c .before .before .before .args .iq) Observing (c .before .before .before .args .samples .now) (ap settledOf (c .enum-told2 .given .1)) (unchanged Observing (λ w. refl) _)
 
 same-length : tie.Need-same-length
 same-length c = search needs
@@ -44,7 +44,7 @@ returns-3 c =
     by (a .iq) _ (a .samples .now) (ap settledOf (c .before .before .before .before .before .iq .given .1)) (c .before .before .correct-all .ensures)
 
 returns-4 : tie.Need-returns-4
-returns-4 c = by (c .before .before .before .args .iq) withheld (c .before .before .before .args .samples .now) (ap settledOf (c .enum-told3 .given .1)) (unchanged withheld (λ w. refl) _)
+returns-4 c = by (c .before .before .before .args .iq) Withheld (c .before .before .before .args .samples .now) (ap settledOf (c .enum-told3 .given .1)) (unchanged Withheld (λ w. refl) _)
 
 pub process-spec : {M : Type 1} → statement M
 process-spec =

@@ -4,7 +4,8 @@ use mathlib.Core.Bool.{Bool, true, false, _&&_}
 use lib.IntN.{pos}
 use lib.Ieee.{Float, le, neg, ofBits}
 use Rattle.rules.specs.SizeLaws.{size-le}
-use Rattle.image.specs.Words.{sumFits, wordLimit}
+use Rattle.rules.specs.Constants.{wordLimit}
+use Rattle.image.specs.Words.{sumFits}
 use Rattle.image.proofs.word_fits.Statement.{statement}
 use Rattle.image.proofs.word_fits.Tie as tie
 

@@ -55,7 +55,7 @@ returns c =
     let p = c .before .next-place .ensures .0 in
     (λ i. record {
       head = m .0 i;
-      len = m .1 i;
+      count = m .1 i;
       dropped = m .2 i;
       words = write (now (a .words)) (p i * 2) (a .start ∷ a .len ∷ []);
     })

@@ -16,17 +16,17 @@ use Rattle.log.proofs.mark_ring.Tie as tie
 -- what the two ways come to
 module _ (cap : ℕ) (r : rules.Marks) (m : Span) (q : rules.Ring) (some : 0 < m .len) where
   by-test : (t : Bool) → joins cap (r .ring) (m .start) ≡ t → q ≡ cond t (lengthened cap (r .ring) (m .len)) (append cap (r .ring) (spanWords m))
-      → _≡_ {A = rules.Marks} (record { count = r .count + m .len; ring = q }) (mark cap r m)
+      → _≡_ {A = rules.Marks} (record { samples = r .samples + m .len; ring = q }) (mark cap r m)
   by-test t j e =
-      (λ i. record { count = r .count + m .len; ring = (e ∙ sym (ap (λ (b : Bool). cond b (lengthened cap (r .ring) (m .len)) (append cap (r .ring) (spanWords m))) j)) i })
+      (λ i. record { samples = r .samples + m .len; ring = (e ∙ sym (ap (λ (b : Bool). cond b (lengthened cap (r .ring) (m .len)) (append cap (r .ring) (spanWords m))) j)) i })
       ∙ sym (mark-some cap r m some)
 
 returns : tie.Need-returns
 unfolding mark
 returns c = rw (eq-eqb (c .before .before .args .len) 0 (c .if1 .taken))
 
-add-count : tie.Need-add-count
-add-count c = search needs
+add-samples : tie.Need-add-samples
+add-samples c = search needs
 
 joins-newest-requires : tie.Need-joins-newest-requires
 joins-newest-requires c κs = search needs
@@ -62,7 +62,7 @@ mark-ring-spec =
     tie.close
     (tie.spec
     returns
-    add-count
+    add-samples
     joins-newest-requires
     lengthen-requires
     same-length

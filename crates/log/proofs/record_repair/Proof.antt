@@ -103,7 +103,7 @@ returns c =
     let r = a .r in
     (λ i. record {
       head = m .0 i;
-      len = m .1 i;
+      count = m .1 i;
       dropped = m .2 i;
       words = (six (now (a .repairs)) (c .before .next-place .result * 6) (r .start) (r .len) (r .first) (r .second) (r .third) (r .fourth) ∙ ap (λ (n : ℕ). write (now (a .repairs)) (n * 6) (wordsOfRepair r)) p) i;
     })

@@ -47,7 +47,7 @@ returns : tie.Need-returns
 unfolding spansOf
 returns c =
     let a = c .before .before .args in
-    sym (getD-upTo (spanOf 0 0) (λ j. spanIn (now (a .words)) ((a .ring .head + j) % a .capacity)) (a .ring .len) (a .i) (c .before .before .pre .1))
+    sym (getD-upTo (spanOf 0 0) (λ j. spanIn (now (a .words)) ((a .ring .head + j) % a .capacity)) (a .ring .count) (a .i) (c .before .before .pre .1))
 
 pub span-at-spec : {M : Type 1} → statement M
 span-at-spec =

@@ -1,8 +1,7 @@
 -- `making::fresh_suppressor`: the setting is that of the configuration. Assumes nothing.
 use mathlib.Core.Path.{_∙_}
 use borrow.Author.Needs.{needs}
-use Rattle.rules.specs.Impulse.{standard}
-use Rattle.rules.specs.Chain.{blockLength}
+use Rattle.rules.specs.Impulse.{standard, blockLength}
 use Rattle.impulse.specs.Machine.{fresh}
 use Rattle.making.proofs.fresh_suppressor.Statement.{statement}
 use Rattle.making.proofs.fresh_suppressor.Tie as tie

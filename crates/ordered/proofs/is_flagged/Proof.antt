@@ -1,22 +1,14 @@
 -- `ordered::is_flagged` meets its contract. Assumes nothing.
 use mathlib.Core.Path.{sym}
-use Prim.Native.Nat.{_-_}
-use Rattle.ordered.specs.Ordered.{flaggedBy}
 use borrow.Author.Needs.{needs}
 use Rattle.ordered.proofs.is_flagged.Statement.{statement}
 use Rattle.ordered.proofs.is_flagged.Tie as tie
-
-kept-requires : tie.Need-kept-requires
-kept-requires c κs = search needs
 
 is-quiet-requires : tie.Need-is-quiet-requires
 is-quiet-requires c κs = search needs
 
 returns : tie.Need-returns
-unfolding flaggedBy
-returns c =
-    let e = c .before .is-quiet .ensures (c .if1 .taken) in
-    sym (rw (c .before .before .kept .ensures) at e)
+returns c = sym (c .before .is-quiet .ensures (c .if1 .taken))
 
 reference-requires : tie.Need-reference-requires
 reference-requires c κs = search needs
@@ -25,14 +17,12 @@ stands-out-requires : tie.Need-stands-out-requires
 stands-out-requires c κs = search needs
 
 returns-2 : tie.Need-returns-2
-unfolding flaggedBy
-returns-2 c = simp (c .stands-out .ensures, c .before .reference .ensures, c .before .before .before .before .kept .ensures)
+returns-2 c = simp (c .stands-out .ensures, c .before .reference .ensures)
 
 pub is-flagged-spec : {M : Type 1} → statement M
 is-flagged-spec =
     tie.close
     (tie.spec
-    kept-requires
     is-quiet-requires
     returns
     reference-requires

@@ -6,7 +6,8 @@ use native.Mathlib.Omega.{arith}
 use lib.Dec.{T}
 use lib.ListN.{take}
 use borrow.Author.Tests.{not-false}
-use Rattle.rules.specs.Impulse.{mean, standsOut}
+use Rattle.rules.specs.Impulse.{standsOut}
+use Rattle.ordered.specs.Ordered.{mean}
 use Rattle.ordered.proofs.Quiet.{quiet}
 use borrow.Author.Needs.{needs}
 use Rattle.ordered.proofs.is_quiet.Statement.{statement}

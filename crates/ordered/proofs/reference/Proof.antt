@@ -6,7 +6,7 @@ use lib.IntN.{pos}
 use lib.Seq.{length-take-le}
 use lib.Ieee.{binary64, inFloat}
 use borrow.Author.Needs.{needs}
-use Rattle.rules.specs.Impulse.{mean}
+use Rattle.ordered.specs.Ordered.{mean}
 use Rattle.ordered.proofs.reference.Statement.{statement}
 use Rattle.ordered.proofs.reference.Tie as tie
 

@@ -31,10 +31,10 @@ few c = let a = c .before .before .before .before .before .args in omega (arith,
 
 -- the test of the ring that the stage and the kind name
 has : (c : tie.After-has-span) → let a = c .before .before .before .before .before .before .before .before .args in let r = ringOf (a .state .log) (ringNumber (stageOf (a .stage)) (markOf (a .kind))) in
-    (readable (a .state .settings .spans) r && ltb (a .i) (r .len)) ≡ c .has-span .result
+    (readable (a .state .settings .spans) r && ltb (a .i) (r .count)) ≡ c .has-span .result
 has c =
     let a = c .before .before .before .before .before .before .before .before .args in
-    ap (λ (k : ℕ). readable (a .state .settings .spans) (ringOf (a .state .log) k) && ltb (a .i) (ringOf (a .state .log) k .len)) (sym (c .before .before .before .ring-number .ensures))
+    ap (λ (k : ℕ). readable (a .state .settings .spans) (ringOf (a .state .log) k) && ltb (a .i) (ringOf (a .state .log) k .count)) (sym (c .before .before .before .ring-number .ensures))
     ∙ sym (c .has-span .ensures)
 
 mul-ring : tie.Need-mul-ring

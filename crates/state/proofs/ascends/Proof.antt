@@ -33,6 +33,9 @@ loop-holds c =
     let e = c .below .ensures in
     (omega arith, e .0 ∙ sym (climbs-one lt zeroF l nan (omega arith)), held-more l 0 nan (omega arith) tt (e .1 .1))
 
+sub-loop : tie.Need-sub-loop Inv-loop μ-loop
+sub-loop c = omega arith
+
 mul-below : tie.Need-mul-below Inv-loop μ-loop
 mul-below c = omega arith
 
@@ -81,6 +84,7 @@ ascends-spec =
     element-copy-out-below
     below-requires
     loop-holds
+    sub-loop
     mul-below
     element-copy-out-below-2
     add-below

@@ -1,9 +1,9 @@
 -- `state::gate_fits` is `gateFits`. Assumes nothing.
 use mathlib.Core.Path.{_≡_, refl, sym, ap, _∙_}
 use mathlib.Core.Bool.{Bool, true, false, _&&_}
-use Prim.Native.Nat.{ℕ, _-_}
+use Prim.Native.Nat.{ℕ}
 use borrow.Author.Tests.{not-true, not-false}
-use Rattle.state.specs.Fits.{counter, runFits, gateFits}
+use Rattle.state.specs.Fits.{counter, nextJudged, runFits, gateFits}
 use Rattle.config.proofs.Answers.{three}
 use borrow.Author.Needs.{needs}
 use Rattle.state.proofs.gate_fits.Statement.{statement}
@@ -26,7 +26,7 @@ run-fits-requires c κs = search needs
 first : (c : tie.Else1) → let g = c .before .before .args .g in (counter (g .received) && counter (g .block) && counter (g .flagged)) ≡ true
 first c = sym (c .before .counters-fit .ensures) ∙ not-false _ (c .if1 .left)
 
-second : (c : tie.After-run-fits) (t : Bool) → c .run-fits .result ≡ t → let g = c .before .before .before .before .args .g in runFits (g .run) (g .received - 16) ≡ t
+second : (c : tie.After-run-fits) (t : Bool) → c .run-fits .result ≡ t → let g = c .before .before .before .before .args .g in runFits (g .run) (nextJudged (g .received)) ≡ t
 second c t e =
     let g = c .before .before .before .before .args .g in
     sym (c .run-fits .ensures ∙ ap (λ (j : ℕ). runFits (g .run) j) (c .before .next-judged .ensures)) ∙ e

@@ -4,7 +4,8 @@ use lib.Dec.{T}
 use lib.Ieee.{Float, binary32, fits, le}
 use Prim.Native.Nat.{ℕ, _≤_, _<_, _^_}
 use Rattle.floor.proofs.Signs.{bit-set, bit-clear}
-use Rattle.state.specs.Fits.{powerLimit, powerFits}
+use Rattle.rules.specs.Constants.{powerLimit}
+use Rattle.state.specs.Fits.{powerFits}
 use borrow.Author.Needs.{needs}
 use Rattle.state.proofs.power_fits.Statement.{statement}
 use Rattle.state.proofs.power_fits.Tie as tie

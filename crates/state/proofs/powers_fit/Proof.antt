@@ -1,73 +1,34 @@
--- `state::powers_fit` meets its contract: the answer so far is that of the powers before k. Assumes nothing.
-use mathlib.Core.Path.{_≡_, refl, ap, _∙_}
-use mathlib.Core.Bool.{Bool, _&&_}
+-- `state::powers_fit` meets its contract: where all powers fit the first n do. Assumes nothing.
+use mathlib.Core.Path.{_≡_, sym, _∙_}
+use mathlib.Core.Bool.{true}
 use mathlib.Core.List.{List}
-use Prim.Native.Nat.{ℕ, _-_, _≤_}
-use native.Mathlib.Numerals.{add-one}
+use Prim.Native.Nat.{ℕ, _≤_}
 use native.Mathlib.Omega.{arith}
 use lib.ListN.{getD}
-use lib.Ieee.{Float, nan}
-use Rattle.rules.specs.Constants.{zeroF}
-use Rattle.log.specs.Check.{allTo}
-use Rattle.state.specs.Fits.{powerFits}
-use Rattle.impulse.specs.CircleLaws.{any-default}
+use lib.Ieee.{Float}
 use borrow.Author.Needs.{needs}
+use Rattle.rules.specs.Constants.{zeroF}
+use Rattle.log.specs.CheckLaws.{all-at, all-of}
+use Rattle.state.specs.Fits.{windowSize, powerFits, powersFit}
 use Rattle.state.proofs.powers_fit.Statement.{statement}
 use Rattle.state.proofs.powers_fit.Tie as tie
 
-abbrev test : List Float → ℕ → Bool
-test xs k = powerFits (getD xs k zeroF)
+fewer : (n : ℕ) (xs : List Float) → n ≤ windowSize → powersFit windowSize xs ≡ true → powersFit n xs ≡ true
+fewer n xs h e = all-of (λ k. powerFits (getD xs k zeroF)) n (λ k l. all-at (λ k. powerFits (getD xs k zeroF)) windowSize k e (omega arith))
 
-abbrev Inv-loop : tie.InvT-loop
-Inv-loop window fit₀ k₀ fit k = (k ≤ 33) × (fit ≡ allTo (test window) k)
+first-powers-fit-requires : tie.Need-first-powers-fit-requires
+first-powers-fit-requires c κs = search needs
 
-abbrev μ-loop : tie.MeasureT-loop
-μ-loop window fit₀ k₀ fit k = 33 - k
-
-loop-holds : tie.Need-loop-holds Inv-loop μ-loop
-unfolding allTo
-loop-holds c = (omega arith, refl)
-
-mul-power-fits : tie.Need-mul-power-fits Inv-loop μ-loop
-mul-power-fits c = search needs
-
-element-copy-out-power-fits : tie.Need-element-copy-out-power-fits Inv-loop μ-loop
-element-copy-out-power-fits c = search needs
-
-power-fits-requires : tie.Need-power-fits-requires Inv-loop μ-loop
-power-fits-requires c κs = search needs
-
-add-k : tie.Need-add-k Inv-loop μ-loop
-add-k c = search needs
-
-loop-less : tie.Need-loop-less Inv-loop μ-loop
-loop-less c = search needs
-
-loop-again : tie.Need-loop-again Inv-loop μ-loop
-unfolding allTo
-loop-again c =
-    let xs = c .before .before .before .before .args .window .now in
-    let l = c .before .before .before .loop in
-    let here = c .power-fits .ensures ∙ ap powerFits (any-default xs (l .k) nan zeroF (omega (arith, c .before .before .before .before .pre, c .before .before .loop-test .taken))) in
-    (search needs, rw (add-one (l .k)) (λ i. l .inv .1 i && here i))
-
-returns : tie.Need-returns Inv-loop μ-loop
+returns : tie.Need-returns
 returns c =
-    let l = c .before .loop in
-    let e : l .k ≡ 33 = omega (arith, c .loop-test .left, l .inv .0) in
-    rw e at (l .inv .1)
+    let s = c .before .before in
+    sym (fewer (s .args .n) (s .args .window .now) (s .pre .0) (sym (c .before .first-powers-fit .ensures) ∙ c .if1 .taken))
+
+first-powers-fit-requires-2 : tie.Need-first-powers-fit-requires-2
+first-powers-fit-requires-2 c κs = search needs
+
+returns-2 : tie.Need-returns-2
+returns-2 c = search needs
 
 pub powers-fit-spec : {M : Type 1} → statement M
-powers-fit-spec =
-    tie.close
-    (tie.spec
-    Inv-loop
-    μ-loop
-    loop-holds
-    mul-power-fits
-    element-copy-out-power-fits
-    power-fits-requires
-    add-k
-    loop-less
-    loop-again
-    returns)
+powers-fit-spec = tie.close (tie.spec first-powers-fit-requires returns first-powers-fit-requires-2 returns-2)

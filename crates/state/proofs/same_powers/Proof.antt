@@ -21,10 +21,10 @@ abbrev test : List Float → List Float → ℕ → Bool
 test xs ys k = eqb (toBits binary64 (getD xs k zeroF)) (toBits binary64 (getD ys k zeroF))
 
 abbrev Inv-loop : tie.InvT-loop
-Inv-loop sorted wide k₀ k = (k ≤ 33) × (allTo (test sorted wide) k ≡ true)
+Inv-loop n sorted wide k₀ k = (k ≤ n) × (allTo (test sorted wide) k ≡ true)
 
 abbrev μ-loop : tie.MeasureT-loop
-μ-loop sorted wide k₀ k = 33 - k
+μ-loop n sorted wide k₀ k = n - k
 
 loop-holds : tie.Need-loop-holds Inv-loop μ-loop
 unfolding allTo
@@ -62,24 +62,27 @@ module _ (c : tie.After-to-bits642 Inv-loop μ-loop) where
   abbrev k : ℕ
   k = c .before .before .before .before .before .before .loop .k
 
-  here : k < 33
+  abbrev n : ℕ
+  n = c .before .before .before .before .before .before .before .args .n
+
+  here : k < n
   here = c .before .before .before .before .before .loop-test .taken
 
   left : c .before .before .to-bits64 .result ≡ toBits binary64 (getD xs k zeroF)
   left =
       let p = c .before .before .before .before .before .before .before .pre in
       c .before .before .to-bits64 .ensures
-      ∙ ap (toBits binary64) (c .before .before .before .widen .ensures ∙ any-default xs k nan zeroF (omega (arith, p .0, here)))
+      ∙ ap (toBits binary64) (c .before .before .before .widen .ensures ∙ any-default xs k nan zeroF (omega (arith, p .0, p .1 .0, here)))
 
   right : c .to-bits642 .result ≡ toBits binary64 (getD ys k zeroF)
   right =
       let p = c .before .before .before .before .before .before .before .pre in
-      c .to-bits642 .ensures ∙ ap (toBits binary64) (any-default ys k nan zeroF (omega (arith, p .1, here)))
+      c .to-bits642 .ensures ∙ ap (toBits binary64) (any-default ys k nan zeroF (omega (arith, p .0, p .1 .1, here)))
 
 returns : tie.Need-returns Inv-loop μ-loop
 returns c =
     let b = c .before in
-    sym (all-not (test (xs b) (ys b)) 33 (k b) (here b) (ne-eqb _ _ (λ e. c .if1 .taken (left b ∙ e ∙ sym (right b)))))
+    sym (all-not (test (xs b) (ys b)) (n b) (k b) (here b) (ne-eqb _ _ (λ e. c .if1 .taken (left b ∙ e ∙ sym (right b)))))
 
 add-k : tie.Need-add-k Inv-loop μ-loop
 add-k c = search needs
@@ -96,7 +99,7 @@ loop-again c =
 returns-2 : tie.Need-returns-2 Inv-loop μ-loop
 returns-2 c =
     let l = c .before .loop in
-    let e : l .k ≡ 33 = omega (arith, c .loop-test .left, l .inv .0) in
+    let e : l .k ≡ c .before .before .args .n = omega (arith, c .loop-test .left, l .inv .0) in
     sym (rw e at (l .inv .1))
 
 pub same-powers-spec : {M : Type 1} → statement M

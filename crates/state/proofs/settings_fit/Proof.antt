@@ -4,7 +4,7 @@ use mathlib.Core.Bool.{Bool, true, false}
 use Prim.Native.Nat.{ℕ}
 use lib.Dec.{eqb}
 use borrow.Author.Tests.{not-true, not-false}
-use Rattle.rules.specs.Chain.{blockLength}
+use Rattle.rules.specs.Impulse.{blockLength}
 use Rattle.config.specs.Config.{settingRefusal}
 use Rattle.state.specs.Fits.{settingsFit}
 use Rattle.config.proofs.Answers.{two}

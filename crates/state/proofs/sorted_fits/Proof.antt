@@ -1,8 +1,8 @@
 -- `state::sorted_fits` is `sortedFits`: where the sorted list is the window sorted, every power has the same bits. Assumes nothing.
 use mathlib.Core.Path.{_≡_, sym, ap}
 use mathlib.Core.Bool.{true}
-use mathlib.Core.List.{List, append-nil}
-use Prim.Native.Nat.{ℕ, _-_}
+use mathlib.Core.List.{List}
+use Prim.Native.Nat.{ℕ}
 use native.Mathlib.Omega.{arith}
 use lib.Dec.{eqb}
 use lib.ListN.{length, getD, take}
@@ -13,19 +13,16 @@ use borrow.Author.Needs.{needs}
 use Rattle.rules.specs.Constants.{zeroF}
 use Rattle.rules.specs.Sort.{sort}
 use Rattle.log.specs.CheckLaws.{all-of}
-use Rattle.impulse.specs.State.{padded}
 use Rattle.state.specs.Fits.{sortedFits}
 use Rattle.state.proofs.sorted_fits.Statement.{statement}
 use Rattle.state.proofs.sorted_fits.Tie as tie
 
-arranged : (n : ℕ) (w s : List Float) → n ≡ 33 → length w ≡ 33 → length s ≡ 33 → sort lt w ≡ s → true ≡ sortedFits n w s
+arranged : (n : ℕ) (w s : List Float) → length w ≡ n → sort lt w ≡ s → true ≡ sortedFits n w s
 unfolding sortedFits
-arranged n w s e h g a =
-    let full : take n w ≡ w = take-all n w (omega arith) in
-    let none : 33 - length s ≡ 0 = omega arith in
-    let same : padded 33 (sort lt (take n w)) ≡ s = rw (full, a, none) (append-nil s) in
-    sym (all-of (λ k. eqb (toBits binary64 (getD s k zeroF)) (toBits binary64 (getD (padded 33 (sort lt (take n w))) k zeroF))) 33
-    (λ k h. eq-eqb (toBits binary64 (getD s k zeroF)) (toBits binary64 (getD (padded 33 (sort lt (take n w))) k zeroF)) (ap (λ (l : List Float). toBits binary64 (getD l k zeroF)) (sym same))))
+arranged n w s h a =
+    let same : sort lt (take n w) ≡ s = rw (take-all n w (omega arith)) a in
+    sym (all-of (λ k. eqb (toBits binary64 (getD s k zeroF)) (toBits binary64 (getD (sort lt (take n w)) k zeroF))) n
+    (λ k q. eq-eqb (toBits binary64 (getD s k zeroF)) (toBits binary64 (getD (sort lt (take n w)) k zeroF)) (ap (λ (l : List Float). toBits binary64 (getD l k zeroF)) (sym same))))
 
 sorts-to-requires : tie.Need-sorts-to-requires
 sorts-to-requires c κs = search needs
@@ -39,7 +36,7 @@ is-arranged-requires c κs = search needs
 returns-2 : tie.Need-returns-2
 returns-2 c =
     let st = c .before .before .before in
-    arranged (st .args .n) (st .args .window .now) (st .args .sorted .now) (omega arith) (st .pre .1 .0) (st .pre .1 .1) (c .before .is-arranged .ensures (c .if2 .taken))
+    arranged (st .args .n) (st .args .window .now) (st .args .sorted .now) (omega arith) (c .before .is-arranged .ensures (c .if2 .taken))
 
 sorts-to-requires-2 : tie.Need-sorts-to-requires-2
 sorts-to-requires-2 c κs = search needs

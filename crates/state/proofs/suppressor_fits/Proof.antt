@@ -1,57 +1,68 @@
 -- `state::suppressor_fits` is `suppressorFits`. Assumes nothing.
 use mathlib.Core.Path.{_≡_, refl, sym, ap, _∙_}
-use mathlib.Core.Bool.{Bool, true, false}
-use Prim.Native.Nat.{ℕ, min}
+use mathlib.Core.Bool.{Bool, true, false, cond}
+use Prim.Native.Nat.{ℕ}
 use borrow.Author.Tests.{eq-eqb, ne-eqb, not-true, not-false}
-use Rattle.state.specs.Fits.{sortedFits, suppressorFits}
-use Rattle.config.proofs.Answers.{four}
+use Rattle.impulse.specs.declared.ImpulseSuppressor.{ImpulseSuppressor}
+use Rattle.state.specs.Fits.{arraysFit, sortedFits, runningFits, suppressorFits}
+use Rattle.config.proofs.Answers.{two}
 use borrow.Author.Needs.{needs}
 use Rattle.state.proofs.suppressor_fits.Statement.{statement}
 use Rattle.state.proofs.suppressor_fits.Tie as tie
 
+arrays-fit-requires : tie.Need-arrays-fit-requires
+arrays-fit-requires c κs = search needs
+
 returns : tie.Need-returns
 unfolding suppressorFits
-returns c = four _ _ _ _ false _ _ _ (ne-eqb _ _ (c .if1 .taken)) refl refl refl
+returns c = two _ _ false _ (sym (c .before .arrays-fit .ensures) ∙ not-true _ (c .if1 .taken)) refl
 
-powers-fit-requires : tie.Need-powers-fit-requires
-powers-fit-requires c κs = search needs
+-- the arrays fit, behind the first test
+arrays : (c : tie.Else1)
+    → let m = c .before .before .before .before .before .before .before .before .args .m in arraysFit (m .gate .received) (m .window) (m .pending) ≡ true
+arrays c = sym (c .before .arrays-fit .ensures) ∙ not-false _ (c .if1 .left)
+
+-- with arrays that fit, by whether the stage runs, and what the rest is then
+by-run : (m : ImpulseSuppressor) (running : Bool) (seen : ℕ) (b t : Bool) → arraysFit (m .gate .received) (m .window) (m .pending) ≡ true
+    → running ≡ b → cond b (runningFits m seen) true ≡ t → t ≡ suppressorFits m running seen
+unfolding suppressorFits
+by-run m running seen b t a r e = two _ _ true t a (ap (λ (x : Bool). cond x (runningFits m seen) true) r ∙ e)
 
 returns-2 : tie.Need-returns-2
-unfolding suppressorFits
-returns-2 c = four _ _ _ _ true false _ _ (eq-eqb _ _ (c .before .before .before .if1 .left)) (sym (c .before .powers-fit .ensures) ∙ not-true _ (c .if2 .taken)) refl refl
+returns-2 c =
+    let a = c .before .before .before .before .before .before .before .before .before .args in
+    by-run (a .m) (a .running) (a .seen) false true (arrays (c .before)) (not-true _ (c .if2 .taken)) refl
 
-window-count-requires : tie.Need-window-count-requires
-window-count-requires c κs = search needs
+returns-3 : tie.Need-returns-3
+unfolding runningFits
+returns-3 c =
+    let r = c .before .before in
+    let a = r .before .before .before .before .before .before .before .before .before .args in
+    by-run (a .m) (a .running) (a .seen) true false (arrays (r .before)) (not-false _ (r .if2 .left)) (sym (two _ _ false _ (ne-eqb _ _ (c .if3 .taken)) refl))
+
+holds-requires : tie.Need-holds-requires
+holds-requires c κs = search needs
 
 sorted-fits-requires : tie.Need-sorted-fits-requires
 sorted-fits-requires c κs = search needs
 
--- the sorted list by the answer t
-ordered : (c : tie.After-sorted-fits) (t : Bool) → c .sorted-fits .result ≡ t → let a = c .before .before .before .before .before .before .before .before .before .before .before .before .before .args in sortedFits (min (a .seen) 33) (a .m .window) (a .m .sorted) ≡ t
-ordered c t e =
-    let a = c .before .before .before .before .before .before .before .before .before .before .before .before .before .args in
-    sym (c .sorted-fits .ensures ∙ ap (λ (n : ℕ). sortedFits n (a .m .window) (a .m .sorted)) (c .before .before .before .window-count .ensures)) ∙ e
-
-returns-3 : tie.Need-returns-3
-unfolding suppressorFits
-returns-3 c = four _ _ _ _ true true false _ (eq-eqb _ _ (c .before .before .before .before .before .before .before .before .if1 .left)) (sym (c .before .before .before .before .before .before .powers-fit .ensures) ∙ not-false _ (c .before .before .before .before .before .if2 .left)) (ordered (c .before) false (not-true _ (c .if3 .taken))) refl
-
-pending-fits-requires : tie.Need-pending-fits-requires
-pending-fits-requires c κs = search needs
-
 returns-4 : tie.Need-returns-4
-unfolding suppressorFits
-returns-4 c = four _ _ _ _ true true true _ (eq-eqb _ _ (c .before .before .before .before .before .before .before .before .before .before .if1 .left)) (sym (c .before .before .before .before .before .before .before .before .powers-fit .ensures) ∙ not-false _ (c .before .before .before .before .before .before .before .if2 .left)) (ordered (c .before .before .before) true (not-false _ (c .before .before .if3 .left))) (sym (c .pending-fits .ensures))
+unfolding runningFits
+returns-4 c =
+    let e = c .before .before .before .before in
+    let r = e .before .before in
+    let a = r .before .before .before .before .before .before .before .before .before .args in
+    let sorted = sym (c .sorted-fits .ensures ∙ ap (λ (n : ℕ). sortedFits n (a .m .window) (a .m .sorted)) (c .before .before .before .holds .ensures)) in
+    by-run (a .m) (a .running) (a .seen) true _ (arrays (r .before)) (not-false _ (r .if2 .left)) (sym (two _ _ true _ (eq-eqb _ _ (e .if3 .left)) sorted))
 
 pub suppressor-fits-spec : {M : Type 1} → statement M
 suppressor-fits-spec =
     tie.close
     (tie.spec
+    arrays-fit-requires
     returns
-    powers-fit-requires
     returns-2
-    window-count-requires
-    sorted-fits-requires
     returns-3
-    pending-fits-requires
+    holds-requires
+    sorted-fits-requires
     returns-4)

@@ -35,7 +35,7 @@ unfolding allTo
 loop-holds c = (omega arith, refl)
 
 add-record-fits : tie.Need-add-record-fits Inv-loop μ-loop
-add-record-fits c = let s = c .before .before .before .pre in let t = c .loop-test .taken in omega (arith, s .headIn, s .lenIn, s .long)
+add-record-fits c = let s = c .before .before .before .pre in let t = c .loop-test .taken in omega (arith, s .headIn, s .countIn, s .long)
 
 rem-record-fits : tie.Need-rem-record-fits Inv-loop μ-loop
 rem-record-fits c = c .before .before .before .pre .some
@@ -51,7 +51,7 @@ returns c =
     let a = c .before .before .before .before .before .args in
     let i = c .before .before .before .loop .i in
     sym (held-fit (a .capacity) (ringIn (a .ring) (now (a .repairs)))
-    ∙ all-not (test (now (a .repairs)) (a .capacity) (a .ring .head)) (a .ring .len) i (c .before .before .loop-test .taken) (sym (c .before .record-fits .ensures) ∙ not-true _ (c .if1 .taken)))
+    ∙ all-not (test (now (a .repairs)) (a .capacity) (a .ring .head)) (a .ring .count) i (c .before .before .loop-test .taken) (sym (c .before .record-fits .ensures) ∙ not-true _ (c .if1 .taken)))
 
 add-i : tie.Need-add-i Inv-loop μ-loop
 add-i c = search needs
@@ -69,7 +69,7 @@ returns-2 : tie.Need-returns-2 Inv-loop μ-loop
 returns-2 c =
     let a = c .before .before .before .args in
     let l = c .before .loop in
-    let e : l .i ≡ a .ring .len = omega (arith, c .loop-test .left, l .inv .0) in
+    let e : l .i ≡ a .ring .count = omega (arith, c .loop-test .left, l .inv .0) in
     sym (held-fit (a .capacity) (ringIn (a .ring) (now (a .repairs))) ∙ rw e at (l .inv .1))
 
 pub records-fit-spec : {M : Type 1} → statement M

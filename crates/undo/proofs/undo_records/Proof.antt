@@ -35,7 +35,7 @@ add-undo-record : tie.Need-add-undo-record Inv-loop μ-loop
 add-undo-record c =
     let s = c .before .before .before .before .before .pre .0 in
     let t = c .before .loop-test .taken in
-    omega (arith, s .headIn, s .lenIn, s .long)
+    omega (arith, s .headIn, s .countIn, s .long)
 
 rem-undo-record : tie.Need-rem-undo-record Inv-loop μ-loop
 rem-undo-record c = c .before .before .before .before .before .pre .0 .some
@@ -50,7 +50,7 @@ undo-record-requires c κs =
     (inside s i, each-fits (s .args .capacity) (ringIn (s .args .ring) (now (s .args .repairs))) i (s .pre .1) (c .before .loop-test .taken))
 
 add-i : tie.Need-add-i Inv-loop μ-loop
-add-i c = omega (arith, c .before .before .before .before .loop-test .taken, c .before .before .before .before .before .before .before .before .pre .0 .lenIn, c .before .before .before .before .before .before .before .before .pre .0 .long)
+add-i c = omega (arith, c .before .before .before .before .loop-test .taken, c .before .before .before .before .before .before .before .before .pre .0 .countIn, c .before .before .before .before .before .before .before .before .pre .0 .long)
 
 loop-less : tie.Need-loop-less Inv-loop μ-loop
 loop-less c = omega (arith, c .before .before .before .before .loop-test .taken)
@@ -74,7 +74,7 @@ returns : tie.Need-returns Inv-loop μ-loop
 returns c =
     let a = c .before .before .before .before .args in
     let l = c .before .loop in
-    let e : l .i ≡ a .ring .len = omega (arith, c .loop-test .left, l .inv .0) in
+    let e : l .i ≡ a .ring .count = omega (arith, c .loop-test .left, l .inv .0) in
     l .inv .1 .1
     ∙ ap (λ (n : ℕ). undoneAll (a .first) (upTo (heldIn (now (a .repairs)) (a .capacity) (a .ring .head)) n) (now (a .samples))) e
     ∙ ap (λ (es : List (List ℕ)). undoneAll (a .first) es (now (a .samples))) (sym (held-are (a .capacity) (ringIn (a .ring) (now (a .repairs)))))

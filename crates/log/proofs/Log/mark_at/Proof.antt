@@ -31,11 +31,11 @@ mul-ring c = search needs
 element-copy-out-ring : tie.Need-element-copy-out-ring
 element-copy-out-ring c = search needs
 
-mul-count : tie.Need-mul-count
-mul-count c = search needs
+mul-samples : tie.Need-mul-samples
+mul-samples c = search needs
 
-element-copy-out-count : tie.Need-element-copy-out-count
-element-copy-out-count c = search needs
+element-copy-out-samples : tie.Need-element-copy-out-samples
+element-copy-out-samples c = search needs
 
 mul-mark-ring : tie.Need-mul-mark-ring
 mul-mark-ring c = omega (arith, within (c .before .before .before .args .which) (c .before .before .before .args .capacity * 2) (c .before .before .before .pre .0))
@@ -88,8 +88,8 @@ mark-at-spec =
     add-e
     mul-ring
     element-copy-out-ring
-    mul-count
-    element-copy-out-count
+    mul-samples
+    element-copy-out-samples
     mul-mark-ring
     sub-mark-ring
     part-mark-ring-start

@@ -17,7 +17,7 @@ rem-result : tie.Need-rem-result
 rem-result c = search needs
 
 returns : tie.Need-returns
-returns c = (refl, mod-lt (c .before .before .args .self .head + (c .before .before .args .self .len - 1)) (omega (arith, c .before .before .pre .1)))
+returns c = (refl, mod-lt (c .before .before .args .self .head + (c .before .before .args .self .count - 1)) (omega (arith, c .before .before .pre .1)))
 
 pub newest-place-spec : {M : Type 1} → statement M
 newest-place-spec = tie.close (tie.spec sub-result add-result rem-result returns)

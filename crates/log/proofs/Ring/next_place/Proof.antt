@@ -14,7 +14,7 @@ rem-result : tie.Need-rem-result
 rem-result c = search needs
 
 returns : tie.Need-returns
-returns c = (refl, mod-lt (c .before .args .self .head + c .before .args .self .len) (omega (arith, c .before .pre .0)))
+returns c = (refl, mod-lt (c .before .args .self .head + c .before .args .self .count) (omega (arith, c .before .pre .0)))
 
 pub next-place-spec : {M : Type 1} → statement M
 next-place-spec = tie.close (tie.spec add-result rem-result returns)

@@ -13,11 +13,11 @@ abbrev μ-loop : tie.MeasureT-loop
 loop-holds : tie.Need-loop-holds Inv-loop μ-loop
 loop-holds c = search needs
 
-mul-count : tie.Need-mul-count Inv-loop μ-loop
-mul-count c = search needs
+mul-samples : tie.Need-mul-samples Inv-loop μ-loop
+mul-samples c = search needs
 
-element-copy-out-count : tie.Need-element-copy-out-count Inv-loop μ-loop
-element-copy-out-count c = search needs
+element-copy-out-samples : tie.Need-element-copy-out-samples Inv-loop μ-loop
+element-copy-out-samples c = search needs
 
 mul-ring : tie.Need-mul-ring Inv-loop μ-loop
 mul-ring c = search needs
@@ -47,8 +47,8 @@ write-rings-spec =
     Inv-loop
     μ-loop
     loop-holds
-    mul-count
-    element-copy-out-count
+    mul-samples
+    element-copy-out-samples
     mul-ring
     element-copy-out-ring
     write-ring-requires

@@ -1,8 +1,8 @@
--- `ordered::kept` meets its contract. Assumes nothing.
+-- `impulse::kept` meets its contract. Assumes nothing.
 use native.Mathlib.Omega.{arith}
 use borrow.Author.Needs.{needs}
-use Rattle.ordered.proofs.kept.Statement.{statement}
-use Rattle.ordered.proofs.kept.Tie as tie
+use Rattle.impulse.proofs.kept.Statement.{statement}
+use Rattle.impulse.proofs.kept.Tie as tie
 
 sub-result : tie.Need-sub-result
 sub-result c = search needs
