@@ -1,4 +1,4 @@
-//! Holds the proved program `trace` against the oracle on random cases, every word of every answer.
+//! Holds the proved program `test_trace` against the oracle on random cases, every word of every answer.
 //!
 //!     compare_trace PROGRAM FOLDER SEED SAMPLES
 //!

@@ -1,5 +1,2 @@
--- the theorem
-pub mod Lone
-pub mod BenchMarks
--- closed cases
-pub mod ImpulseCases
+-- what is proved
+pub mod laws

@@ -6,9 +6,9 @@ use lib.Dec.{eqb}
 use lib.ListN.{length, drop}
 use Rattle.rules.specs.Answers.{Said, accepted, refused}
 use Rattle.rules.specs.Refusals.{Cause, firstOf, badLength, shortSlice, tooMany, unusableAt, anyUnusable}
-use Rattle.part_limit.specs.Limit.{returned}
-use Rattle.state.specs.declared.InputConditioner.{InputConditioner}
-use Rattle.state.specs.Causes.{badState, badSpans}
+use Rattle.amplitude_limit.specs.Limit.{returned}
+use Rattle.chain_state.specs.declared.InputConditioner.{InputConditioner}
+use Rattle.chain_state.specs.Causes.{badState, badSpans}
 use Rattle.chain.specs.Stages.{newPart, Machine, handsOn, process}
 
 -- ---- what a call declines: '5, 4', 5's rule on lent words straight after, '6, 8, 7'

@@ -1,8 +1,5 @@
 -- definitions
 pub mod Stages
 pub mod Calls
--- laws
-pub mod SliceLaws
-pub mod Processing
-pub mod CallTests
-pub mod Places
+-- what is proved of them
+pub mod laws

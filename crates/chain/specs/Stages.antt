@@ -5,18 +5,20 @@ use mathlib.Core.List.{List, [], map}
 use Prim.Native.Nat.{ℕ, _+_, _-_, _*_, _^_, _≤_}
 use lib.ListN.{length, drop}
 use Rattle.rules.specs.Impulse.{Setting, Event}
-use Rattle.rules.specs.Iq.{Mode, off, observe, apply, Settled, Off, Observing, Withheld, Correcting, correctedBy}
+use Rattle.rules.specs.Iq.{Settled, Off, Observing, Withheld, Correcting, correctedBy}
+use Rattle.rules.specs.Mode.{Mode, off, observe, apply}
 use Rattle.rules.specs.Log.{Span, spanOf, ringNumber, dc, iq, Corrected, Uncertain}
 use Rattle.log.specs.View.{Logged, ringIn, bare, markedAt}
 use Rattle.log.specs.Check.{endsFit}
 use Rattle.impulse.specs.declared.ImpulseSuppressor.{ImpulseSuppressor}
 use Rattle.impulse.specs.Machine.{settingOf}
-use Rattle.impulse_run.specs.Noted.{Noted, noteAll, stateAfter, handed, told}
+use Rattle.impulse_slice.specs.Noted.{Noted, noteAll, stateAfter, handed, told}
 use Rattle.dc.specs.declared.DcBlocker.{DcBlocker}
 use Rattle.dc.specs.Blocker.{blockerAfter, processedAll}
-use Rattle.iq.specs.View.{modeOf, settledOf}
-use Rattle.state.specs.declared.InputConditioner.{InputConditioner}
-use Rattle.state.specs.Fits.{stateFits}
+use Rattle.iq.specs.View.{settledOf}
+use Rattle.stage_mode.specs.View.{modeOf}
+use Rattle.chain_state.specs.declared.InputConditioner.{InputConditioner}
+use Rattle.chain_state.specs.Fits.{stateFits}
 
 -- the new part of a slice: 'the held samples, then the new'
 abbrev pub newPart : InputConditioner → List ℕ → List ℕ

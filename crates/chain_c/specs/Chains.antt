@@ -5,14 +5,14 @@ use Prim.Native.Nat.{ℕ, _/_}
 use lib.ListN.{length}
 use lib.Ieee.{Float}
 use Rattle.rules.specs.Constants.{zeroF}
-use Rattle.iq.specs.declared.StageMode.{StageMode}
-use Rattle.iq.specs.declared.StageMode.the-variants.{Off, Observe, Apply}
+use Rattle.stage_mode.specs.declared.StageMode.{StageMode}
+use Rattle.stage_mode.specs.declared.StageMode.the-variants.{Off, Observe, Apply}
 use Rattle.iq.specs.declared.Calibration.the-variants.{Present, Absent}
 use Rattle.iq.specs.declared.IqCalibration.{IqCalibration}
-use Rattle.config.specs.declared.ConditioningConfig.{ConditioningConfig}
-use Rattle.config.specs.Config.{configOf}
-use Rattle.making.specs.Making as making
-use Rattle.making.specs.Making.{makingSaid}
+use Rattle.chain_config.specs.declared.ConditioningConfig.{ConditioningConfig}
+use Rattle.chain_config.specs.Config.{configOf}
+use Rattle.chain_make.specs.Making as making
+use Rattle.chain_make.specs.Making.{makingSaid}
 
 abbrev pub appliedIf : Bool → StageMode
 appliedIf on = cond on Apply Off

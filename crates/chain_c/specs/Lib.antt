@@ -2,6 +2,5 @@
 pub mod Chains
 pub mod Streams
 pub mod Watches
--- laws
-pub mod StreamLaws
-pub mod MadeLaws
+-- what is proved of them
+pub mod laws

@@ -1,18 +1,17 @@
 -- Samples that go through a chain in calls of some length, in place. Definitions only.
 use mathlib.Core.Bool.{Bool, cond, _&&_}
 use mathlib.Core.List.{List, [], _∷_, _++_}
-use Prim.Native.Nat.{ℕ, zero, suc, _+_, _-_, _/_, min}
+use Prim.Native.Nat.{ℕ, zero, suc, _+_, _-_, min}
 use lib.Dec.{eqb, ltb}
 use lib.ListN.{length, take, drop}
 use lib.Ieee.{Float}
 use Rattle.rules.specs.Answers.{Said, accepted, nothing, refused}
-use Rattle.iq.specs.declared.IqCalibration.{IqCalibration}
-use Rattle.config.specs.declared.ConditioningConfig.{ConditioningConfig}
-use Rattle.state.specs.declared.InputConditioner.{InputConditioner}
-use Rattle.making.specs.Making.{freshState, madeWords}
+use Rattle.chain_config.specs.declared.ConditioningConfig.{ConditioningConfig}
+use Rattle.chain_state.specs.declared.InputConditioner.{InputConditioner}
+use Rattle.chain_make.specs.Making.{freshState, madeWords}
 use Rattle.chain.specs.Stages.{Machine, machineOf}
 use Rattle.chain.specs.Calls.{Outcome, called}
-use Rattle.chain_c.specs.Chains.{appliedChain, saidOf, madeNumber}
+use Rattle.chain_c.specs.Chains.{saidOf, madeNumber}
 
 -- ---- a part of a list: n elements from a place on
 

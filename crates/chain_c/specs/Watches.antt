@@ -3,15 +3,14 @@ use mathlib.Core.Bool.{cond}
 use mathlib.Core.List.{List}
 use Prim.Native.Nat.{ℕ, zero, suc, _+_}
 use lib.Dec.{eqb}
-use lib.ListN.{length}
 use lib.Ieee.{Float}
 use Rattle.rules.specs.Constants.{zeroF}
-use Rattle.config.specs.declared.ConditioningConfig.{ConditioningConfig}
-use Rattle.state.specs.declared.InputConditioner.{InputConditioner}
-use Rattle.hops.specs.declared.HopSaid.{HopSaid}
-use Rattle.hops.specs.declared.HopSaid.the-variants as hop
-use Rattle.making.specs.Making.{freshState, madeWords}
-use Rattle.hops.specs.Hops.{Hopped, hopOf}
+use Rattle.chain_config.specs.declared.ConditioningConfig.{ConditioningConfig}
+use Rattle.chain_state.specs.declared.InputConditioner.{InputConditioner}
+use Rattle.chain_hop.specs.declared.HopSaid.{HopSaid}
+use Rattle.chain_hop.specs.declared.HopSaid.the-variants as hop
+use Rattle.chain_make.specs.Making.{freshState, madeWords}
+use Rattle.chain_hop.specs.Hops.{Hopped, hopOf}
 use Rattle.chain_c.specs.Chains.{saidOf, madeNumber}
 
 abbrev pub reportsIn : HopSaid → ℕ

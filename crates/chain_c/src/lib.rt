@@ -2,26 +2,25 @@
 // go through it in calls of some length, or one hop many times.
 
 ghost use mathlib.Core.Path.{_≡_};
-ghost use Prim.Native.Nat.{_+_, _≤_, _<_, _^_};
+ghost use Prim.Native.Nat.{_+_, _≤_, _<_};
 ghost use lib.ListN.{length};
 ghost use Rattle.rules.specs.Constants.{zeroF};
-ghost use Rattle.making.specs.Making.{saidMaking, madeWords};
+ghost use Rattle.chain_make.specs.Making.{saidMaking, madeWords};
 ghost use Rattle.chain.specs.Stages.{machineOf};
 ghost use Rattle.chain.specs.Calls.{called};
-ghost use Rattle.calls.specs.Said.{said};
-ghost use Rattle.hops.specs.Hops.{hopOf};
+ghost use Rattle.chain_call.specs.Said.{said};
 ghost use Rattle.chain_c.specs.Chains.{appliedIf, appliedChain, watchingChain, saidOf, madeNumber};
 ghost use Rattle.chain_c.specs.Streams.{partAt, withPartAt, readyIn, numberIn, callLength, isMore, streamOf, streamedAll, chainRun};
 ghost use Rattle.chain_c.specs.Watches.{reportsIn, watchOf, watched, hopsFor, hopsRun};
-use calls::Called;
-use calls::Conditioned;
-use config::ConditioningConfig;
-use hops::HopSaid;
+use chain_call::Called;
+use chain_call::Conditioned;
+use chain_config::ConditioningConfig;
+use chain_hop::HopSaid;
+use chain_make::MakingAnswer;
+use chain_state::InputConditioner;
 use iq::Calibration;
 use iq::IqCalibration;
-use iq::StageMode;
-use making::MakingAnswer;
-use state::InputConditioner;
+use stage_mode::StageMode;
 
 // ---- a chain
 
@@ -158,7 +157,7 @@ fn turn(
     ensures written { λ r. ⌜ now (samples .exit) ≡ withPartAt at len (now (samples .entry)) (called (machineOf state (now (spans .entry)) (now (repairs .entry))) (partAt at len (now (samples .entry))) .samples) ⌝ }
 {
     let end = at + len;
-    calls::condition(state, &mut samples[at..end], spans, repairs)
+    chain_call::condition(state, &mut samples[at..end], spans, repairs)
 }
 
 // How many samples are released, and the number of the refusal that ended it, or 0.
@@ -238,7 +237,7 @@ pub extern "C" fn chain_run(
         repairs.len(),
         words.len(),
     );
-    let made = making::with_geometry(config, spans, repairs, words);
+    let made = chain_make::with_geometry(config, spans, repairs, words);
     let answer = made.answer;
     let state = made.state;
     let number = made_number(answer);
@@ -291,7 +290,7 @@ fn watch(
     let mut left = many;
     while 0 < left {
         let monitor = state.monitor;
-        let t = hops::observe_hop(state, x, monitor.end, spans, words);
+        let t = chain_hop::observe_hop(state, x, monitor.end, spans, words);
         state = t.state;
         let answer = t.answer;
         reports = reports + reports_in(answer);
@@ -319,7 +318,7 @@ pub extern "C" fn hops_run(
     ensures words { λ _. ⌜ now (words .exit) ≡ hopsRun (watchingChain fs (length (now (x .entry))) (length (now (spans .entry))) (length (now (repairs .entry)))) hops (now (x .entry)) (now (spans .entry)) (now (repairs .entry)) (now (words .entry)) .words ⌝ }
 {
     let config = watching_chain(fs, x.len(), spans.len(), repairs.len());
-    let made = making::with_geometry(config, spans, repairs, words);
+    let made = chain_make::with_geometry(config, spans, repairs, words);
     let answer = made.answer;
     let state = made.state;
     let number = made_number(answer);

@@ -1,12 +1,19 @@
 -- Complex numbers of floats, each operation by document 01's formula, in its order: every sum, product and quotient of parts rounds to the format. Definitions only.
 use Prim.Native.Nat.{ℕ, _+_, _*_, _/_, _%_, _^_}
-use lib.Ieee.{Float, Format, binary32, binary64, add, sub, mul, div, neg, ofBits, toBits}
+use mathlib.Core.Bool.{not}
+use lib.Dec.{T}
+use lib.Ieee.{Float, isNan, Format, binary32, binary64, add, sub, mul, div, neg, ofBits, toBits}
 use Rattle.ieee.specs.Narrow.{narrowed}
 use Rattle.ieee.specs.Root.{rooted}
 
 pub record Complex : Type 0 where
   pub re : Float
   pub im : Float
+
+-- neither part is a NaN
+pub record NoNan (z : Complex) : Type 0 where
+  pub re : T (not (isNan (z .re)))
+  pub im : T (not (isNan (z .im)))
 
 -- 0.0 and 1.0
 abbrev pub zeroIn : Format → Float

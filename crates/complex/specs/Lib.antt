@@ -1,5 +1,5 @@
 -- definitions
 pub mod Complex
 pub mod View
--- laws
-pub mod Words
+-- what is proved of them
+pub mod laws

@@ -7,7 +7,7 @@ use lib.ListN.{length}
 use lib.Ieee.{Float}
 use Rattle.rules.specs.Dc.{corner, firstLevel, restoredAll}
 use Rattle.rules.specs.Refusals.{dcUndoRefusal, firstBeyondFrom}
-use Rattle.part_limit.specs.Limit.{returned}
+use Rattle.amplitude_limit.specs.Limit.{returned}
 use Rattle.dc.specs.declared.Reverted.{Reverted}
 use Rattle.dc.specs.declared.Reverted.the-variants.{Restored, BadRate, BadLength, Beyond}
 

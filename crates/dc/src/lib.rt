@@ -252,7 +252,7 @@ pub fn revert_dc(y: &[u64], fs: f64, out: &mut [u64]) -> Reverted
     if out.len() != y.len() {
         return Reverted::BadLength;
     }
-    let k = part_limit::first_beyond(y);
+    let k = amplitude_limit::first_beyond(y);
     if k < y.len() {
         return Reverted::Beyond(k);
     }

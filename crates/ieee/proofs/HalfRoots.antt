@@ -7,7 +7,7 @@ use native.Mathlib.Omega.{arith}
 use mathlib.Core.Bool.{Bool, true, false, not, _&&_}
 use lib.Dec.{T, leb, ltb, leb→le, nleb→lt}
 use borrow.Author.Tests.{le-leb, lt-leb, lt-ltb, le-ltb}
-use Rattle.ieee.specs.Numbers.{le-or-lt, square-even, square-odd, next-square}
+use Rattle.ieee.specs.laws.Numbers.{le-or-lt, square-even, square-odd, next-square}
 use Rattle.ieee.specs.Root.{HalfRoot}
 
 -- ---- g * g, by the upper and the lower digits of g

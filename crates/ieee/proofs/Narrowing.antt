@@ -12,11 +12,11 @@ use lib.Ieee.Nearest.{closest}
 use lib.Ieee.Scale.{round-same}
 use Rattle.ieee.specs.Narrow.{narrowed, patternOf, patternIn}
 use Rattle.ieee.specs.Normal.{exponentIn, significandOf, shiftOf}
-use Rattle.ieee.specs.Numbers.{le-or-lt}
-use Rattle.ieee.specs.RoundedBits.{closest-small, round-bits}
-use Rattle.ieee.specs.Fields.{Meaning, meaning}
-use Rattle.ieee.specs.NormalLaws.{placed}
-use Rattle.ieee.specs.NarrowLaws.{narrowed-value}
+use Rattle.ieee.specs.laws.Numbers.{le-or-lt}
+use Rattle.ieee.specs.laws.RoundedBits.{closest-small, round-bits}
+use Rattle.ieee.specs.laws.Fields.{Meaning, meaning}
+use Rattle.ieee.specs.laws.NormalLaws.{placed}
+use Rattle.ieee.specs.laws.NarrowLaws.{narrowed-value}
 
 infinite : (s : Bool) → toBits binary32 (narrowed (inf s)) ≡ cond s (2 ^ 31) 0 + 255 * 2 ^ 23
 unfolding narrowed toBits

@@ -11,9 +11,9 @@ use lib.Ieee.{Float, binary64, ofBits, toBits, fits}
 use lib.Ieee.Exact.{HasValue}
 use lib.Ieee.Bits.{ofBits-toBits}
 use Rattle.ieee.specs.Root.{rooted}
-use Rattle.ieee.specs.Numbers.{square-lt, square-even, square-odd, next-square}
-use Rattle.ieee.specs.NormalLaws.{evenOf, evened}
-use Rattle.ieee.specs.RootValue.{rooted-value, rooted-fits, root-bits}
+use Rattle.ieee.specs.laws.Numbers.{square-lt, square-even, square-odd, next-square}
+use Rattle.ieee.specs.laws.NormalLaws.{evenOf, evened}
+use Rattle.ieee.specs.laws.RootValue.{rooted-value, rooted-fits, root-bits}
 
 -- ---- the loop of `root_digits`: i digits of the root are found, r, and what is left of the digits that were brought down, w * 4 ^ i / 2 ^ 64, is `rest`
 pub record Found (w m rest r i : ℕ) : Type 0 where

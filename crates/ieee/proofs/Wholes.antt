@@ -13,9 +13,9 @@ use lib.Ieee.Exact.{HasValue}
 use lib.Ieee.Nearest.{div-same}
 use Rattle.ieee.specs.Normal.{significandOf, shiftOf}
 use Rattle.ieee.specs.Whole.{ceilDiv, roundDiv, divBy, wholeBy}
-use Rattle.ieee.specs.Numbers.{le-or-lt, pow-split}
-use Rattle.ieee.specs.Fields.{Meaning}
-use Rattle.ieee.specs.NormalLaws.{Placed, placed}
+use Rattle.ieee.specs.laws.Numbers.{le-or-lt, pow-split}
+use Rattle.ieee.specs.laws.Fields.{Meaning}
+use Rattle.ieee.specs.laws.NormalLaws.{Placed, placed}
 
 -- ---- what the two rules for fractions share
 pub record Rule (g : ℕ → ℕ → ℕ) : Type 0 where

@@ -8,7 +8,7 @@ use lib.Ieee.{Float, nan}
 use Rattle.complex.specs.Complex.{wordOf, sampleOf}
 use Rattle.rules.specs.Constants.{zeroF}
 use Rattle.rules.specs.Impulse.{Setting, standard, width, lookahead, powerOf, standsOut, pauses, mendable, between}
-use Rattle.ordered.specs.Ordered.{ordered, mean}
+use Rattle.impulse_window.specs.Ordered.{ordered, mean}
 use Rattle.impulse.specs.declared.Run.{Run}
 use Rattle.impulse.specs.declared.Open.{Open}
 use Rattle.impulse.specs.declared.Open.the-variants.{Running, Closed}

@@ -8,7 +8,7 @@ use Rattle.ieee.specs.Plain.{Plain}
 use Rattle.complex.specs.Complex.{Complex, sampleOf}
 use Rattle.rules.specs.Constants.{zeroF}
 use Rattle.rules.specs.Sort.{sort}
-use Rattle.rules.specs.SortLaws.{All}
+use Rattle.rules.specs.Lists.{All}
 use Rattle.rules.specs.Impulse.{Setting, width, lookahead, judged}
 use Rattle.impulse.specs.declared.Run.{Run}
 use Rattle.impulse.specs.declared.Open.the-variants.{Running}

@@ -8,8 +8,7 @@ use lib.Ieee.{Float, lt}
 use Rattle.rules.specs.Constants.{zeroF}
 use Rattle.rules.specs.Lists.{at}
 use Rattle.rules.specs.Sort.{sort}
-use Rattle.rules.specs.Impulse.{Setting, width, lookahead, powerOf, judged, flagged, before, start, closes, blockOf, paused, touches, mendable, value}
-use Rattle.rules.specs.Runs.{newestBlock, flagsIn}
+use Rattle.rules.specs.Impulse.{Setting, width, lookahead, powerOf, judged, flagged, before, start, closes, blockOf, paused, touches, mendable, value, newestBlock, flagsIn}
 use Rattle.impulse.specs.declared.Run.{Run}
 use Rattle.impulse.specs.declared.Open.{Open}
 use Rattle.impulse.specs.declared.Open.the-variants.{Running, Closed}

@@ -11,7 +11,7 @@ ghost use Rattle.rules.specs.Impulse.{standard, pauses};
 ghost use Rattle.impulse.specs.Machine.{settingOf, fresh, grown, arrived, entered, withRun, withNeighbour, closing, closingPending, ending, endingPending, flaggedBy, judge, verdict, released, push};
 ghost use Rattle.impulse.specs.View.{suppressorOf, endedOf, judgedOf, pushedOf};
 ghost use Rattle.impulse.specs.Room.{runEnd, Room};
-ghost use Rattle.ordered.specs.Rising.{Rising};
+ghost use Rattle.impulse_window.specs.Rising.{Rising};
 
 mod mending;
 
@@ -83,7 +83,7 @@ pub struct Pushed {
 
 impl ImpulseSuppressor {
     // The reference window, centred on the sample being judged.
-    pub const WINDOW: usize = ordered::WINDOW;
+    pub const WINDOW: usize = impulse_window::WINDOW;
     // The samples on each side of it.
     pub const HALF_WINDOW: usize = 16;
     // The window's strongest powers, left out of the reference: room for two runs that are mended.
@@ -125,6 +125,16 @@ pub fn pauses(blocklen: u64, was: bool, flagged: u64) -> bool
         > ImpulseSuppressor::PAUSE_FRACTION * std::num::nearest_u64_to_f64(blocklen)
 }
 
+// The next sample to be judged, of so many received: half a window before the next that comes.
+pub fn next_judged(received: u64) -> u64
+    ensures { λ r. ⌜ r ≡ received - 16 ⌝ }
+{
+    if received < ImpulseSuppressor::HALF_WINDOW as u64 {
+        return 0;
+    }
+    received - ImpulseSuppressor::HALF_WINDOW as u64
+}
+
 // How many of the window's powers are kept, when n samples have come.
 fn kept(n: u64) -> usize
     requires { ⌜ 8 ≤ n ⌝ }
@@ -143,7 +153,7 @@ fn is_flagged(sorted: &[f32; ImpulseSuppressor::WINDOW], n: u64, p: f32, rising:
     requires { ⌜ (rising ≡ true → Rising 0 (now sorted)) ⌝ }
     ensures { λ b. ⌜ b ≡ flaggedBy 33 8 n (now (sorted .entry)) p ⌝ }
 {
-    ordered::is_flagged(sorted, kept(n), p, rising)
+    impulse_window::is_flagged(sorted, kept(n), p, rising)
 }
 
 // The run that a flagged sample j opens or lengthens.
@@ -373,7 +383,7 @@ impl Gate {
         ensures words { λ r. ⌜ now (pending .exit) ≡ push (settingOf self) (suppressorOf self (now (window .entry)) (now (sorted .entry)) (now (pending .entry))) x .state .pending ⌝ }
     {
         let i = self.received;
-        let rising = ordered::take_in(window, sorted, i, x);
+        let rising = impulse_window::take_in(window, sorted, i, x);
         let out = mending::hold(pending, i, x);
         let answer = released(self.apply, i, out, x);
         let d = self.arrived().verdict(i, window, sorted, pending, rising);

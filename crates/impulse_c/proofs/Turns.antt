@@ -18,7 +18,7 @@ use Rattle.impulse.specs.Machine.{settingOf, fresh, push}
 use Rattle.impulse.specs.View.{suppressorOf, pushedOf}
 use Rattle.impulse.specs.Running.{outs, step}
 use Rattle.impulse.specs.Room.{Room}
-use Rattle.impulse.specs.RoomLaws.{ordered-length, room-step, received-step, setting-step}
+use Rattle.impulse.specs.laws.RoomLaws.{ordered-length, room-step, received-step, setting-step}
 use Rattle.impulse_c.specs.Trace.{placed}
 
 -- ---- the suppressor

@@ -1,6 +1,4 @@
 -- definitions
 pub mod View
--- laws
-pub mod Tests
-pub mod Settling
-pub mod Series
+-- what is proved of them
+pub mod laws

@@ -2,9 +2,7 @@
 use Prim.Native.Nat.{ℕ}
 use Rattle.complex.specs.View.{view64}
 use Rattle.rules.specs.Iq as rules
-use Rattle.rules.specs.Iq.{Mode, off, observe, apply, Calibrated, none, with, Settled, Off, Observing, Withheld, Correcting}
-use Rattle.iq.specs.declared.StageMode.{StageMode}
-use Rattle.iq.specs.declared.StageMode.the-variants as mode
+use Rattle.rules.specs.Iq.{Calibrated, none, with, Settled, Off, Observing, Withheld, Correcting}
 use Rattle.iq.specs.declared.IqCalibration.{IqCalibration}
 use Rattle.iq.specs.declared.Calibration.{Calibration}
 use Rattle.iq.specs.declared.Calibration.the-variants.{Absent, Present}
@@ -12,11 +10,6 @@ use Rattle.iq.specs.declared.Validated.{Validated}
 use Rattle.iq.specs.declared.Validated.the-variants.{Valid, BadGain, BadPhase, BadCentre}
 use Rattle.iq.specs.declared.Iq.{Iq}
 use Rattle.iq.specs.declared.Iq.the-variants as decision
-
-abbrev pub modeOf : StageMode → Mode
-modeOf mode.Off = off
-modeOf mode.Observe = observe
-modeOf mode.Apply = apply
 
 abbrev pub calibrationOf : IqCalibration → rules.Calibration
 calibrationOf c = record { gain = c .gain; phase = c .phase; centre = c .centre }

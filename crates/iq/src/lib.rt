@@ -5,19 +5,15 @@ ghost use mathlib.Core.Path.{_≡_};
 ghost use lib.Dec.{eqb};
 ghost use lib.Ieee.Scale.{finite};
 ghost use Rattle.complex.specs.View.{view64, make64};
-ghost use Rattle.rules.specs.Iq.{sine, cosine, ranged, finitePositive, turned, coefficient, accepted, centresAgree, correctable, apply, settled};
+ghost use Rattle.rules.specs.Iq.{sine, cosine, ranged, finitePositive, turned, coefficient, accepted, centresAgree, correctable, settled};
+ghost use Rattle.rules.specs.Mode.{apply};
 ghost use Rattle.rules.specs.Refusals.{validation};
-ghost use Rattle.iq.specs.View.{calibrationOf, modeOf, calibratedOf, settledOf, refusalOf};
+ghost use Rattle.iq.specs.View.{calibrationOf, calibratedOf, settledOf, refusalOf};
+ghost use Rattle.stage_mode.specs.View.{modeOf};
 use complex::Complex64;
+use stage_mode::StageMode;
 
 const RADIANS_PER_DEGREE: f64 = 0.017453292519943295;
-
-// How a stage runs.
-pub enum StageMode {
-    Off,
-    Observe,
-    Apply,
-}
 
 // A receiver's calibration: the gain of Q over that of I, the phase error of Q in degrees, and the
 // centre in Hz at which it was measured.
@@ -118,16 +114,23 @@ pub fn accepted(rho: Complex64) -> bool
     false
 }
 
+// Document 01's number of an answer, and 0 where there is none.
+pub fn number(v: Validated) -> u64
+    ensures { λ r. ⌜ r ≡ refusalOf v ⌝ }
+{
+    match v {
+        Validated::Valid => 0,
+        Validated::BadGain => 11,
+        Validated::BadPhase => 12,
+        Validated::BadCentre => 13,
+    }
+}
+
 // Whether validation refused nothing.
 fn is_valid(v: Validated) -> bool
     ensures { λ r. ⌜ r ≡ eqb (refusalOf v) 0 ⌝ }
 {
-    match v {
-        Validated::Valid => true,
-        Validated::BadGain => false,
-        Validated::BadPhase => false,
-        Validated::BadCentre => false,
-    }
+    number(v) == 0
 }
 
 // Whether a calibration at a centre serves a receiver: at most 1 Hz off.

@@ -6,8 +6,8 @@ use native.Mathlib.Nat.{mod-lt}
 use native.Mathlib.Omega.{arith}
 use lib.ListN.{length}
 use Rattle.rules.specs.Log as rules
-use Rattle.rules.specs.Log.{roomed, entered, append}
-use Rattle.rules.specs.RingLaws.{Sound, HasRoom, roomed-sound, place-fits}
+use Rattle.rules.specs.Log.{roomed, entered, append, Sound}
+use Rattle.rules.specs.laws.RingLaws.{HasRoom, roomed-sound, place-fits}
 use Rattle.log.specs.declared.Ring.{Ring}
 use Rattle.log.specs.View.{ringIn}
 

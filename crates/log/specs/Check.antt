@@ -5,7 +5,7 @@ use lib.Dec.{ltb, leb}
 use lib.ListN.{getD}
 use Rattle.rules.specs.Constants.{spanEndLimit, counterLimit}
 use Rattle.rules.specs.Log as rules
-use Rattle.rules.specs.MarkLaws.{newestEnd}
+use Rattle.rules.specs.Log.{newestEnd}
 use Rattle.log.specs.declared.Ring.{Ring}
 use Rattle.log.specs.declared.Log.{Log}
 use Rattle.log.specs.View.{Logged, freshRing, marksAt}

@@ -2,7 +2,5 @@
 pub mod View
 pub mod Ready
 pub mod Check
--- laws
-pub mod RingNumbers
-pub mod LogLaws
-pub mod CheckLaws
+-- what is proved of them
+pub mod laws

@@ -6,12 +6,21 @@ ghost use mathlib.Core.Bool.{true};
 ghost use mathlib.Core.List.{List, [], _∷_};
 ghost use Prim.Native.Nat.{ℕ, _+_, _-_, _*_, _%_, _<_, _^_, min};
 ghost use lib.ListN.{length, getD};
-ghost use Rattle.rules.specs.RingLaws.{Sound};
-ghost use Rattle.rules.specs.RingReading.{spansOf};
+ghost use Rattle.rules.specs.Log.{Sound};
+ghost use Rattle.rules.specs.Log.{spansOf};
 ghost use Rattle.rules.specs.Log.{ringNumber, stageNumber, markNumber, spanOf, joins, lengthened, roomed, append, mark};
 ghost use Rattle.log.specs.View.{stageOf, markOf, ringIn, marksIn, Logged, freshRing, freshLog, markedAt, wordsOfRepair};
 ghost use Rattle.log.specs.Ready.{Open, Markable, Fits};
 ghost use Rattle.log.specs.Check.{endFits, ringFits, logFits, endsFit, droppedInAll};
+
+// The words of a repair.
+pub const REPAIR_WORDS: usize = 6;
+
+// The words of the span store for each span that a ring holds: two, in each of twelve rings.
+pub const STORE_WORDS: usize = 24;
+
+// 2^48: the most samples in all, and the last start of a hop or a repair.
+pub const TOTAL_LIMIT: u64 = 0x1_0000_0000_0000;
 
 // 2^49: the largest sum of a newest span's start and length.
 pub const SUM_LIMIT: u64 = 0x2_0000_0000_0000;
@@ -273,7 +282,7 @@ pub fn record_repair(ring: Ring, repairs: &mut [u64], capacity: usize, r: Repair
     ensures { λ q. ⌜ ringIn q (now (repairs .exit)) ≡ append capacity (ringIn ring (now (repairs .entry))) (wordsOfRepair r) ⌝ }
 {
     let q = ring.with_room(capacity);
-    let place = q.next_place(capacity) * 6;
+    let place = q.next_place(capacity) * REPAIR_WORDS;
     repairs[place] = r.start;
     repairs[place + 1] = r.len;
     repairs[place + 2] = r.first;

@@ -6,11 +6,12 @@ ghost use mathlib.Core.Path.{_≡_};
 ghost use Prim.Native.Nat.{_≤_};
 ghost use lib.ListN.{length};
 ghost use Rattle.io.specs.Counts.{Counts};
+use chain_make::MakingAnswer;
+use chain_state::InputConditioner;
 use libc::STDIN_FILENO;
 use libc::STDOUT_FILENO;
-use starting::StartAnswer;
-use starting::Started;
-use state::InputConditioner;
+use replay_start::StartAnswer;
+use replay_start::Started;
 
 // Blocks to feed at most. Each full one has 2^13 samples, and the chain refuses what comes after 2^48.
 const BLOCKS: u64 = 0x10_0000_0000;
@@ -40,8 +41,15 @@ fn sample_store() -> [u64; 8213]
     [0u64; 8213]
 }
 
-// 24 words for each of 256 spans, and 6 for each of 1,024 repairs.
-fn log_store() -> [u64; 6144]
+// 24 words for each of 256 spans.
+fn span_store() -> [u64; 6144]
+    ensures { λ r. ⌜ 6144 ≡ length r ⌝ }
+{
+    [0u64; 6144]
+}
+
+// 6 words for each of 1,024 repairs.
+fn repair_store() -> [u64; 6144]
     ensures { λ r. ⌜ 6144 ≡ length r ⌝ }
 {
     [0u64; 6144]
@@ -118,13 +126,13 @@ fn feed(
     ensures { λ r. ⌜ r .size ≡ 0 ⌝ }
 {
     let before = played.state;
-    let fed = feeding::feed(before, bytes, samples, spans, repairs);
+    let fed = replay_feed::feed(before, bytes, samples, spans, repairs);
     let state = fed.state;
     let answer = fed.answer;
     Played {
         state,
         replaced: std::num::wrapping_add_u64(played.replaced, fed.replaced),
-        number: calls::number(answer),
+        number: chain_call::number(answer),
         size: 0,
         failed: false,
     }
@@ -182,7 +190,7 @@ fn play(
     played
 }
 
-// ---- the answer
+// ---- the whole recording
 
 fn write_played(played: Played, spans: &[u64], text: &mut [u8]) -> usize
     ensures { λ r. ⌜ r ≤ length (now (text .entry)) ⌝ }
@@ -191,14 +199,25 @@ fn write_played(played: Played, spans: &[u64], text: &mut [u8]) -> usize
         return 0;
     }
     if played.number != 0 {
-        return notices::write_refusal(played.number, text);
+        return replay_text::notices::write_refusal(played.number, text);
     }
     let state = played.state;
-    report::write_report(state, spans, played.replaced, text)
+    replay_report::write_report(state, spans, played.replaced, text)
 }
 
-// Puts what is to be printed into the text, and answers how long it is: 0 where a read failed.
-fn answer(
+fn is_off(answer: StartAnswer) -> bool {
+    let StartAnswer::Making(made) = answer else {
+        return false;
+    };
+    if let MakingAnswer::Off = made {
+        return true;
+    }
+    false
+}
+
+// Plays the recording that was started, puts what is to be printed into the text, and answers how long it
+// is: 0 where a read failed.
+fn play_recording(
     started: Started,
     size: usize,
     bytes: &mut [u8],
@@ -212,12 +231,12 @@ fn answer(
 {
     let state = started.state;
     let said = started.answer;
-    let number = starting::start_number(said);
+    let number = replay_start::start_number(said);
     if number != 0 {
-        return notices::write_refusal(number, text);
+        return replay_text::notices::write_refusal(number, text);
     }
-    if let StartAnswer::Off = said {
-        return notices::write_off(text);
+    if is_off(said) {
+        return replay_text::notices::write_off(text);
     }
     let first = Played {
         state,
@@ -241,8 +260,8 @@ fn print(text: &[u8], size: usize)
 fn main() {
     let mut head = [0u8; 49];
     let mut bytes = io::large_buffer();
-    let mut spans = log_store();
-    let mut repairs = log_store();
+    let mut spans = span_store();
+    let mut repairs = repair_store();
     let mut words = monitor_store();
     let header = read_block(&mut head);
     if header.failed {
@@ -254,7 +273,7 @@ fn main() {
     }
     let known = header.size;
     let size = first.size;
-    let started = starting::start(
+    let started = replay_start::start(
         &head[..known],
         &bytes[..size],
         &mut spans,
@@ -263,7 +282,7 @@ fn main() {
     );
     let mut samples = sample_store();
     let mut text = text_store();
-    let long = answer(
+    let long = play_recording(
         started,
         size,
         &mut bytes,

@@ -1,5 +1,5 @@
 -- Document 01, 'Chain' and 'Lists of calls': what the rules give for a whole input, all the samples and all the hops. Definitions only.
-use mathlib.Core.Bool.{Bool, true, false, cond}
+use mathlib.Core.Bool.{cond}
 use mathlib.Core.List.{List, [], _∷_, map}
 use Prim.Native.Nat.{ℕ}
 use lib.ListN.{length}
@@ -7,7 +7,8 @@ use lib.Ieee.{Float}
 use Rattle.complex.specs.Complex.{Complex}
 use Rattle.rules.specs.Impulse.{Setting, standard, blockLength, Event, happened, handedOn, held}
 use Rattle.rules.specs.Dc.{corner, firstLevel, levelAfter, blockedAll}
-use Rattle.rules.specs.Iq.{Mode, off, observe, apply, Calibrated, Settled, Off, Observing, Withheld, Correcting, settled, correctedBy}
+use Rattle.rules.specs.Iq.{Calibrated, Settled, Off, Observing, Withheld, Correcting, settled, correctedBy}
+use Rattle.rules.specs.Mode.{Mode, isApply, runs}
 use Rattle.rules.specs.Log.{Ring, Span, spanOf, Marks, marked, repaired, Stage, impulse, dc, iq, Mark, Repaired, Flagged, Corrected, Uncertain, marksOf, repairsOf, longRuns}
 use Rattle.rules.specs.Monitor.{Hop, Answer, windowLength, answers, openWindow, monitorWords, suspectedSpans}
 
@@ -21,16 +22,6 @@ pub record Config : Type 0 where
   pub calibration : Calibrated
   pub spans : ℕ
   pub repairs : ℕ
-
-abbrev pub isApply : Mode → Bool
-isApply off = false
-isApply observe = false
-isApply apply = true
-
-abbrev pub runs : Mode → Bool
-runs off = false
-runs observe = true
-runs apply = true
 
 abbrev pub settingOf : Config → Setting
 settingOf c = standard (blockLength (c .fs)) (isApply (c .impulseMode))

@@ -2,10 +2,11 @@
 use mathlib.Core.Bool.{Bool, false, not, _&&_, cond}
 use mathlib.Core.List.{List, [], _∷_, map}
 use Prim.Native.Nat.{ℕ, suc, _+_}
+use lib.Dec.{T}
 use lib.Ieee.{Float, nan, inf, fin, le}
 use Rattle.complex.specs.Complex.{sampleOf}
 use Rattle.rules.specs.Constants.{usableLimit}
-use Rattle.rules.specs.Lists.{indicator}
+use Rattle.rules.specs.Lists.{indicator, All}
 
 -- the size of a number
 unfoldable pub magnitude : Float → Float
@@ -32,3 +33,7 @@ guarded ws = map (λ w. cond (usable w) w 0) ws
 unfoldable pub unusable : List ℕ → ℕ
 unusable [] = 0
 unusable (w ∷ ws) = indicator (not (usable w)) + unusable ws
+
+-- every sample is usable
+abbrev pub Usable : List ℕ → Type 0
+Usable xs = All (λ w. T (usable w)) xs

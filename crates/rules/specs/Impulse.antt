@@ -86,6 +86,14 @@ unfoldable pub paused : ℕ → (ℕ → Bool) → ℕ → Bool
 paused block F zero = false
 paused block F (suc b) = pauses block (paused block F b) (count F (b * block) block)
 
+-- the block of the newest judged sample, when j are judged
+abbrev pub newestBlock : Setting → ℕ → ℕ
+newestBlock s j = blockOf s (j - 1)
+
+-- the flagged of block b among the first j samples
+abbrev pub flagsIn : Setting → (ℕ → Bool) → ℕ → ℕ → ℕ
+flagsIn s F b j = count F (b * s .block) (j - b * s .block)
+
 -- ---- what happens when j is judged: Log says what each of these marks
 
 pub data Event : Type 0 where

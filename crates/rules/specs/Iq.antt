@@ -7,6 +7,7 @@ use lib.Ieee.Scale.{finite}
 use Rattle.complex.specs.Complex.{Complex, sum, difference, product, power, quotient, oneMinus, onePlus, conjugate, unscaled, narrowedParts, wordOf, sampleOf}
 use Rattle.rules.specs.Guard.{magnitude}
 use Rattle.rules.specs.Constants.{zeroF, oneHalf, one, two, fortyFive, minusFortyFive, radiansPerDegree, coefficientMargin}
+use Rattle.rules.specs.Mode.{Mode, off, observe, apply}
 
 abbrev pub wholeF : ℕ → Float
 wholeF n = ofInt binary64 (pos n)
@@ -68,9 +69,6 @@ unfoldable pub accepted : Complex → Bool
 accepted z = finite (z .re) && finite (z .im) && lt (power binary64 z) (sub binary64 one coefficientMargin)
 
 -- ---- what the chain settles
-
-pub data Mode : Type 0 where
-  off observe apply : Mode
 
 pub data Calibrated : Type 0 where
   none : Calibrated

@@ -2,6 +2,7 @@
 pub mod Constants
 pub mod Lists
 pub mod Sort
+pub mod Mode
 pub mod Guard
 pub mod Impulse
 pub mod Dc
@@ -12,19 +13,5 @@ pub mod Undo
 pub mod Refusals
 pub mod Answers
 pub mod Chain
--- laws
-pub mod TestLaws
-pub mod ListLaws
-pub mod SizeLaws
-pub mod SortLaws
-pub mod Runs
-pub mod Prefix
-pub mod Values
-pub mod RingLaws
-pub mod MarkLaws
-pub mod RingReading
-pub mod EventLaws
--- closed cases
-pub mod ByFlags
-pub mod Computing
-pub mod Cases
+-- what is proved of them
+pub mod laws

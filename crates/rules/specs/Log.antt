@@ -1,11 +1,12 @@
 -- Document 01, 'Log': twelve rings of spans and a ring of repairs. Definitions only.
 use mathlib.Core.Bool.{Bool, false, cond, _&&_}
 use mathlib.Core.List.{List, [], _∷_, _++_, foldl}
-use Prim.Native.Nat.{ℕ, _+_, _*_, _-_, _%_}
+use mathlib.Core.Path.{_≡_}
+use Prim.Native.Nat.{ℕ, _+_, _*_, _-_, _%_, _≤_, _<_}
 use lib.Dec.{ltb, eqb}
 use lib.ListN.{length, set, take, replicate}
 use Rattle.rules.specs.Impulse.{Event, uncertain, kept, mended}
-use Rattle.rules.specs.Lists.{at, indicator}
+use Rattle.rules.specs.Lists.{at, indicator, upTo}
 
 -- ---- a ring of entries, each of so many words, in a store that has room for cap of them
 
@@ -15,6 +16,13 @@ pub record Ring : Type 0 where
   pub count : ℕ
   pub dropped : ℕ
   pub words : List ℕ
+
+-- its numbers and its store fit each other
+pub record Sound (width cap : ℕ) (r : Ring) : Type 0 where
+  pub some : 0 < cap
+  pub long : length (r .words) ≡ width * cap
+  pub headIn : r .head < cap
+  pub countIn : r .count ≤ cap
 
 -- 'Making fills lent words with 0.'
 abbrev pub emptyRing : ℕ → Ring
@@ -66,6 +74,10 @@ startAt r i = at (r .words) (i * 2)
 
 abbrev pub lenAt : Ring → ℕ → ℕ
 lenAt r i = at (r .words) (i * 2 + 1)
+
+-- where the newest span ends
+abbrev pub newestEnd : ℕ → Ring → ℕ
+newestEnd cap r = startAt r (newestPlace cap r) + lenAt r (newestPlace cap r)
 
 -- 'starting where the ring's newest span ends'
 unfoldable pub joins : ℕ → Ring → ℕ → Bool
@@ -132,6 +144,14 @@ ringNumber s m = stageNumber s * 4 + markNumber m
 
 abbrev pub spanOf : ℕ → ℕ → Span
 spanOf s n = record { start = s; len = n }
+
+-- the span at place i
+abbrev pub spanIn : List ℕ → ℕ → Span
+spanIn ws i = spanOf (at ws (i * 2)) (at ws (i * 2 + 1))
+
+-- the spans that a ring holds, oldest first
+unfoldable pub spansOf : ℕ → Ring → List Span
+spansOf cap r = upTo (λ i. spanIn (r .words) ((r .head + i) % cap)) (r .count)
 
 abbrev pub marksOfEvent : Mark → Event → List Span
 marksOfEvent Repaired (mended a n o) = spanOf a n ∷ []

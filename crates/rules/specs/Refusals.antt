@@ -2,22 +2,22 @@
 --
 -- Where each cause stands. Limits are in Constants. A path is crates/NAME/specs/FILE.
 --   1, 2, 3, 4      badRate, badSize, badCapacity, badLength
---   5               state/Causes badState, by state/Fits stateFits, whose rings are tested by log/Check logFits
---     lent words    state/Causes badSpans (a call, a hop), hops/Hops badWords (a hop), undo/Undoing badRecords (repair undo)
+--   5               chain_state/Causes badState, by chain_state/Fits stateFits, whose rings are tested by log/Check logFits
+--     lent words    chain_state/Causes badSpans (a call, a hop), chain_hop/Hops badWords (a hop), chain_undo/Undoing badRecords (repair undo)
 --   6               shortSlice
 --   7               anyUnusable, with its place unusableAt; anyBeyond, with firstBeyondFrom
 --   8, 9, 10        tooMany, badStart, unfitCoefficient
 --   11, 12, 13      badGain, badPhase, badCentre
---   14, 15          recording/Format badHeader, noSample
+--   14, 15          replay_format/Format badHeader, noSample
 -- Where each operation's order stands.
---   making          makingRefusal; 'all off answers nothing' first: making/Making makingSaid
+--   making          makingRefusal; 'all off answers nothing' first: chain_make/Making makingSaid
 --   a call          chain/Calls callRefusal
---   a hop           hops/Hops hopRefusal, then hopTold: IQ off, and image/Observe hopSaid
---   repair undo     undo/Undoing undoRefusal
+--   a hop           chain_hop/Hops hopRefusal, then hopTold: IQ off, and iq_monitor/Observe hopSaid
+--   repair undo     chain_undo/Undoing undoRefusal
 --   IQ undo         iqUndoRefusal
 --   DC undo         dcUndoRefusal
 --   validation      validation
---   replay          recording/Format startRefusal, then making: starting/Starting startSaid
+--   replay          replay_format/Format startRefusal, then making: replay_start/Starting startSaid
 use mathlib.Core.Bool.{Bool, not, _&&_, _||_, cond}
 use mathlib.Core.List.{List, [], _∷_}
 use Prim.Native.Nat.{ℕ, suc, _+_, _*_}

@@ -1,5 +1,4 @@
 -- definitions
 pub mod Found
--- laws
-pub mod Patterns
-pub mod GuardLaws
+-- what is proved of them
+pub mod laws

@@ -33,7 +33,7 @@ pub fn is_usable(w: u64) -> bool
 pub fn first_unusable(samples: &[u64]) -> Found
     ensures { λ r. ⌜ r ≡ found (length (now (samples .entry))) (firstUnusableFrom 0 (now (samples .entry))) ⌝ }
 {
-    if part_limit::all_under(samples, MAX_PATTERN) {
+    if amplitude_limit::all_under(samples, MAX_PATTERN) {
         return Found::Nothing;
     }
     let mut place: usize = 0;

@@ -6,7 +6,8 @@ use lib.Dec.{eqb}
 use lib.ListN.{getD, set}
 use lib.Ieee.{Float, nan}
 use Rattle.complex.specs.Complex.{Complex}
-use Rattle.rules.specs.Iq.{Mode, off, observe, apply, Calibration, Calibrated, none, with, Settled, Off, Observing, Withheld, Correcting}
+use Rattle.rules.specs.Iq.{Calibration, Calibrated, none, with, Settled, Off, Observing, Withheld, Correcting}
+use Rattle.rules.specs.Mode.{Mode, off, observe, apply}
 use Rattle.dc.specs.declared.DcBlocker.{DcBlocker}
 
 -- the weight and the level's parts, with the count beside them

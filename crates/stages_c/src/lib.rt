@@ -10,18 +10,18 @@ ghost use Rattle.rules.specs.Dc.{corner, firstLevel};
 ghost use Rattle.rules.specs.Iq.{coefficient, corrected, settled};
 ghost use Rattle.dc.specs.Blocker.{blockerOf, blockerAfter, processedAll};
 ghost use Rattle.rules.specs.Refusals.{validation};
-ghost use Rattle.part_limit.specs.Limit.{returned};
+ghost use Rattle.amplitude_limit.specs.Limit.{returned};
 ghost use Rattle.dc.specs.Undo.{undoReturned, undoWords};
-ghost use Rattle.iq.specs.View.{calibrationOf, modeOf, calibratedOf};
-ghost use Rattle.correction.specs.Undo as iqUndo;
+ghost use Rattle.iq.specs.View.{calibrationOf, calibratedOf};
+ghost use Rattle.stage_mode.specs.View.{modeOf};
+ghost use Rattle.iq_correction.specs.Undo as iqUndo;
 ghost use Rattle.stages_c.specs.State.{blockerIn, kept, put, modeFrom, calibratedFrom, settledNumber, settledRho, placeIn};
 use complex::Complex64;
 use dc::DcBlocker;
 use iq::Calibration;
 use iq::Iq;
 use iq::IqCalibration;
-use iq::StageMode;
-use iq::Validated;
+use stage_mode::StageMode;
 
 fn blocker(state: &[f64; 3], n: u64) -> DcBlocker
     ensures { λ r. ⌜ r ≡ blockerIn (now (state .entry)) n ⌝ }
@@ -102,13 +102,7 @@ pub extern "C" fn iq_validate(gain: f64, phase: f64, centre: f64) -> u64
         phase,
         centre,
     };
-    let v = c.validate();
-    match v {
-        Validated::Valid => 0,
-        Validated::BadGain => 11,
-        Validated::BadPhase => 12,
-        Validated::BadCentre => 13,
-    }
+    iq::number(c.validate())
 }
 
 #[no_mangle]
@@ -182,7 +176,7 @@ pub extern "C" fn iq_settle(
 pub extern "C" fn iq_process(re: f64, im: f64, samples: &mut [u64])
     ensures { λ r. ⌜ now (samples .exit) ≡ map (corrected (record { re = re; im = im })) (now (samples .entry)) ⌝ }
 {
-    correction::process(Iq::Correcting(Complex64 { re, im }), samples);
+    iq_correction::process(Iq::Correcting(Complex64 { re, im }), samples);
 }
 
 #[no_mangle]
@@ -191,11 +185,11 @@ pub extern "C" fn iq_revert(samples: &mut [u64], re: f64, im: f64, place: &mut u
     ensures place { λ r. ⌜ now (place .exit) ≡ placeIn (now (place .entry)) (iqUndo.undoReturned (record { re = re; im = im }) (now (samples .entry))) ⌝ }
     ensures written { λ r. ⌜ now (samples .exit) ≡ iqUndo.undoWords (record { re = re; im = im }) (now (samples .entry)) ⌝ }
 {
-    let answer = correction::revert_iq(samples, Complex64 { re, im });
+    let answer = iq_correction::revert_iq(samples, Complex64 { re, im });
     match answer {
-        correction::Reverted::Restored => 0,
-        correction::Reverted::Unfit => 10,
-        correction::Reverted::Beyond(k) => {
+        iq_correction::Reverted::Restored => 0,
+        iq_correction::Reverted::Unfit => 10,
+        iq_correction::Reverted::Beyond(k) => {
             *place = k;
             7
         }

@@ -1,15 +1,15 @@
 // A worked example: sixty samples with one click, mended in two calls, and the repair undone.
 
-use calls::Conditioned;
+use chain_call::Conditioned;
+use chain_config::ConditioningConfig;
+use chain_log::SpanRead;
+use chain_state::InputConditioner;
 use complex::Complex32;
-use config::ConditioningConfig;
 use iq::Calibration;
-use iq::StageMode;
 use libc::STDOUT_FILENO;
 use log::Mark;
 use log::Stage;
-use reading::SpanRead;
-use state::InputConditioner;
+use stage_mode::StageMode;
 
 // The sample (re, 0), as a word.
 fn real(re: f32) -> u64 {
@@ -53,11 +53,11 @@ fn released(answer: Conditioned) -> u64 {
 
 // What the log says: the samples seen, released and held, and where the click was.
 fn print_log(state: InputConditioner, spans: &[u64]) {
-    let log = reading::log(state);
+    let log = chain_log::log(state);
     print_line(b"seen ", log.seen);
     print_line(b"released ", log.released);
     print_line(b"held ", log.held as u64);
-    let read = reading::span(state, spans, Stage::Impulse, Mark::Repaired, 0);
+    let read = chain_log::span(state, spans, Stage::Impulse, Mark::Repaired, 0);
     let SpanRead::Held(span) = read else {
         return;
     };
@@ -71,7 +71,7 @@ fn call(
     spans: &mut [u64],
     repairs: &mut [u64],
 ) -> InputConditioner {
-    let called = calls::condition(state, samples, spans, repairs);
+    let called = chain_call::condition(state, samples, spans, repairs);
     let answer = called.answer;
     print_line(b"ready ", released(answer));
     called.state
@@ -82,7 +82,7 @@ fn main() {
     let mut spans = [0u64; 96];
     let mut repairs = [0u64; 24];
     let mut words = [0.0f64; 32];
-    let made = making::with_geometry(configuration(), &mut spans, &mut repairs, &mut words);
+    let made = chain_make::with_geometry(configuration(), &mut spans, &mut repairs, &mut words);
     let fresh = made.state;
 
     // thirty samples, a click at 20: nine are released and 21 held
@@ -97,6 +97,6 @@ fn main() {
     print_log(last, &spans);
 
     // the repair lifted out again
-    undo::revert_repairs(last, &repairs, &mut second, 9);
+    chain_undo::revert_repairs(last, &repairs, &mut second, 9);
     print_sample(b"sample 20 was ", second[11]);
 }

@@ -1,7 +1,7 @@
 //! Answers the operations of a trace, from standard input to standard output, as the original and the
-//! second reading have it. `crates/trace/stdout` is what it writes on `crates/trace/stdin`:
+//! second reading have it. `crates/test_trace/stdout` is what it writes on `crates/test_trace/stdin`:
 //!
-//!     cd oracle && cargo run --release --bin trace < ../crates/trace/stdin > ../crates/trace/stdout
+//!     cd oracle && cargo run --release --bin trace < ../crates/test_trace/stdin > ../crates/test_trace/stdout
 //!
 //! With the argument `print` it writes the operations and the fronts of their answers as text.
 

@@ -1,5 +1,5 @@
 //! The trace: a list of operations as words, and each operation's answer as words. The proved program
-//! `trace` reads the same operations and has to write the same answers, to the last bit.
+//! `test_trace` reads the same operations and has to write the same answers, to the last bit.
 //!
 //! All words are u64, little-endian. An operation is eight words, `op how a b c d e len`, and `len`
 //! words behind them; an answer is eight, `op number value p q r s m`, and `m` behind them.

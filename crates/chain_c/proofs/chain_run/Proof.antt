@@ -2,11 +2,11 @@
 use mathlib.Core.Path.{ap, _∙_}
 use denote.Ref.{now}
 use Rattle.rules.specs.Constants.{zeroF}
-use Rattle.config.specs.declared.ConditioningConfig.{ConditioningConfig}
-use Rattle.making.specs.Making.{madeWords}
+use Rattle.chain_config.specs.declared.ConditioningConfig.{ConditioningConfig}
+use Rattle.chain_make.specs.Making.{madeWords}
 use Rattle.chain_c.specs.Chains.{saidOf, madeNumber}
 use Rattle.chain_c.specs.Streams.{Stream}
-use Rattle.chain_c.specs.MadeLaws.{run-is}
+use Rattle.chain_c.specs.laws.MadeLaws.{run-is}
 use borrow.Author.Needs.{needs}
 use Rattle.chain_c.proofs.chain_run.Statement.{statement}
 use Rattle.chain_c.proofs.chain_run.Tie as tie

@@ -1,11 +1,11 @@
 -- `chain_c::hops_run` makes a chain and watches. Assumes nothing.
 use mathlib.Core.Path.{ap, _∙_}
 use denote.Ref.{now}
-use Rattle.config.specs.declared.ConditioningConfig.{ConditioningConfig}
-use Rattle.making.specs.Making.{madeWords}
+use Rattle.chain_config.specs.declared.ConditioningConfig.{ConditioningConfig}
+use Rattle.chain_make.specs.Making.{madeWords}
 use Rattle.chain_c.specs.Chains.{saidOf, madeNumber}
 use Rattle.chain_c.specs.Watches.{Watch}
-use Rattle.chain_c.specs.MadeLaws.{said-is, watch-is}
+use Rattle.chain_c.specs.laws.MadeLaws.{said-is, watch-is}
 use borrow.Author.Needs.{needs}
 use Rattle.chain_c.proofs.hops_run.Statement.{statement}
 use Rattle.chain_c.proofs.hops_run.Tie as tie

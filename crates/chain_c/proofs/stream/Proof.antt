@@ -5,7 +5,7 @@ use native.Mathlib.Omega.{arith}
 use lib.ListN.{length}
 use borrow.Author.Needs.{needs}
 use Rattle.chain_c.specs.Streams.{readyIn, numberIn, Stream, streamOf, callLength, lengthIn, isMore}
-use Rattle.chain_c.specs.StreamLaws.{slice-inside, ready-inside, left, next-left, Going, going-first, going-next, going-last, turn-is}
+use Rattle.chain_c.specs.laws.StreamLaws.{slice-inside, ready-inside, left, next-left, Going, going-first, going-next, going-last, turn-is}
 use Rattle.chain_c.proofs.stream.Statement.{statement}
 use Rattle.chain_c.proofs.stream.Tie as tie
 use Rattle.chain_c.proofs.stream.Reads as reads

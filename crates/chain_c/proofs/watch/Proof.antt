@@ -5,7 +5,7 @@ use native.Mathlib.Omega.{arith}
 use lib.ListN.{length}
 use borrow.Author.Needs.{needs}
 use Rattle.chain_c.specs.Watches.{Watch, watchOf, watched}
-use Rattle.chain_c.specs.MadeLaws.{few-reports, watch-next}
+use Rattle.chain_c.specs.laws.MadeLaws.{few-reports, watch-next}
 use Rattle.chain_c.proofs.watch.Statement.{statement}
 use Rattle.chain_c.proofs.watch.Tie as tie
 

@@ -4,7 +4,7 @@ use mathlib.Core.Bool.{true, false}
 use lib.Ieee.{le}
 use Rattle.complex.specs.View.{view64, make64}
 use Rattle.rules.specs.Constants.{one}
-use Rattle.dc.specs.Clamp.{clamp-none, clamp-by}
+use Rattle.dc.specs.laws.Clamp.{clamp-none, clamp-by}
 use borrow.Author.Needs.{needs}
 use Rattle.dc.proofs.clamped.Statement.{statement}
 use Rattle.dc.proofs.clamped.Tie as tie

@@ -7,7 +7,7 @@ use Rattle.dc.specs.declared.DcBlocker.{DcBlocker}
 use Rattle.dc.specs.declared.Taken.{Taken}
 use Rattle.rules.specs.Dc.{corner, firstLevel}
 use Rattle.dc.specs.Blocker.{blockerOf}
-use Rattle.dc.specs.Runs.{Undoing, undoing-next, undoing-end}
+use Rattle.dc.specs.laws.Runs.{Undoing, undoing-next, undoing-end}
 use borrow.Author.Needs.{needs}
 use Rattle.dc.proofs.restore.Statement.{statement}
 use Rattle.dc.proofs.restore.Tie as tie

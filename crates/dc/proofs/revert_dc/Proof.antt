@@ -5,8 +5,8 @@ use mathlib.Core.List.{[], _∷_}
 use lib.Dec.{ltb}
 use lib.ListN.{length}
 use borrow.Author.Tests.{lt-ltb, le-ltb, eq-eqb, ne-eqb, not-true, not-false}
-use Rattle.part_limit.specs.Limit.{returned}
-use Rattle.dc.specs.UndoLaws.{undo-by}
+use Rattle.amplitude_limit.specs.Limit.{returned}
+use Rattle.dc.specs.laws.UndoLaws.{undo-by}
 use borrow.Author.Needs.{needs}
 use Rattle.dc.proofs.revert_dc.Statement.{statement}
 use Rattle.dc.proofs.revert_dc.Tie as tie

@@ -9,7 +9,7 @@ use lib.Pow.{pow-pos, pow-mono}
 use lib.Ieee.Nearest.{div-same}
 use borrow.Author.Needs.{needs}
 use Rattle.ieee.specs.Whole.{roundDiv, divBy}
-use Rattle.ieee.specs.Numbers.{one-shl, pow-twice}
+use Rattle.ieee.specs.laws.Numbers.{one-shl, pow-twice}
 use Rattle.ieee.proofs.dropped.Statement.{statement}
 use Rattle.ieee.proofs.dropped.Tie as tie
 

@@ -5,7 +5,7 @@ use native.Mathlib.Omega.{arith}
 use lib.Ieee.{binary32}
 use borrow.Author.Tests.{lt-ltb, le-ltb}
 use borrow.Author.Needs.{needs}
-use Rattle.ieee.specs.Nan.{zero-by-zero, nan-of-bits, no-nan-bits}
+use Rattle.ieee.specs.laws.Nan.{zero-by-zero, nan-of-bits, no-nan-bits}
 use Rattle.ieee.proofs.from_bits32.Statement.{statement}
 use Rattle.ieee.proofs.from_bits32.Tie as tie
 

@@ -6,7 +6,7 @@ use lib.Dec.{ltb}
 use lib.Ieee.{Float, nan, binary64, toBits}
 use borrow.Author.Tests.{le-leb, lt-leb}
 use Rattle.ieee.specs.Narrow.{normalIn}
-use Rattle.ieee.specs.Nan.{is-nan, no-nan}
+use Rattle.ieee.specs.laws.Nan.{is-nan, no-nan}
 use Rattle.ieee.proofs.is_normal.Statement.{statement}
 use Rattle.ieee.proofs.is_normal.Tie as tie
 

@@ -10,7 +10,7 @@ use borrow.Author.Needs.{needs}
 use Rattle.ieee.specs.declared.Normal.{Normal}
 use Rattle.ieee.specs.Normal.{exponentIn, significandIn, shiftOf, Normalised}
 use Rattle.ieee.specs.Narrow.{patternOf}
-use Rattle.ieee.specs.NormalLaws.{placed}
+use Rattle.ieee.specs.laws.NormalLaws.{placed}
 use Rattle.ieee.proofs.narrow_magnitude.Statement.{statement}
 use Rattle.ieee.proofs.narrow_magnitude.Tie as tie
 

@@ -6,7 +6,7 @@ use native.Mathlib.Omega.{arith}
 use lib.Dec.{lit≤}
 use borrow.Author.Needs.{needs}
 use Rattle.ieee.specs.Normal.{shiftOf}
-use Rattle.ieee.specs.NormalLaws.{Placed, placed}
+use Rattle.ieee.specs.laws.NormalLaws.{Placed, placed}
 use Rattle.ieee.proofs.normalise.Statement.{statement}
 use Rattle.ieee.proofs.normalise.Tie as tie
 

@@ -13,9 +13,9 @@ use lib.Ieee.Exact.{HasValue}
 use borrow.Author.Tests.{le-leb, lt-leb}
 use Rattle.ieee.specs.Root.{rooted}
 use Rattle.ieee.specs.Normal.{exponentIn, significandOf}
-use Rattle.ieee.specs.Nan.{is-nan, no-nan, zero-by-zero}
-use Rattle.ieee.specs.Fields.{Meaning, meaning}
-use Rattle.ieee.specs.RootValue.{rooted-zero, rooted-negative, rooted-infinite, rooted-minus, rooted-nan}
+use Rattle.ieee.specs.laws.Nan.{is-nan, no-nan, zero-by-zero}
+use Rattle.ieee.specs.laws.Fields.{Meaning, meaning}
+use Rattle.ieee.specs.laws.RootValue.{rooted-zero, rooted-negative, rooted-infinite, rooted-minus, rooted-nan}
 use Rattle.ieee.proofs.root.Statement.{statement}
 use Rattle.ieee.proofs.root.Tie as tie
 

@@ -13,8 +13,8 @@ use lib.Ieee.Exact.{HasValue}
 use borrow.Author.Tests.{lt-leb}
 use Rattle.ieee.specs.declared.Normal.{Normal}
 use Rattle.ieee.specs.Normal.{exponentIn, significandIn, shiftOf, Normalised}
-use Rattle.ieee.specs.Fields.{Meaning, meaning-bits, number-bits}
-use Rattle.ieee.specs.NormalLaws.{placed, evenOf, evened}
+use Rattle.ieee.specs.laws.Fields.{Meaning, meaning-bits, number-bits}
+use Rattle.ieee.specs.laws.NormalLaws.{placed, evenOf, evened}
 use Rattle.ieee.proofs.Rooting.{root-small, root-is}
 use borrow.Author.Needs.{needs}
 use Rattle.ieee.proofs.root_finite.Statement.{statement}

@@ -4,8 +4,8 @@ use lib.Dec.{T}
 use lib.Ieee.{binary32, binary64, toBits, ofBits}
 use lib.Ieee.Bits.{ofBits-toBits}
 use Rattle.ieee.specs.Narrow.{narrowed}
-use Rattle.ieee.specs.Nan.{is-nan, no-nan, zero-by-zero, bits-of-nan}
-use Rattle.ieee.specs.NarrowLaws.{narrowed-nan, narrowed-fits}
+use Rattle.ieee.specs.laws.Nan.{is-nan, no-nan, zero-by-zero, bits-of-nan}
+use Rattle.ieee.specs.laws.NarrowLaws.{narrowed-nan, narrowed-fits}
 use Rattle.ieee.proofs.Narrowing.{narrow-bits-is}
 use borrow.Author.Needs.{needs}
 use Rattle.ieee.proofs.round_any.Statement.{statement}

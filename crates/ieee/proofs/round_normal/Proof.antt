@@ -1,4 +1,4 @@
--- `ieee::round_normal` meets its contract: its bits are those of `cut` of `specs/SingleLaws.antt`. Assumes nothing.
+-- `ieee::round_normal` meets its contract: its bits are those of `cut` of `specs/laws/SingleLaws.antt`. Assumes nothing.
 use mathlib.Core.Path.{_≡_, sym, ap, _∙_, subst}
 use Prim.Native.Nat.{ℕ, _*_, _^_, _<_}
 use mathlib.Core.Bool.{Bool, not}
@@ -6,9 +6,9 @@ use lib.Dec.{T}
 use lib.Ieee.{Float, binary32, binary64, toBits, ofBits, fits, isNan}
 use lib.Ieee.Bits.{nanBits-is}
 use Rattle.ieee.specs.Narrow.{narrowed}
-use Rattle.ieee.specs.Nan.{castable}
-use Rattle.ieee.specs.NarrowLaws.{narrowed-fits}
-use Rattle.ieee.specs.SingleLaws.{Cut, cut, not-nan}
+use Rattle.ieee.specs.laws.Nan.{castable}
+use Rattle.ieee.specs.laws.NarrowLaws.{narrowed-fits}
+use Rattle.ieee.specs.laws.SingleLaws.{Cut, cut, not-nan}
 use Rattle.ieee.proofs.round_normal.Statement.{statement}
 use Rattle.ieee.proofs.round_normal.Tie as tie
 

@@ -6,8 +6,8 @@ use native.Mathlib.Omega.{arith}
 use lib.Pow.{pow-pos}
 use lib.Bits.{bitAnd, and-mask}
 use borrow.Author.Needs.{needs}
-use Rattle.ieee.specs.Numbers.{one-shl}
-use Rattle.ieee.specs.RoundedBits.{closest-up, closest-down}
+use Rattle.ieee.specs.laws.Numbers.{one-shl}
+use Rattle.ieee.specs.laws.RoundedBits.{closest-up, closest-down}
 use Rattle.ieee.proofs.shifted.Statement.{statement}
 use Rattle.ieee.proofs.shifted.Tie as tie
 

@@ -6,8 +6,8 @@ use lib.Ieee.{binary64, fits}
 use lib.Ieee.Bits.{ofBits-toBits}
 use borrow.Author.Tests.{le-leb}
 use Rattle.ieee.specs.Whole.{divBy, wholeBy}
-use Rattle.ieee.specs.Nan.{is-nan, no-nan, number-below}
-use Rattle.ieee.specs.Fields.{meaning}
+use Rattle.ieee.specs.laws.Nan.{is-nan, no-nan, number-below}
+use Rattle.ieee.specs.laws.Fields.{meaning}
 use Rattle.ieee.proofs.Wholes.{of-nan, below-zero}
 use Rattle.ieee.proofs.whole.Statement.{statement}
 use Rattle.ieee.proofs.whole.Tie as tie

@@ -12,8 +12,8 @@ use borrow.Author.Needs.{needs}
 use Rattle.ieee.specs.declared.Normal.{Normal}
 use Rattle.ieee.specs.Normal.{exponentIn, significandIn, shiftOf, Normalised}
 use Rattle.ieee.specs.Whole.{divBy, wholeBy}
-use Rattle.ieee.specs.Fields.{Meaning, meaning-bits, number-bits}
-use Rattle.ieee.specs.NormalLaws.{placed}
+use Rattle.ieee.specs.laws.Fields.{Meaning, meaning-bits, number-bits}
+use Rattle.ieee.specs.laws.NormalLaws.{placed}
 use Rattle.ieee.proofs.Wholes.{is-rule, low, middle, large}
 use Rattle.ieee.proofs.whole_positive.Statement.{statement}
 use Rattle.ieee.proofs.whole_positive.Tie as tie

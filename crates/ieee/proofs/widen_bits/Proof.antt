@@ -9,7 +9,7 @@ use lib.Ieee.Bits.{nanBits-is, ofBits-fits}
 use lib.Ieee.Fits.{fits-widens}
 use borrow.Author.Tests.{lt-ltb, le-ltb}
 use borrow.Author.Needs.{needs}
-use Rattle.ieee.specs.Nan.{zero-by-zero, nan-of-bits, no-nan-bits, castable}
+use Rattle.ieee.specs.laws.Nan.{zero-by-zero, nan-of-bits, no-nan-bits, castable}
 use Rattle.ieee.proofs.widen_bits.Statement.{statement}
 use Rattle.ieee.proofs.widen_bits.Tie as tie
 

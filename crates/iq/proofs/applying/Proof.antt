@@ -1,6 +1,7 @@
 -- `iq::applying` is what an applying stage settles. Assumes nothing.
 use mathlib.Core.Path.{sym, ap, _∙_}
-use Rattle.rules.specs.Iq.{apply, settled}
+use Rattle.rules.specs.Iq.{settled}
+use Rattle.rules.specs.Mode.{apply}
 use Rattle.iq.specs.View.{calibratedOf}
 use borrow.Author.Needs.{needs}
 use Rattle.iq.proofs.applying.Statement.{statement}

@@ -5,7 +5,7 @@ use lib.IntN.{pos}
 use lib.Ieee.{Float, binary64, sub, neg, le, ofBits}
 use Rattle.rules.specs.Constants.{one}
 use Rattle.rules.specs.Guard.{magnitude}
-use Rattle.rules.specs.SizeLaws.{size-le}
+use Rattle.rules.specs.laws.SizeLaws.{size-le}
 use Rattle.rules.specs.Iq.{ranged, centresAgree}
 use borrow.Author.Needs.{needs}
 use Rattle.iq.proofs.centres_agree.Statement.{statement}

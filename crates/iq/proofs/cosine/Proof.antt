@@ -7,7 +7,7 @@ use lib.Dec.{lit<}
 use lib.Ieee.{Float, binary64, sub, mul, div}
 use Rattle.rules.specs.Constants.{one}
 use Rattle.rules.specs.Iq.{cosine, cosineSeries}
-use Rattle.iq.specs.Series.{cosine-turn, cosine-end}
+use Rattle.iq.specs.laws.Series.{cosine-turn, cosine-end}
 use borrow.Author.Needs.{needs}
 use Rattle.iq.proofs.cosine.Statement.{statement}
 use Rattle.iq.proofs.cosine.Tie as tie

@@ -1,36 +1,16 @@
 -- `iq::is_valid`: the number is 0. Assumes nothing.
-use mathlib.Core.Path.{sym, ap}
+use mathlib.Core.Path.{ap}
+use Prim.Native.Nat.{ℕ}
 use lib.Dec.{eqb}
-use Rattle.iq.specs.View.{refusalOf}
 use borrow.Author.Needs.{needs}
 use Rattle.iq.proofs.is_valid.Statement.{statement}
 use Rattle.iq.proofs.is_valid.Tie as tie
 
-enum-told : tie.Need-enum-told
-enum-told c = search needs
-
-enum-told-2 : tie.Need-enum-told-2
-enum-told-2 c = search needs
-
-enum-told-3 : tie.Need-enum-told-3
-enum-told-3 c = search needs
-
-enum-told-4 : tie.Need-enum-told-4
-enum-told-4 c = search needs
+number-requires : tie.Need-number-requires
+number-requires c κs = search needs
 
 returns : tie.Need-returns
-returns c = sym (ap (λ v. eqb (refusalOf v) 0) (c .enum-told .given .1))
-
-returns-2 : tie.Need-returns-2
-returns-2 c = sym (ap (λ v. eqb (refusalOf v) 0) (c .enum-told2 .given .1))
-
-returns-3 : tie.Need-returns-3
-returns-3 c = sym (ap (λ v. eqb (refusalOf v) 0) (c .enum-told3 .given .1))
-
-returns-4 : tie.Need-returns-4
-returns-4 c = sym (ap (λ v. eqb (refusalOf v) 0) (c .enum-told4 .given .1))
+returns c = ap (λ (n : ℕ). eqb n 0) (c .number .ensures)
 
 pub is-valid-spec : {M : Type 1} → statement M
-is-valid-spec =
-    tie.close
-    (tie.spec enum-told enum-told-2 enum-told-3 enum-told-4 returns returns-2 returns-3 returns-4)
+is-valid-spec = tie.close (tie.spec number-requires returns)

@@ -1,7 +1,8 @@
 -- `iq::settle` is `settled`. Assumes nothing.
 use mathlib.Core.Path.{sym, ap, _∙_}
 use Rattle.rules.specs.Iq.{settled}
-use Rattle.iq.specs.View.{modeOf, calibratedOf}
+use Rattle.iq.specs.View.{calibratedOf}
+use Rattle.stage_mode.specs.View.{modeOf}
 use borrow.Author.Needs.{needs}
 use Rattle.iq.proofs.settle.Statement.{statement}
 use Rattle.iq.proofs.settle.Tie as tie

@@ -7,7 +7,7 @@ use lib.Dec.{lit<}
 use lib.Ieee.{Float, binary64, sub, mul, div}
 use Rattle.rules.specs.Constants.{one}
 use Rattle.rules.specs.Iq.{sine, sineSeries}
-use Rattle.iq.specs.Series.{sine-turn, sine-end}
+use Rattle.iq.specs.laws.Series.{sine-turn, sine-end}
 use borrow.Author.Needs.{needs}
 use Rattle.iq.proofs.sine.Statement.{statement}
 use Rattle.iq.proofs.sine.Tie as tie

@@ -3,7 +3,7 @@ use native.Mathlib.Omega.{arith}
 use borrow.Author.Needs.{needs}
 use denote.Ref.{now}
 use Rattle.rules.specs.Log.{lengthened}
-use Rattle.rules.specs.MarkLaws.{Newest, joins-so}
+use Rattle.rules.specs.laws.MarkLaws.{Newest, joins-so}
 use Rattle.log.specs.View.{ringIn}
 use Rattle.log.proofs.lengthen.Statement.{statement}
 use Rattle.log.proofs.lengthen.Tie as tie

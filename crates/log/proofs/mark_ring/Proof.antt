@@ -8,7 +8,7 @@ use borrow.Author.Tests.{eq-eqb}
 use denote.Ref.{now}
 use Rattle.rules.specs.Log as rules
 use Rattle.rules.specs.Log.{Span, spanOf, spanWords, mark, joins, lengthened, append}
-use Rattle.rules.specs.MarkLaws.{mark-some}
+use Rattle.rules.specs.laws.MarkLaws.{mark-some}
 use Rattle.log.specs.View.{ringIn, marksIn}
 use Rattle.log.proofs.mark_ring.Statement.{statement}
 use Rattle.log.proofs.mark_ring.Tie as tie

@@ -1,6 +1,6 @@
 -- `log::ring_number` meets its contract. Assumes nothing.
 use native.Mathlib.Omega.{arith}
-use Rattle.log.specs.RingNumbers.{stage-few, mark-few}
+use Rattle.log.specs.laws.RingNumbers.{stage-few, mark-few}
 use borrow.Author.Needs.{needs}
 use Rattle.log.proofs.ring_number.Statement.{statement}
 use Rattle.log.proofs.ring_number.Tie as tie

@@ -6,10 +6,9 @@ use native.Mathlib.Omega.{arith}
 use borrow.Author.Needs.{needs}
 use denote.Ref.{now}
 use lib.ListN.{length}
-use Rattle.rules.specs.Log.{spanOf}
-use Rattle.rules.specs.ListLaws.{getD-upTo}
-use Rattle.rules.specs.RingLaws.{place-fits}
-use Rattle.rules.specs.RingReading.{spansOf, spanIn}
+use Rattle.rules.specs.Log.{spanOf, spansOf, spanIn}
+use Rattle.rules.specs.laws.ListLaws.{getD-upTo}
+use Rattle.rules.specs.laws.RingLaws.{place-fits}
 use Rattle.log.proofs.span_at.Statement.{statement}
 use Rattle.log.proofs.span_at.Tie as tie
 

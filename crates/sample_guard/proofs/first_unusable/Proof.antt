@@ -8,7 +8,7 @@ use denote.Ref.{now}
 use lib.ListN.{length, drop}
 use Rattle.rules.specs.Guard.{firstUnusableFrom}
 use Rattle.sample_guard.specs.Found.{found}
-use Rattle.sample_guard.specs.GuardLaws.{none-found, scan-next, scan-stop, scan-end}
+use Rattle.sample_guard.specs.laws.GuardLaws.{none-found, scan-next, scan-stop, scan-end}
 use Rattle.sample_guard.proofs.first_unusable.Statement.{statement}
 use Rattle.sample_guard.proofs.first_unusable.Tie as tie
 

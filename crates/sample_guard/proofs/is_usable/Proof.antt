@@ -4,8 +4,8 @@ use mathlib.Core.Bool.{Bool, true, false, _&&_}
 use Prim.Native.Nat.{_%_, _^_}
 use native.Mathlib.Omega.{arith}
 use borrow.Author.Tests.{le-leb, lt-leb}
-use Rattle.part_limit.specs.Limit.{under}
-use Rattle.sample_guard.specs.GuardLaws.{usable-pattern}
+use Rattle.amplitude_limit.specs.Limit.{under}
+use Rattle.sample_guard.specs.laws.GuardLaws.{usable-pattern}
 use Rattle.sample_guard.proofs.is_usable.Statement.{statement}
 use Rattle.sample_guard.proofs.is_usable.Tie as tie
 

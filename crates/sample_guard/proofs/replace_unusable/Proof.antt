@@ -4,7 +4,7 @@ use native.Mathlib.Omega.{arith}
 use borrow.Author.Needs.{needs}
 use denote.Ref.{now}
 use lib.ListN.{length}
-use Rattle.sample_guard.specs.GuardLaws.{Guarding, guarding-start, guarding-next, guarding-end}
+use Rattle.sample_guard.specs.laws.GuardLaws.{Guarding, guarding-start, guarding-next, guarding-end}
 use Rattle.sample_guard.proofs.replace_unusable.Statement.{statement}
 use Rattle.sample_guard.proofs.replace_unusable.Tie as tie
 

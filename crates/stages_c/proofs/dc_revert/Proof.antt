@@ -1,6 +1,6 @@
 -- `stages_c::dc_revert` is `dc::revert_dc`. Assumes nothing.
 use mathlib.Core.Path.{sym, ap, _∙_}
-use Rattle.part_limit.specs.Limit.{returned}
+use Rattle.amplitude_limit.specs.Limit.{returned}
 use Rattle.dc.specs.Undo.{said}
 use borrow.Author.Needs.{needs}
 use Rattle.stages_c.specs.State.{placeIn}

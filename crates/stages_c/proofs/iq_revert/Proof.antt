@@ -1,7 +1,7 @@
--- `stages_c::iq_revert` is `correction::revert_iq`. Assumes nothing.
+-- `stages_c::iq_revert` is `iq_correction::revert_iq`. Assumes nothing.
 use mathlib.Core.Path.{sym, ap, _∙_}
-use Rattle.part_limit.specs.Limit.{returned}
-use Rattle.correction.specs.Undo.{said}
+use Rattle.amplitude_limit.specs.Limit.{returned}
+use Rattle.iq_correction.specs.Undo.{said}
 use borrow.Author.Needs.{needs}
 use Rattle.stages_c.specs.State.{placeIn}
 use Rattle.stages_c.proofs.iq_revert.Statement.{statement}

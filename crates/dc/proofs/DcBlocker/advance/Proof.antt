@@ -1,5 +1,5 @@
 -- `dc::DcBlocker::advance` is `advanced`. Assumes nothing.
-use Rattle.dc.specs.Steps.{rested-by, moved-by}
+use Rattle.dc.specs.laws.Steps.{rested-by, moved-by}
 use borrow.Author.Needs.{needs}
 use Rattle.dc.proofs.DcBlocker.advance.Statement.{statement}
 use Rattle.dc.proofs.DcBlocker.advance.Tie as tie

@@ -1,5 +1,5 @@
 -- `dc::DcBlocker::moved` is `pushed`. Assumes nothing.
-use Rattle.dc.specs.Steps.{pushed-by}
+use Rattle.dc.specs.laws.Steps.{pushed-by}
 use borrow.Author.Needs.{needs}
 use Rattle.dc.proofs.DcBlocker.moved.Statement.{statement}
 use Rattle.dc.proofs.DcBlocker.moved.Tie as tie

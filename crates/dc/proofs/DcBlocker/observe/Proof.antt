@@ -4,7 +4,7 @@ use Prim.Native.Nat.{_+_, _-_}
 use native.Mathlib.Omega.{arith}
 use lib.ListN.{length}
 use Rattle.dc.specs.declared.DcBlocker.{DcBlocker}
-use Rattle.dc.specs.Runs.{Observing, observing-next, after-end}
+use Rattle.dc.specs.laws.Runs.{Observing, observing-next, after-end}
 use borrow.Author.Needs.{needs}
 use Rattle.dc.proofs.DcBlocker.observe.Statement.{statement}
 use Rattle.dc.proofs.DcBlocker.observe.Tie as tie

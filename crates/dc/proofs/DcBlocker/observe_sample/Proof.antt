@@ -1,5 +1,5 @@
 -- `dc::DcBlocker::observe_sample` is the blocker of `processed`. Assumes nothing.
-use Rattle.dc.specs.Steps.{plainly, observed-by}
+use Rattle.dc.specs.laws.Steps.{plainly, observed-by}
 use borrow.Author.Needs.{needs}
 use Rattle.dc.proofs.DcBlocker.observe_sample.Statement.{statement}
 use Rattle.dc.proofs.DcBlocker.observe_sample.Tie as tie

@@ -4,7 +4,7 @@ use Prim.Native.Nat.{_+_, _-_}
 use native.Mathlib.Omega.{arith}
 use lib.ListN.{length, set}
 use Rattle.dc.specs.declared.Taken.{Taken}
-use Rattle.dc.specs.Runs.{Processing, processing-next, processing-end}
+use Rattle.dc.specs.laws.Runs.{Processing, processing-next, processing-end}
 use borrow.Author.Needs.{needs}
 use Rattle.dc.proofs.DcBlocker.process.Statement.{statement}
 use Rattle.dc.proofs.DcBlocker.process.Tie as tie

@@ -1,5 +1,5 @@
 -- `dc::DcBlocker::process_sample` is `processed`: a sample less the level, and the level moved by that. Assumes nothing.
-use Rattle.dc.specs.Steps.{plainly, processed-by}
+use Rattle.dc.specs.laws.Steps.{plainly, processed-by}
 use borrow.Author.Needs.{needs}
 use Rattle.dc.proofs.DcBlocker.process_sample.Statement.{statement}
 use Rattle.dc.proofs.DcBlocker.process_sample.Tie as tie

@@ -1,5 +1,5 @@
 -- `dc::DcBlocker::restore_sample` is `restored`: a sample and the level, which the sample moves. Assumes nothing.
-use Rattle.dc.specs.Steps.{plainly, restored-by}
+use Rattle.dc.specs.laws.Steps.{plainly, restored-by}
 use borrow.Author.Needs.{needs}
 use Rattle.dc.proofs.DcBlocker.restore_sample.Statement.{statement}
 use Rattle.dc.proofs.DcBlocker.restore_sample.Tie as tie

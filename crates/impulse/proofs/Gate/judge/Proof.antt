@@ -11,7 +11,7 @@ use Rattle.rules.specs.Impulse.{Setting, width}
 use Rattle.impulse.specs.declared.Open.{Open}
 use Rattle.impulse.specs.declared.Gate.{Gate}
 use Rattle.impulse.specs.Room.{runEnd}
-use Rattle.impulse.specs.RoomLaws.{entered-keeps}
+use Rattle.impulse.specs.laws.RoomLaws.{entered-keeps}
 use Rattle.impulse.specs.Machine.{settingOf, entered, grown, ending, Judgement, decided, judge, flaggedBy}
 use Rattle.impulse.specs.View.{judgedOf}
 use Rattle.impulse.proofs.Gate.judge.Statement.{statement}

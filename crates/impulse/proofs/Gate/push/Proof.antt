@@ -9,7 +9,7 @@ use borrow.Author.Needs.{needs}
 use Rattle.rules.specs.Impulse.{powerOf}
 use Rattle.impulse.specs.declared.Gate.{Gate}
 use Rattle.impulse.specs.Room.{runEnd}
-use Rattle.impulse.specs.RoomLaws.{ordered-length}
+use Rattle.impulse.specs.laws.RoomLaws.{ordered-length}
 use Rattle.impulse.specs.Machine.{push}
 use Rattle.impulse.proofs.Gate.push.Statement.{statement}
 use Rattle.impulse.proofs.Gate.push.Tie as tie

@@ -5,7 +5,7 @@ use borrow.Author.Tests.{not-true, not-false}
 use Rattle.complex.specs.View.{view64}
 use Rattle.rules.specs.Iq.{coefficient}
 use Rattle.iq.specs.View.{calibrationOf}
-use Rattle.iq.specs.Settling.{settled-by}
+use Rattle.iq.specs.laws.Settling.{settled-by}
 use borrow.Author.Needs.{needs}
 use Rattle.iq.proofs.IqCalibration.authorized.Statement.{statement}
 use Rattle.iq.proofs.IqCalibration.authorized.Tie as tie

@@ -5,7 +5,7 @@ use Prim.Native.Nat.{ℕ}
 use lib.Dec.{eqb}
 use Rattle.rules.specs.Iq.{gainFits, phaseFits, centreFits, centresAgree, correctable}
 use Rattle.iq.specs.View.{calibrationOf}
-use Rattle.iq.specs.Tests.{fits-by, validation-by}
+use Rattle.iq.specs.laws.Tests.{fits-by, validation-by}
 use borrow.Author.Needs.{needs}
 use Rattle.iq.proofs.IqCalibration.correctable.Statement.{statement}
 use Rattle.iq.proofs.IqCalibration.correctable.Tie as tie

@@ -5,7 +5,7 @@ use lib.Ieee.{neg, ofBits}
 use borrow.Author.Tests.{not-true, not-false}
 use Rattle.rules.specs.Refusals.{validation}
 use Rattle.iq.specs.View.{calibrationOf}
-use Rattle.iq.specs.Tests.{validation-by}
+use Rattle.iq.specs.laws.Tests.{validation-by}
 use borrow.Author.Needs.{needs}
 use Rattle.iq.proofs.IqCalibration.validate.Statement.{statement}
 use Rattle.iq.proofs.IqCalibration.validate.Tie as tie

@@ -10,8 +10,8 @@ use borrow.Author.Tests.{not-true, not-false}
 use denote.Ref.{now}
 use Rattle.log.specs.View.{Logged, marksAt}
 use Rattle.log.specs.Check.{allTo, endFits, endsFit}
-use Rattle.log.specs.LogLaws.{part-inside}
-use Rattle.log.specs.CheckLaws.{all-next, all-not, log-sound}
+use Rattle.log.specs.laws.LogLaws.{part-inside}
+use Rattle.log.specs.laws.CheckLaws.{all-next, all-not, log-sound}
 use Rattle.log.proofs.Log.ends_fit.Statement.{statement}
 use Rattle.log.proofs.Log.ends_fit.Tie as tie
 

@@ -8,7 +8,7 @@ use borrow.Author.Needs.{needs}
 use borrow.Author.Tests.{not-true, not-false}
 use Rattle.log.specs.declared.Log.{Log}
 use Rattle.log.specs.Check.{allTo, ringFits, ringOf, countOf, logFits}
-use Rattle.log.specs.CheckLaws.{all-next, all-not}
+use Rattle.log.specs.laws.CheckLaws.{all-next, all-not}
 use Rattle.log.proofs.Log.fits.Statement.{statement}
 use Rattle.log.proofs.Log.fits.Tie as tie
 

@@ -1,6 +1,6 @@
 -- `log::Log::mark` meets its contract. Assumes nothing.
 use borrow.Author.Needs.{needs}
-use Rattle.log.specs.RingNumbers.{ring-few}
+use Rattle.log.specs.laws.RingNumbers.{ring-few}
 use Rattle.log.proofs.Log.mark.Statement.{statement}
 use Rattle.log.proofs.Log.mark.Tie as tie
 

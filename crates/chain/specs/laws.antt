@@ -1,0 +1,4 @@
+pub mod SliceLaws
+pub mod Processing
+pub mod CallTests
+pub mod Places

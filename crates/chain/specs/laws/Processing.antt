@@ -1,0 +1,158 @@
+-- The stages one after another make `process` and `handsOn`. Assumes nothing.
+use mathlib.Core.Path.{_≡_, refl, sym, ap, _∙_, subst}
+use mathlib.Core.Bool.{Bool, true, false, cond}
+use mathlib.Core.List.{List, _++_, map}
+use Prim.Native.Nat.{ℕ, _+_, _-_, _^_, _≤_}
+use native.Mathlib.Omega.{arith}
+use lib.ListN.{length, take, drop, length-append, length-drop}
+use lib.Seq.{take-at, drop-at}
+use Rattle.rules.specs.Impulse.{Event}
+use Rattle.rules.specs.laws.ListLaws.{length-map}
+use Rattle.rules.specs.Iq.{correctedBy}
+use Rattle.rules.specs.Log.{Span, spanOf}
+use Rattle.log.specs.declared.Log.{Log}
+use Rattle.log.specs.View.{Logged, bare}
+use Rattle.log.specs.Ready.{Bounded}
+use Rattle.impulse.specs.declared.ImpulseSuppressor.{ImpulseSuppressor}
+use Rattle.impulse_slice.specs.declared.Ran.{Ran}
+use Rattle.impulse_slice.specs.Noted.{Noted, notedOf, noteAll, handed, over, Roomy}
+use Rattle.impulse_slice.specs.laws.NotesLaws.{note-none, bounded-up, roomy-up}
+use Rattle.impulse_slice.specs.laws.StageLaws.{handed-most, roomy-run}
+use Rattle.dc.specs.declared.DcBlocker.{DcBlocker}
+use Rattle.iq.specs.View.{settledOf}
+use Rattle.stage_mode.specs.View.{modeOf}
+use Rattle.chain_state.specs.declared.InputConditioner.{InputConditioner}
+use Rattle.chain.specs.Stages.{settingIn, newPart, machineOf, notesIn, impulseAfter, impulseOut, impulseTold, blockerAfterBy, blockedBy, notedDc, notedIq, handsOn, notesAfter, loggedAfter, process, Acceptable}
+use Rattle.chain.specs.laws.SliceLaws.{call-roomy, call-room, new-length, new-few, off-told, on-told, blocked-by-length}
+
+-- ---- how many samples are handed on
+
+-- the impulse stage hands on no more than it gets
+pub out-most : (c : InputConditioner) (new : List ℕ) → length (impulseOut c new) ≤ length new
+unfolding impulseOut
+out-most c new = go (c .settings .impulse)
+  where
+    go : (b : Bool) → length (cond b (handed (settingIn c) (c .suppressor) new) new) ≤ length new
+    go true = handed-most (settingIn c) (c .suppressor) new
+    go false = omega arith
+
+-- and the other stages hand on as many as they get
+pub hands-length : (c : InputConditioner) (new : List ℕ) → length (handsOn c new) ≡ length (impulseOut c new)
+unfolding handsOn
+hands-length c new = simp (length-map, blocked-by-length)
+
+module _ (c : InputConditioner) (samples spans repairs : List ℕ) (a : Acceptable c samples spans repairs) where
+  pub ready-few : (ready : ℕ) → ready ≡ length (impulseOut c (newPart c samples)) → ready ≤ 2 ^ 48
+  ready-few ready e = omega (arith, out-most c (newPart c samples), new-few c samples spans repairs a)
+
+  pub ready-inside : (ready : ℕ) → ready ≡ length (impulseOut c (newPart c samples)) → ready ≤ length samples
+  ready-inside ready e = omega (arith, out-most c (newPart c samples), new-length c samples spans repairs a)
+
+  -- the notes of the impulse stage
+  abbrev notesFrom : List Event → Noted
+  notesFrom es = noteAll (c .settings .spans) (c .settings .repairs) (notesIn (machineOf c spans repairs)) es
+
+  -- they leave room for the marks of the other stages
+  notes-roomy : Roomy (c .settings .spans) (c .settings .repairs) (2 ^ 53) (notesFrom (impulseTold c (newPart c samples)))
+  notes-roomy = go (c .settings .impulse) refl
+    where
+      go : (b : Bool) → c .settings .impulse ≡ b → Roomy (c .settings .spans) (c .settings .repairs) (2 ^ 53) (notesFrom (impulseTold c (newPart c samples)))
+      go true on =
+          subst (λ (es : List Event). Roomy (c .settings .spans) (c .settings .repairs) (2 ^ 53) (notesFrom es)) (on-told c samples spans repairs a on)
+          (roomy-run (c .settings .spans) (c .settings .repairs) (notesIn (machineOf c spans repairs)) (settingIn c) (c .suppressor) (c .held) samples
+          (call-room c samples spans repairs a on) (call-roomy c samples spans repairs a))
+      go false off =
+          subst (λ (es : List Event). Roomy (c .settings .spans) (c .settings .repairs) (2 ^ 53) (notesFrom es)) (off-told c samples spans repairs a off)
+          (subst (Roomy (c .settings .spans) (c .settings .repairs) (2 ^ 53)) (sym (note-none (c .settings .spans) (c .settings .repairs) (notesIn (machineOf c spans repairs))))
+          (roomy-up (c .settings .spans) (c .settings .repairs) (2 ^ 52) (2 ^ 53) (notesIn (machineOf c spans repairs)) (omega arith) (call-roomy c samples spans repairs a)))
+
+  -- ---- the impulse stage has run
+
+  module _ (ran : Ran) (samples₁ spans₁ repairs₁ : List ℕ)
+      (noted : notedOf (ran .notes) spans₁ repairs₁ ≡ notesFrom (impulseTold c (newPart c samples)))
+      (count : ran .ready ≡ length (impulseOut c (newPart c samples)))
+      (written : samples₁ ≡ over (impulseOut c (newPart c samples)) samples) where
+    pub ran-bounded : Bounded (c .settings .spans) (2 ^ 54) (record { log = ran .notes .log; spans = spans₁ })
+    ran-bounded =
+        bounded-up (c .settings .spans) (2 ^ 53) (2 ^ 54) (record { log = ran .notes .log; spans = spans₁ }) (omega arith)
+        (subst (λ (x : Noted). Bounded (c .settings .spans) (2 ^ 53) (x .logged)) (sym noted) (notes-roomy .spans))
+
+    -- what it wrote in front, and the rest
+    front : take (ran .ready) samples₁ ≡ impulseOut c (newPart c samples)
+    front =
+        ap (take (ran .ready)) written
+        ∙ take-at (impulseOut c (newPart c samples)) (drop (length (impulseOut c (newPart c samples))) samples) (ran .ready) (sym count)
+
+    rest : drop (ran .ready) samples₁ ≡ drop (length (impulseOut c (newPart c samples))) samples
+    rest =
+        ap (drop (ran .ready)) written
+        ∙ drop-at (impulseOut c (newPart c samples)) (drop (length (impulseOut c (newPart c samples))) samples) (ran .ready) (sym count)
+
+    -- the slice is as long as it was
+    pub ran-length : length samples₁ ≡ length samples
+    ran-length =
+        let out = impulseOut c (newPart c samples) in
+        ap length written ∙ length-append out (drop (length out) samples)
+        ∙ (let d = length-drop (length out) samples in let i = ready-inside (length out) refl in let q : length out + length (drop (length out) samples) ≡ length samples = omega arith in q)
+
+    -- ---- and the others
+
+    pub ready-count : ran .ready ≡ length (handsOn c (newPart c samples))
+    ready-count = count ∙ sym (hands-length c (newPart c samples))
+
+    pub processed-written : (samples₂ : List ℕ) → samples₂ ≡ map (correctedBy (settledOf (c .settings .iq))) (blockedBy (modeOf (c .settings .dc)) (c .blocker) (take (ran .ready) samples₁)) ++ drop (ran .ready) samples₁
+        → samples₂ ≡ over (handsOn c (newPart c samples)) samples
+    unfolding handsOn
+    processed-written samples₂ e =
+        e
+        ∙ (λ i. map (correctedBy (settledOf (c .settings .iq))) (blockedBy (modeOf (c .settings .dc)) (c .blocker) (front i)) ++ rest i)
+        ∙ ap (λ (n : ℕ). handsOn c (newPart c samples) ++ drop n samples) (sym (hands-length c (newPart c samples)))
+
+    pub processed-chain : (suppressor : ImpulseSuppressor) → suppressor ≡ impulseAfter c (newPart c samples)
+        → (blocker : DcBlocker) → blocker ≡ blockerAfterBy (modeOf (c .settings .dc)) (c .blocker) (take (ran .ready) samples₁)
+        → (log : Log) (spans₂ : List ℕ)
+        → _≡_ {A = Logged} (record { log = log; spans = spans₂ })
+        (notedIq (c .settings .spans) (settledOf (c .settings .iq))
+        (notedDc (c .settings .spans) (modeOf (c .settings .dc)) (record { log = ran .notes .log; spans = spans₁ }) (spanOf (c .released) (ran .ready)))
+        (spanOf (c .released) (ran .ready)))
+        → machineOf
+        (record {
+          settings = c .settings;
+          seen = c .seen + (length samples - c .held);
+          released = c .released + ran .ready;
+          held = length samples - ran .ready;
+          suppressor = suppressor;
+          blocker = blocker;
+          monitor = c .monitor;
+          log = log;
+          repairs = ran .notes .repairs;
+          longruns = ran .notes .longruns;
+        })
+        spans₂
+        repairs₁
+        ≡ process (machineOf c spans repairs) (newPart c samples)
+    unfolding process notesAfter loggedAfter
+    processed-chain suppressor after blocker level log spans₂ logged =
+        let cap = c .settings .spans in
+        let marks : Logged → Span → Logged = λ x m. notedIq cap (settledOf (c .settings .iq)) (notedDc cap (modeOf (c .settings .dc)) x m) m in
+        let n = new-length c samples spans repairs a in
+        let h = a .held-in in
+        let kept : length samples - ran .ready ≡ c .held + length (newPart c samples) - length (impulseOut c (newPart c samples)) = omega (arith, count) in
+        let b = level ∙ ap (blockerAfterBy (modeOf (c .settings .dc)) (c .blocker)) front in
+        let l = logged ∙ (λ i. marks (noted i .logged) (spanOf (c .released) (count i))) in
+        λ i.
+        machineOf
+        (record {
+          settings = c .settings;
+          seen = c .seen + sym n i;
+          released = c .released + count i;
+          held = kept i;
+          suppressor = after i;
+          blocker = b i;
+          monitor = c .monitor;
+          log = l i .log;
+          repairs = bare (noted i .repairs);
+          longruns = noted i .longruns;
+        })
+        (l i .spans)
+        (noted i .repairs .words)

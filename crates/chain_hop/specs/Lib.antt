@@ -1,0 +1,5 @@
+-- definitions
+pub mod Hops
+pub mod HopReady
+-- what is proved of them
+pub mod laws

@@ -1,0 +1,168 @@
+-- Document 01's number 5, as far as it speaks of a state: its causes in groups, each as a test that a fit state passes. Definitions only.
+use mathlib.Core.Bool.{Bool, true, cond, _&&_}
+use mathlib.Core.List.{List}
+use Prim.Native.Nat.{ℕ, _+_, min}
+use lib.Dec.{ltb, leb, eqb}
+use lib.ListN.{getD, take}
+use lib.Ieee.{Float, binary64, le, lt, toBits}
+use Rattle.ieee.specs.Plain.{signClear}
+use Rattle.rules.specs.Constants.{zeroF, powerLimit, counterLimit}
+use Rattle.rules.specs.Sort.{sort}
+use Rattle.rules.specs.Guard.{magnitude}
+use Rattle.rules.specs.Refusals.{withinLimit}
+use Rattle.rules.specs.Iq.{Settled, Off, Observing, Withheld, Correcting, accepted}
+use Rattle.rules.specs.Impulse.{Setting, standard, width, lookahead, judged, blockLength}
+use Rattle.amplitude_limit.specs.Limit.{limited}
+use Rattle.log.specs.Check.{allTo, ringFits, logFits}
+use Rattle.impulse.specs.declared.Run.{Run}
+use Rattle.impulse.specs.declared.Open.{Open}
+use Rattle.impulse.specs.declared.Open.the-variants.{Running, Closed}
+use Rattle.impulse.specs.declared.Left.{Left}
+use Rattle.impulse.specs.declared.Left.the-variants.{Neighbour, Missing}
+use Rattle.impulse.specs.declared.Gate.{Gate}
+use Rattle.impulse.specs.declared.ImpulseSuppressor.{ImpulseSuppressor}
+use Rattle.dc.specs.declared.DcBlocker.{DcBlocker}
+use Rattle.iq.specs.View.{settledOf}
+use Rattle.iq_monitor.specs.declared.Begun.{Begun}
+use Rattle.iq_monitor.specs.declared.Begun.the-variants.{Never, At}
+use Rattle.iq_monitor.specs.declared.ImageMonitor.{ImageMonitor}
+use Rattle.chain_config.specs.Config.{settingRefusal}
+use Rattle.chain_state.specs.declared.Settings.{Settings}
+use Rattle.chain_state.specs.declared.InputConditioner.{InputConditioner}
+
+-- not: 'a counter > 2^52'
+abbrev pub counter : ℕ → Bool
+counter k = leb k counterLimit
+
+-- ---- the settings
+
+-- not: 'a setting that making refuses; block length not that of fs'
+unfoldable pub settingsFit : Settings → ℕ → Bool
+settingsFit s block = eqb (settingRefusal (s .fs) (s .n) (s .spans) (s .repairs)) 0 && eqb block (blockLength (s .fs))
+
+-- ---- the impulse stage's fixed numbers, whatever its block length and mode
+
+abbrev fixed : Setting
+fixed = standard 0 true
+
+-- 'window 33'
+abbrev pub windowSize : ℕ
+windowSize = width fixed
+
+-- 'lookahead 21'
+abbrev pub lookaheadSize : ℕ
+lookaheadSize = lookahead fixed
+
+-- 'the next judged', of so many received
+abbrev pub nextJudged : ℕ → ℕ
+nextJudged received = judged fixed received
+
+-- ---- the samples seen, released and held
+
+abbrev pub applies : InputConditioner → Bool
+applies c = c .settings .impulse && c .suppressor .gate .apply
+
+-- 'min(21, received) if impulse applies, else .. 0'
+abbrev pub heldBy : Bool → ℕ → ℕ
+heldBy applies seen = cond applies (min lookaheadSize seen) 0
+
+-- not: 'released + held ≠ received; held not min(21, received) if impulse applies, else not 0'
+unfoldable pub countsFit : Bool → ℕ → ℕ → ℕ → Bool
+countsFit applies seen released held = counter seen && counter released && eqb held (heldBy applies seen) && eqb (released + held) seen
+
+-- ---- the impulse stage
+
+-- not: 'open run empty or not ending at the next judged', j
+abbrev pub endsAt : Run → ℕ → Bool
+endsAt r j = ltb 0 (r .len) && eqb (r .start + r .len) j
+
+abbrev pub runFits : Open → ℕ → Bool
+runFits Closed j = true
+runFits (Running r) j = endsAt r j
+
+-- not: 'a .. left part not within 1e18'
+abbrev pub leftFits : Left → Bool
+leftFits Missing = true
+leftFits (Neighbour x) = withinLimit x
+
+unfoldable pub gateFits : Gate → Bool
+gateFits g =
+    counter (g .received) && counter (g .block) && counter (g .flagged)
+    && runFits (g .run) (nextJudged (g .received))
+    && leftFits (g .left)
+
+-- not: 'a window power not within 1e36; a window .. power with its sign bit set'
+unfoldable pub powerFits : Float → Bool
+powerFits p = signClear p && le (magnitude p) powerLimit
+
+-- 'pending .. min(21, received), window .. min(33, received)': both hold the newest of so many as the stage has received, none where it never ran.
+-- The arrays are circular by sample number, so these stand in their first places. No other place is tested.
+abbrev pub windowHeld : ℕ → ℕ
+windowHeld received = min windowSize received
+
+abbrev pub pendingHeld : ℕ → ℕ
+pendingHeld received = min lookaheadSize received
+
+-- the first n powers of a window
+abbrev pub powersFit : ℕ → List Float → Bool
+powersFit n window = allTo (λ k. powerFits (getD window k zeroF)) n
+
+-- the first n pending samples; not: 'a .. pending .. part not within 1e18'
+abbrev pub samplesFit : ℕ → List ℕ → Bool
+samplesFit n pending = allTo (λ k. withinLimit (getD pending k 0)) n
+
+unfoldable pub arraysFit : ℕ → List Float → List ℕ → Bool
+arraysFit received window pending = powersFit (windowHeld received) window && samplesFit (pendingHeld received) pending
+
+-- not: 'its sorted list not that window sorted', of n powers, bit by bit
+unfoldable pub sortedFits : ℕ → List Float → List Float → Bool
+sortedFits n window sorted = allTo (λ k. eqb (toBits binary64 (getD sorted k zeroF)) (toBits binary64 (getD (sort lt (take n window)) k zeroF))) n
+
+-- not: 'when impulse runs, pending ≠ min(21, received), window ≠ min(33, received) or its sorted list not that window sorted'. The stage's own count
+-- says what the arrays hold, so it has to be that of the samples seen.
+unfoldable pub runningFits : ImpulseSuppressor → ℕ → Bool
+runningFits m seen = eqb (m .gate .received) seen && sortedFits (windowHeld (m .gate .received)) (m .window) (m .sorted)
+
+-- the arrays in every mode, and the rest where the stage runs
+unfoldable pub suppressorFits : ImpulseSuppressor → Bool → ℕ → Bool
+suppressorFits m running seen = arraysFit (m .gate .received) (m .window) (m .pending) && cond running (runningFits m seen) true
+
+-- ---- the other stages
+
+-- not: 'a level .. part not within 1e18'
+unfoldable pub blockerFits : DcBlocker → Bool
+blockerFits b = counter (b .n) && limited (b .dc .re) && limited (b .dc .im)
+
+-- not: 'a coefficient unfit'
+abbrev pub coefficientFits : Settled → Bool
+coefficientFits Off = true
+coefficientFits Observing = true
+coefficientFits Withheld = true
+coefficientFits (Correcting r) = accepted r
+
+-- not: 'a mirror window's first after its end'
+abbrev pub begunFits : Begun → ℕ → Bool
+begunFits Never end = true
+begunFits (At first) end = leb first end
+
+unfoldable pub monitorFits : ImageMonitor → Bool
+monitorFits m = counter (m .end) && begunFits (m .first) (m .end)
+
+-- ---- the state
+
+-- not: 'ring count or head out of range', of spans and of repairs
+unfoldable pub logsFit : InputConditioner → Bool
+logsFit c = logFits (c .settings .spans) (c .log) && ringFits (c .settings .repairs) (c .repairs) (c .longruns)
+
+unfoldable pub stagesFit : InputConditioner → Bool
+stagesFit c = blockerFits (c .blocker) && coefficientFits (settledOf (c .settings .iq)) && monitorFits (c .monitor)
+
+-- the settings, the counts and the gate
+unfoldable pub frontFits : InputConditioner → Bool
+frontFits c =
+    settingsFit (c .settings) (c .suppressor .gate .blocklen)
+    && countsFit (applies c) (c .seen) (c .released) (c .held)
+    && gateFits (c .suppressor .gate)
+
+unfoldable pub stateFits : InputConditioner → Bool
+stateFits c = frontFits c && suppressorFits (c .suppressor) (c .settings .impulse) (c .seen) && logsFit c && stagesFit c

@@ -1,4 +1,0 @@
--- definitions
-pub mod Config
--- laws
-pub mod ConfigLaws

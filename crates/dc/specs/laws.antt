@@ -1,0 +1,7 @@
+pub mod Clamp
+pub mod Steps
+pub mod Runs
+pub mod UndoLaws
+pub mod Cutting
+pub mod NormBounds
+pub mod LevelBounds

@@ -1,4 +1,0 @@
--- definitions
-pub mod Feeding
--- laws
-pub mod FeedingLaws

@@ -1,0 +1,14 @@
+pub mod Numbers
+pub mod Nan
+pub mod RoundedBits
+pub mod Fields
+pub mod NormalLaws
+pub mod NarrowLaws
+pub mod SingleLaws
+pub mod Bounds
+pub mod RoundingError
+pub mod RootValue
+pub mod RootNearest
+pub mod LowerBounds
+pub mod Order
+pub mod Cases

@@ -1,0 +1,12 @@
+pub mod RoomLaws
+pub mod CircleLaws
+pub mod RunLaws
+pub mod Step
+pub mod RunningLaws
+pub mod Theorem
+pub mod ViewLaws
+pub mod PartBounds
+pub mod StateBounds
+pub mod Stage
+pub mod Once
+pub mod Repairs

@@ -1,7 +1,0 @@
--- definitions
-pub mod Noted
--- laws
-pub mod NotesLaws
-pub mod MoveLaws
-pub mod StageLaws
-pub mod NotedRings

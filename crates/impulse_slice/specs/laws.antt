@@ -1,0 +1,4 @@
+pub mod NotesLaws
+pub mod MoveLaws
+pub mod StageLaws
+pub mod NotedRings

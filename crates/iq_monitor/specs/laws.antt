@@ -1,0 +1,4 @@
+pub mod WordsLaws
+pub mod ObserveLaws
+pub mod Evidence
+pub mod WordBounds

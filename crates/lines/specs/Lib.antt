@@ -1,4 +1,0 @@
--- definitions
-pub mod Lines
--- laws
-pub mod LineLaws

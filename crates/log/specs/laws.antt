@@ -1,0 +1,3 @@
+pub mod RingNumbers
+pub mod LogLaws
+pub mod CheckLaws

@@ -1,4 +1,0 @@
--- definitions
-pub mod Making
--- laws
-pub mod MakingLaws

@@ -1,5 +1,0 @@
--- definitions
-pub mod Limit
--- laws
-pub mod Slices
-pub mod LimitLaws

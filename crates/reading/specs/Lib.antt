@@ -1,4 +1,0 @@
--- definitions
-pub mod Reading
--- laws
-pub mod ReadingLaws

@@ -1,0 +1,97 @@
+-- Document 01, 'The replay program reads standard input': a recording's header and its samples. Bytes are numbers. Definitions only.
+use mathlib.Core.Bool.{Bool, not, _&&_}
+use mathlib.Core.List.{List, [], _∷_}
+use Prim.Native.Nat.{ℕ, zero, suc, _+_, _*_, _/_}
+use lib.Dec.{leb, eqb}
+use lib.ListN.{length, take, drop}
+use lib.Ieee.{Float, binary64, ofBits}
+use Rattle.rules.specs.Lists.{at, upTo}
+use Rattle.rules.specs.Iq.{Calibration, Calibrated, none, with}
+use Rattle.rules.specs.Mode.{Mode, off, observe, apply}
+use Rattle.rules.specs.Chain.{Config}
+use Rattle.rules.specs.Refusals.{Cause, firstOf}
+
+-- 'little-endian'
+unfoldable pub littleEndian : List ℕ → ℕ
+littleEndian [] = 0
+littleEndian (b ∷ bs) = b + 256 * littleEndian bs
+
+-- the word of eight bytes from a place on
+unfoldable pub wordAt : List ℕ → ℕ → ℕ
+wordAt bytes k = littleEndian (take 8 (drop k bytes))
+
+-- 'samples from byte 49'
+abbrev pub headerSize : ℕ
+headerSize = 49
+
+-- ---- the header: 'mark CND, u16 version 1, mode bytes impulse, DC, IQ (0 off, 1 observe, 2 apply), calibration present (0 or 1), then f64 fs, centre, gain, phase, calibrated centre'
+
+-- 'mark CND, u16 version 1'
+abbrev pub markFits : List ℕ → Bool
+markFits input = eqb (at input 0) 67 && eqb (at input 1) 78 && eqb (at input 2) 68 && eqb (at input 3) 1 && eqb (at input 4) 0
+
+-- 'mode bytes impulse, DC, IQ (0 off, 1 observe, 2 apply), calibration present (0 or 1)'
+abbrev pub modesFit : List ℕ → Bool
+modesFit input = leb (at input 5) 2 && leb (at input 6) 2 && leb (at input 7) 2 && leb (at input 8) 1
+
+-- not: 'replay header under 49 bytes, or mark, version, mode or present byte not as above'
+abbrev pub headerFits : List ℕ → Bool
+headerFits input = leb headerSize (length input) && markFits input && modesFit input
+
+abbrev pub badHeader : List ℕ → Cause
+badHeader input = record { holds = not (headerFits input); number = 14 }
+
+abbrev pub modeBy : ℕ → Mode
+modeBy zero = off
+modeBy (suc zero) = observe
+modeBy (suc (suc k)) = apply
+
+-- f64 number k
+abbrev pub realAt : List ℕ → ℕ → Float
+realAt input k = ofBits binary64 (wordAt input (9 + 8 * k))
+
+abbrev pub calibrationBy : ℕ → Calibration → Calibrated
+calibrationBy zero c = none
+calibrationBy (suc k) c = with c
+
+abbrev pub calibrationIn : List ℕ → Calibrated
+calibrationIn input = calibrationBy (at input 8) (record { gain = realAt input 2; phase = realAt input 3; centre = realAt input 4 })
+
+-- 'uses n = 8, 1,024 repairs, 256 spans'
+unfoldable pub configIn : List ℕ → Config
+configIn input =
+    record {
+      impulseMode = modeBy (at input 5);
+      dcMode = modeBy (at input 6);
+      iqMode = modeBy (at input 7);
+      fs = realAt input 0;
+      centre = realAt input 1;
+      n = 8;
+      calibration = calibrationIn input;
+      spans = 256;
+      repairs = 1024;
+    }
+
+-- ---- 'then pairs of f32': each pair is a sample's word. 'A tail under 8 bytes is ignored.'
+
+unfoldable pub wordsIn : List ℕ → List ℕ
+wordsIn bytes = upTo (λ k. wordAt bytes (8 * k)) (length bytes / 8)
+
+abbrev pub samplesIn : List ℕ → List ℕ
+samplesIn input = wordsIn (drop headerSize input)
+
+-- 'no whole sample', of the bytes behind the header
+abbrev pub noSample : List ℕ → Cause
+noSample bytes = record { holds = eqb (length (wordsIn bytes)) 0; number = 15 }
+
+-- 'Replay: 14, 15, then making', by the header and the bytes behind it
+unfoldable pub startRefusal : List ℕ → List ℕ → ℕ
+startRefusal head bytes = firstOf (badHeader head ∷ noSample bytes ∷ [])
+
+abbrev pub inputRefusal : List ℕ → ℕ
+inputRefusal input = startRefusal input (drop headerSize input)
+
+-- what is refused by a number, and what is not
+abbrev pub unlessRefused : {A : Type 0} → ℕ → A → (ℕ → A) → A
+unlessRefused zero a f = a
+unlessRefused (suc k) a f = f (suc k)

@@ -1,0 +1,88 @@
+-- A header's bytes by the answers of their tests; a configuration stands in the code's types as in the rules'. Assumes nothing.
+use mathlib.Core.Path.{_≡_, refl, ap, sym, _∙_}
+use mathlib.Core.Bool.{Bool, true, false, cond, _&&_}
+use mathlib.Core.List.{List}
+use Prim.Native.Nat.{ℕ, zero, suc}
+use lib.Dec.{leb}
+use lib.ListN.{length}
+use Rattle.rules.specs.Iq as rules
+use Rattle.rules.specs.Iq.{with}
+use Rattle.rules.specs.Mode.{apply}
+use Rattle.rules.specs.Chain.{Config}
+use Rattle.stage_mode.specs.declared.StageMode.{StageMode}
+use Rattle.stage_mode.specs.declared.StageMode.the-variants as mode
+use Rattle.iq.specs.declared.Calibration.{Calibration}
+use Rattle.iq.specs.declared.Calibration.the-variants.{Absent, Present}
+use Rattle.iq.specs.View.{calibratedOf}
+use Rattle.stage_mode.specs.View.{modeOf}
+use Rattle.chain_config.specs.declared.ConditioningConfig.{ConditioningConfig}
+use Rattle.chain_config.specs.Config.{configOf}
+use Rattle.replay_format.specs.Format.{headerSize, markFits, modesFit, headerFits, modeBy, calibrationBy, configIn}
+use Rattle.replay_format.specs.Header.{Said, refused, config, headerSaid, modeFrom, calibrationFrom, configFrom}
+
+-- ---- tests
+
+-- where the others pass, the last decides
+pub last-test : (a b : Bool) → a ≡ true → b ≡ (a && b)
+last-test a b e = rw e
+
+-- ---- a byte
+
+pub mode-apply : (b : ℕ) → (b ≡ 0 → ⊥) → (b ≡ 1 → ⊥) → apply ≡ modeBy b
+mode-apply zero h g = absurd (h refl)
+mode-apply (suc zero) h g = absurd (g refl)
+mode-apply (suc (suc b)) h g = refl
+
+pub present : (b : ℕ) (c : rules.Calibration) → (b ≡ 0 → ⊥) → with c ≡ calibrationBy b c
+present zero c h = absurd (h refl)
+present (suc b) c h = refl
+
+-- ---- a header
+
+isConfig : Said → Bool
+isConfig (refused k) = false
+isConfig (config g) = true
+
+module _ (bytes : List ℕ) where
+  -- by the answers of the tests
+  pub said-by : (size mark modes : Bool)
+      → leb headerSize (length bytes) ≡ size
+      → markFits bytes ≡ mark
+      → modesFit bytes ≡ modes
+      → headerSaid bytes ≡ cond (size && mark && modes) (config (configIn bytes)) (refused 14)
+  unfolding headerSaid
+  said-by size mark modes e f g = λ i. cond (e i && f i && g i) (config (configIn bytes)) (refused 14)
+
+  -- what is said tells whether the header fits
+  fits-said : headerFits bytes ≡ isConfig (headerSaid bytes)
+  unfolding headerSaid isConfig
+  fits-said = go (headerFits bytes)
+    where
+      go : (t : Bool) → t ≡ isConfig (cond t (config (configIn bytes)) (refused 14))
+      go true = refl
+      go false = refl
+
+  pub no-header : refused 14 ≡ headerSaid bytes → headerFits bytes ≡ false
+  unfolding isConfig
+  no-header e = fits-said ∙ ap isConfig (sym e)
+
+  pub is-header : (g : Config) → config g ≡ headerSaid bytes → (headerFits bytes ≡ true) × (configIn bytes ≡ g)
+  unfolding isConfig headerSaid
+  is-header g e =
+      let fits : headerFits bytes ≡ true = fits-said ∙ ap isConfig (sym e) in
+      let said : headerSaid bytes ≡ config (configIn bytes) = ap (λ (t : Bool). cond t (config (configIn bytes)) (refused 14)) fits in
+      (fits, cc)
+
+-- ---- a configuration
+
+mode-again : (m : StageMode) → modeFrom (modeOf m) ≡ m
+mode-again mode.Off = refl
+mode-again mode.Observe = refl
+mode-again mode.Apply = refl
+
+calibration-again : (c : Calibration) → calibrationFrom (calibratedOf c) ≡ c
+calibration-again Absent = refl
+calibration-again (Present c) = refl
+
+pub config-again : (g : ConditioningConfig) → configFrom (configOf g) ≡ g
+config-again g = rw (mode-again (g .impulse), mode-again (g .dc), mode-again (g .iq), calibration-again (g .calibration))

@@ -1,0 +1,98 @@
+-- Document 01, what the replay program prints. Definitions only.
+use mathlib.Core.Bool.{cond}
+use mathlib.Core.List.{List, [], _∷_, _++_, map, sum}
+use Prim.Native.Nat.{ℕ, _+_}
+use lib.ListN.{length}
+use Rattle.rules.specs.Guard.{guarded, unusable}
+use Rattle.rules.specs.Iq.{Settled}
+use Rattle.rules.specs.Log.{Span, Marks, Stage, impulse, dc, iq, Mark, Repaired, Flagged, Corrected, Uncertain, spansOf}
+use Rattle.rules.specs.Chain.{Config, DcLevel, released, heldOf, ringOf, repairRing, dcLevel, settledBy}
+use Rattle.rules.specs.Refusals.{firstOf, tooMany}
+use Rattle.chain_config.specs.Config.{allOff, refusal}
+use Rattle.replay_text.specs.Text.{each}
+use Rattle.replay_text.specs.Notices.{refusedText, offText}
+use Rattle.replay_format.specs.Format.{configIn, samplesIn, inputRefusal, unlessRefused}
+use Rattle.replay_report.specs.Lines.{sampleLines, countLine, spanLine, droppedLine, levelLine, settledLine}
+
+-- ---- what is reported
+
+-- a ring: its stage and mark, its count, and its spans, the oldest first
+pub record Ring : Type 0 where
+  pub stage : Stage
+  pub mark : Mark
+  pub count : ℕ
+  pub spans : List Span
+
+-- the samples replaced, received, released and held; the rings, in ring order; and the rest
+pub record Report : Type 0 where
+  pub replaced : ℕ
+  pub seen : ℕ
+  pub final : ℕ
+  pub held : ℕ
+  pub rings : List Ring
+  pub droppedSpans : ℕ
+  pub droppedRepairs : ℕ
+  pub level : DcLevel
+  pub settled : Settled
+
+-- ---- its text
+
+abbrev pub ringCount : Ring → List ℕ
+ringCount r = countLine (r .stage) (r .mark) (r .count)
+
+abbrev pub countLines : List Ring → List ℕ
+countLines rs = each ringCount rs
+
+abbrev pub spanLinesOf : Stage → Mark → List Span → List ℕ
+spanLinesOf s m xs = each (spanLine s m) xs
+
+abbrev pub ringSpans : Ring → List ℕ
+ringSpans r = spanLinesOf (r .stage) (r .mark) (r .spans)
+
+abbrev pub spanLines : List Ring → List ℕ
+spanLines rs = each ringSpans rs
+
+unfoldable pub reportText : Report → List ℕ
+reportText r =
+    sampleLines (r .replaced) (r .seen) (r .final) (r .held)
+    ++ (countLines (r .rings) ++ (spanLines (r .rings) ++ (droppedLine (r .droppedSpans) (r .droppedRepairs) ++ (levelLine (r .level) ++ settledLine (r .settled)))))
+
+-- ---- by the rules, for the whole input
+
+-- of each ring, in ring order: 'impulse, DC, IQ, then Repaired, Flagged, Corrected, Uncertain'
+abbrev pub marks : List Mark
+marks = Repaired ∷ Flagged ∷ Corrected ∷ Uncertain ∷ []
+
+abbrev pub ringsOf : {A : Type 0} → (Stage → Mark → A) → List A
+ringsOf f = map (f impulse) marks ++ (map (f dc) marks ++ map (f iq) marks)
+
+-- a ring with its count
+abbrev pub ringBy : ℕ → Stage → Mark → Marks → Ring
+ringBy cap s m x = record { stage = s; mark = m; count = x .samples; spans = spansOf cap (x .ring) }
+
+unfoldable pub reportBy : Config → List ℕ → Report
+reportBy c raw =
+    let xs = guarded raw in
+    record {
+      replaced = unusable raw;
+      seen = length xs;
+      final = length (released c xs);
+      held = heldOf c xs;
+      rings = ringsOf (λ s m. ringBy (c .spans) s m (ringOf c xs [] s m));
+      droppedSpans = sum _+_ 0 (ringsOf (λ s m. ringOf c xs [] s m .ring .dropped));
+      droppedRepairs = repairRing c xs .dropped;
+      level = dcLevel c xs;
+      settled = settledBy c;
+    }
+
+-- a number in place of a text, and the text where there is none
+abbrev pub textUnless : ℕ → List ℕ → List ℕ
+textUnless n text = unlessRefused n text refusedText
+
+-- making, with stores of 24·256, 6·1,024 and 4·8 words: 'all off answers nothing, before 1, 2, 3, 4'; and then the calls: 'total above 2^48'
+abbrev pub playedText : Config → List ℕ → List ℕ
+playedText c raw = cond (allOff c) offText (textUnless (refusal c 6144 6144 32) (textUnless (firstOf (tooMany 0 (length raw) ∷ [])) (reportText (reportBy c raw))))
+
+-- all that is printed
+unfoldable pub printed : List ℕ → List ℕ
+printed input = textUnless (inputRefusal input) (playedText (configIn input) (samplesIn input))

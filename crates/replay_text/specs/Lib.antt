@@ -1,0 +1,5 @@
+-- definitions
+pub mod Notices
+pub mod Text
+-- what is proved of them
+pub mod laws

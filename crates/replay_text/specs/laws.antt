@@ -1,0 +1,5 @@
+pub mod PutLaws
+pub mod DigitLaws
+pub mod LengthLaws
+-- closed cases
+pub mod Cases

@@ -1,0 +1,65 @@
+-- A replay as the program runs it: the start, the blocks one after another up to one that is refused, and the report. Definitions only.
+use mathlib.Core.Path.{_≡_}
+use mathlib.Core.List.{List, [], _∷_, _++_}
+use Prim.Native.Nat.{ℕ, _+_, _≤_}
+use lib.ListN.{length}
+use lib.Ieee.{Float}
+use Rattle.chain_make.specs.Making as making
+use Rattle.chain_make.specs.Making.{nothing, made, madeWords}
+use Rattle.chain.specs.Stages.{Machine, machineOf}
+use Rattle.rules.specs.Answers as answers
+use Rattle.rules.specs.Answers.{Said, accepted, refused, numberOf}
+use Rattle.replay_feed.specs.Feeding.{fed}
+use Rattle.replay_start.specs.Starting.{startSaid, startState}
+use Rattle.replay_report.specs.Report.{reportText}
+use Rattle.replay_text.specs.Notices.{refusedText, offText}
+use Rattle.replay_report.specs.Shown.{reportIn}
+
+-- a block of bytes, and the store of samples that it is read into, whatever stands there
+pub record Block : Type 0 where
+  pub bytes : List ℕ
+  pub store : List ℕ
+
+abbrev pub joined : List Block → List ℕ
+joined [] = []
+joined (b ∷ bs) = b .bytes ++ joined bs
+
+abbrev pub firstBytes : List Block → List ℕ
+firstBytes [] = []
+firstBytes (b ∷ bs) = b .bytes
+
+-- ---- what is printed
+
+-- the text, unless the call was refused
+abbrev pub afterCall : Said ℕ → List ℕ → List ℕ
+afterCall (accepted k) text = text
+afterCall answers.nothing text = text
+afterCall (refused r) text = refusedText (numberOf {A = ℕ} (refused r))
+
+-- from a chain, with so many samples replaced so far
+unfoldable pub played : Machine → ℕ → List Block → List ℕ
+played m replaced [] = reportText (reportIn (m .state) (m .spans) replaced)
+played m replaced (b ∷ bs) = let o = fed m (b .bytes) (b .store) in afterCall (o .said) (played (o .machine) (replaced + o .replaced) bs)
+
+abbrev pub answeredBy : making.Said → List ℕ → List ℕ
+answeredBy nothing text = offText
+answeredBy (making.refused k) text = refusedText k
+answeredBy made text = text
+
+-- with a span store, a repair store and monitor words, whatever stands there
+unfoldable pub replayed : List ℕ → List Block → List ℕ → List ℕ → List Float → List ℕ
+replayed head blocks spans repairs words =
+    let said = startSaid head (firstBytes blocks) (length spans) (length repairs) (length words) in
+    answeredBy said (played (machineOf (startState head (firstBytes blocks)) (madeWords 0 said spans) (madeWords 0 said repairs)) 0 blocks)
+
+-- ---- how a recording is read
+
+-- 65,536 bytes a block but for the last, and a store of 8,192 samples behind the 21 that may be held
+pub record Fits (b : Block) : Type 0 where
+  pub most : length (b .bytes) ≤ 65536
+  pub room : length (b .store) ≡ 8213
+
+abbrev pub Read : List Block → Type 0
+Read [] = Unit {0}
+Read (b ∷ []) = Fits b
+Read (b ∷ c ∷ bs) = Fits b × ((length (b .bytes) ≡ 65536) × Read (c ∷ bs))

@@ -1,5 +1,0 @@
--- definitions
-pub mod Replay
--- laws
-pub mod BlockLaws
-pub mod Replayed

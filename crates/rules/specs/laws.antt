@@ -1,0 +1,15 @@
+pub mod TestLaws
+pub mod ListLaws
+pub mod SizeLaws
+pub mod SortLaws
+pub mod Runs
+pub mod Prefix
+pub mod Values
+pub mod RingLaws
+pub mod MarkLaws
+pub mod RingReading
+pub mod EventLaws
+-- closed cases
+pub mod ByFlags
+pub mod Computing
+pub mod Cases

@@ -1,4 +1,0 @@
--- definitions
-pub mod Starting
--- laws
-pub mod StartingLaws

@@ -1,7 +1,0 @@
--- definitions
-pub mod Fits
-pub mod Occurs
-pub mod Causes
--- laws
-pub mod Blocks
-pub mod FitsLaws

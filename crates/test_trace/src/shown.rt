@@ -1,0 +1,144 @@
+// What a state and the stores hold, as words.
+
+use crate::Head;
+use crate::MONITOR_WORDS;
+use crate::words::answer_plain;
+use crate::words::bits;
+use crate::words::show_first;
+use crate::words::write_front;
+use crate::words::write_words;
+use chain_log::ConditioningLog;
+use chain_log::DcLevel;
+use chain_log::SpanRead;
+use complex::Complex64;
+use log::Mark;
+use log::Ring;
+use log::Stage;
+use test_state_words::STAGES;
+use test_state_words::WORDS;
+use test_state_words::coefficient;
+use test_state_words::iq_word;
+use test_state_words::part;
+use test_state_words::plain;
+
+// ---- the log
+
+fn write_ring(samples: u64, ring: Ring) {
+    let words = [samples, ring.head as u64, ring.count as u64, ring.dropped];
+    write_words(&words);
+}
+
+fn write_rings(log: ConditioningLog) {
+    for k in 0..12 {
+        let samples = log.counts[k];
+        let ring = log.rings[k];
+        write_ring(samples, ring);
+    }
+}
+
+fn write_complex(there: u64, z: Complex64) {
+    let words = [there, ieee::to_bits64(z.re), ieee::to_bits64(z.im)];
+    write_words(&words);
+}
+
+fn write_level(level: DcLevel) {
+    match level {
+        DcLevel::Level(dc) => write_complex(1, dc),
+        _ => write_complex(0, Complex64 { re: 0.0, im: 0.0 }),
+    }
+}
+
+fn write_counts(log: ConditioningLog) {
+    let ring = log.repairs;
+    let words = [
+        log.dropped,
+        ring.head as u64,
+        ring.count as u64,
+        ring.dropped,
+        log.longruns,
+    ];
+    write_words(&words);
+}
+
+fn write_log(log: ConditioningLog) {
+    let samples = [log.seen, log.released, log.held as u64];
+    let level = log.dclevel;
+    let iq = log.iq;
+    write_words(&samples);
+    write_rings(log);
+    write_counts(log);
+    write_level(level);
+    write_complex(iq_word(iq), coefficient(iq));
+}
+
+pub fn log(state: &[u64; WORDS]) {
+    write_front([5, 0, 0, 0, 0, 0, 0, 62]);
+    write_log(chain_log::log(test_state_words::read_state(state)));
+}
+
+// ---- the state
+
+// The settings, but for the coefficient, and the stages.
+pub fn state(state: &[u64; WORDS]) {
+    write_front([6, 0, 0, 0, 0, 0, 0, 113]);
+    show_first(state, STAGES, 0);
+}
+
+// ---- the stores
+
+fn shown_in_all(a: usize, b: usize, c: usize, how: u64) -> u64 {
+    match how {
+        1 => 3,
+        _ => std::num::wrapping_add_u64(std::num::wrapping_add_u64(a as u64, b as u64), c as u64),
+    }
+}
+
+pub fn stores(head: Head, spans: &[u64], repairs: &[u64], words: &[f64; MONITOR_WORDS]) {
+    let a = part(spans, head.a as usize);
+    let b = part(repairs, head.b as usize);
+    let monitor = bits(words);
+    let c = part(&monitor, head.c as usize);
+    let shown = shown_in_all(a, b, c, head.how);
+    write_front([7, 0, 0, a as u64, b as u64, c as u64, 0, shown]);
+    show_first(spans, a, head.how);
+    show_first(repairs, b, head.how);
+    show_first(&monitor, c, head.how);
+}
+
+// ---- a span
+
+fn stage(w: u64) -> Stage {
+    match w {
+        0 => Stage::Impulse,
+        1 => Stage::Dc,
+        _ => Stage::Iq,
+    }
+}
+
+fn kind(w: u64) -> Mark {
+    match w {
+        0 => Mark::Repaired,
+        1 => Mark::Flagged,
+        2 => Mark::Corrected,
+        _ => Mark::Uncertain,
+    }
+}
+
+fn write_span(read: SpanRead) {
+    match read {
+        SpanRead::Held(s) => answer_plain(8, plain(0), s.start, s.len),
+        _ => answer_plain(8, plain(20), 0, 0),
+    }
+}
+
+pub fn span(state: &[u64; WORDS], head: Head, spans: &[u64]) {
+    let a = part(spans, head.d as usize);
+    let read = chain_log::span(
+        test_state_words::read_state(state),
+        &spans[..a],
+        stage(head.a),
+        kind(head.b),
+        head.c as usize,
+    );
+    write_span(read);
+}

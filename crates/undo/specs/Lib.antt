@@ -1,6 +1,0 @@
--- definitions
-pub mod Undoing
--- laws
-pub mod Records
-pub mod UndoTests
-pub mod UndoLaws
