@@ -37,11 +37,13 @@ bound x t h l = go (ltb x 185) refl
     go true e =
         let k = ltb-true x 185 e in
         one ((2 ^ 23 + t) * 2 ^ x) (3814697265625 * 2 ^ 18 * 2 ^ 149)
-        (le-trans (mul-le-mul (let q : 2 ^ 23 + t ≤ 2 ^ 24 = omega arith in q) (pow-mono {i = x} {j = 184} (omega arith))) (lit≤ {m = 2 ^ 24 * 2 ^ 184} {n = 3814697265625 * 2 ^ 18 * 2 ^ 149} tt))
+        (le-trans (mul-le-mul (let q : 2 ^ 23 + t ≤ 2 ^ 24 = omega arith in q) (pow-mono {i = x} {j = 184} (omega arith)))
+        (lit≤ {m = 2 ^ 24 * 2 ^ 184} {n = 3814697265625 * 2 ^ 18 * 2 ^ 149} tt))
     go false e =
         let k = ltb-false x 185 e in
         one ((2 ^ 23 + t) * 2 ^ x) (3814697265625 * 2 ^ 18 * 2 ^ 149)
-        (le-trans (mul-le-mul (let q : 2 ^ 23 + t ≤ 14551915 = omega arith in q) (pow-mono {i = x} {j = 185} (omega arith))) (lit≤ {m = 14551915 * 2 ^ 185} {n = 3814697265625 * 2 ^ 18 * 2 ^ 149} tt))
+        (le-trans (mul-le-mul (let q : 2 ^ 23 + t ≤ 14551915 = omega arith in q) (pow-mono {i = x} {j = 185} (omega arith)))
+        (lit≤ {m = 14551915 * 2 ^ 185} {n = 3814697265625 * 2 ^ 18 * 2 ^ 149} tt))
 
 fields-within : (s : Bool) (e t : ℕ) → e * 2 ^ 23 + t ≤ 0x5d5e_0b6b → t < 2 ^ 23 → Within (ofFields binary32 s e t) (3814697265625 * 2 ^ 18) 1
 unfolding ofFields
@@ -52,13 +54,16 @@ fields-within s (suc x) t h l = go (eqb (suc x) 255) (eqb→eq (suc x) 255)
   where
     go : (b : Bool) → (T b → suc x ≡ 255) → Within (cond b (cond (eqb t 0) (inf s) nan) (odd 24 s (2 ^ 23 + t) x 149)) (3814697265625 * 2 ^ 18) 1
     go true f = let q = f tt in absurd (omega arith)
-    go false f = within-of-value (odd 24 s (2 ^ 23 + t) x 149) s ((2 ^ 23 + t) * 2 ^ x) (2 ^ 149) (3814697265625 * 2 ^ 18) 1 (pow-pos 149) (odd-sign 24 s (2 ^ 23 + t) x 149) (bound x t h l)
+    go false f =
+        within-of-value (odd 24 s (2 ^ 23 + t) x 149) s ((2 ^ 23 + t) * 2 ^ x) (2 ^ 149) (3814697265625 * 2 ^ 18) 1 (pow-pos 149)
+        (odd-sign 24 s (2 ^ 23 + t) x 149) (bound x t h l)
 
 part-within : (n : ℕ) → n % 2 ^ 31 ≤ 0x5d5e_0b6b → le (magnitude (ofBits binary32 n)) partLimit ≡ true
 unfolding ofBits
 part-within n h =
     let x = ofFields binary32 (leb (2 ^ 31) n) (n % 2 ^ 31 / 2 ^ 23) (n % 2 ^ 23) in
-    is-true (le (magnitude x) (fin false 3814697265625 (pos 18))) (within-size x 3814697265625 (pos 18) (fields-within (leb (2 ^ 31) n) (n % 2 ^ 31 / 2 ^ 23) (n % 2 ^ 23) (omega arith) (omega arith)))
+    is-true (le (magnitude x) (fin false 3814697265625 (pos 18)))
+    (within-size x 3814697265625 (pos 18) (fields-within (leb (2 ^ 31) n) (n % 2 ^ 31 / 2 ^ 23) (n % 2 ^ 23) (omega arith) (omega arith)))
 
 -- ---- a sample
 

@@ -6,6 +6,7 @@ use lib.Dec.{eqb}
 use lib.ListN.{length, drop}
 use Rattle.rules.specs.Answers.{Said, accepted, refused}
 use Rattle.rules.specs.Refusals.{Cause, firstOf, badLength, shortSlice, tooMany, unusableAt, anyUnusable}
+use Rattle.rules.specs.Log.{repairWidth, storeWidth}
 use Rattle.amplitude_limit.specs.Limit.{returned}
 use Rattle.chain_state.specs.declared.InputConditioner.{InputConditioner}
 use Rattle.chain_state.specs.Causes.{badState, badSpans}
@@ -17,11 +18,11 @@ use Rattle.chain.specs.Stages.{newPart, Machine, handsOn, process}
 abbrev pub unreadCauses : InputConditioner → ℕ → List ℕ → List ℕ → List Cause
 unreadCauses c len spans repairs =
     badState c
-    ∷ badLength (6 * c .settings .repairs) (length repairs)
-    ∷ badLength (24 * c .settings .spans) (length spans)
+    ∷ badLength (repairWidth * c .settings .repairs) (length repairs)
+    ∷ badLength (storeWidth * c .settings .spans) (length spans)
     ∷ badSpans c spans
-    ∷ shortSlice (c .held) len
-    ∷ tooMany (c .seen) (len - c .held)
+    ∷ shortSlice (c .counts .held) len
+    ∷ tooMany (c .counts .seen) (len - c .counts .held)
     ∷ []
 
 unfoldable pub unreadRefusal : InputConditioner → ℕ → List ℕ → List ℕ → ℕ
@@ -30,7 +31,7 @@ unreadRefusal c len spans repairs = firstOf (unreadCauses c len spans repairs)
 -- 7 is told last
 unfoldable pub callRefusal : InputConditioner → List ℕ → List ℕ → List ℕ → ℕ
 callRefusal c samples spans repairs =
-    firstOf (unreadCauses c (length samples) spans repairs ++ (anyUnusable (c .held) (newPart c samples) ∷ []))
+    firstOf (unreadCauses c (length samples) spans repairs ++ (anyUnusable (c .counts .held) (newPart c samples) ∷ []))
 
 -- ---- a call
 
@@ -57,4 +58,4 @@ declined m samples r = record { said = refused r; machine = m; samples = samples
 unfoldable pub called : Machine → List ℕ → Outcome
 called m samples =
     let n = callRefusal (m .state) samples (m .spans) (m .repairs) in
-    cond (eqb n 0) (taken m samples) (declined m samples (returned n (unusableAt (m .state .held) (newPart (m .state) samples))))
+    cond (eqb n 0) (taken m samples) (declined m samples (returned n (unusableAt (m .state .counts .held) (newPart (m .state) samples))))

@@ -7,22 +7,27 @@ use lib.ListN.{length, drop}
 use Rattle.rules.specs.Impulse.{Setting, Event}
 use Rattle.rules.specs.Iq.{Settled, Off, Observing, Withheld, Correcting, correctedBy}
 use Rattle.rules.specs.Mode.{Mode, off, observe, apply}
-use Rattle.rules.specs.Log.{Span, spanOf, ringNumber, dc, iq, Corrected, Uncertain}
-use Rattle.log.specs.View.{Logged, ringIn, bare, markedAt}
+use Rattle.rules.specs.Log as rules
+use Rattle.rules.specs.Log.{Span, spanOf, ringNumber, dc, iq, Corrected, Uncertain, repairWidth, storeWidth}
+use Rattle.rules.specs.Constants.{totalLimit}
+use Rattle.log.specs.declared.Notes.{Notes}
+use Rattle.log.specs.View.{Logged, bare, markedAt}
 use Rattle.log.specs.Check.{endsFit}
 use Rattle.impulse.specs.declared.ImpulseSuppressor.{ImpulseSuppressor}
 use Rattle.impulse.specs.Machine.{settingOf}
-use Rattle.impulse_slice.specs.Noted.{Noted, noteAll, stateAfter, handed, told}
+use Rattle.impulse_slice.specs.Noted.{Noted, notedOf, noteAll, stateAfter, handed, told}
 use Rattle.dc.specs.declared.DcBlocker.{DcBlocker}
 use Rattle.dc.specs.Blocker.{blockerAfter, processedAll}
 use Rattle.iq.specs.View.{settledOf}
 use Rattle.stage_mode.specs.View.{modeOf}
 use Rattle.chain_state.specs.declared.InputConditioner.{InputConditioner}
+use Rattle.chain_state.specs.declared.Counts.{Counts}
 use Rattle.chain_state.specs.Fits.{stateFits}
+use Rattle.chain_state.specs.Changed.{afterCall}
 
 -- the new part of a slice: 'the held samples, then the new'
 abbrev pub newPart : InputConditioner → List ℕ → List ℕ
-newPart c samples = drop (c .held) samples
+newPart c samples = drop (c .counts .held) samples
 
 -- ---- each stage
 
@@ -74,12 +79,7 @@ machineOf c spans repairs = record { state = c; spans = spans; repairs = repairs
 
 -- its log
 abbrev pub notesIn : Machine → Noted
-notesIn m =
-    record {
-      logged = record { log = m .state .log; spans = m .spans };
-      repairs = ringIn (m .state .repairs) (m .repairs);
-      longruns = m .state .longruns;
-    }
+notesIn m = notedOf (m .state .notes) (m .spans) (m .repairs)
 
 -- what the DC stage gets, the IQ stage gets, and what is released
 abbrev pub dcOut : InputConditioner → List ℕ → List ℕ
@@ -93,7 +93,7 @@ unfoldable pub notesAfter : Machine → List ℕ → Noted
 notesAfter m new = noteAll (m .state .settings .spans) (m .state .settings .repairs) (notesIn m) (impulseTold (m .state) new)
 
 abbrev pub releasedSpan : InputConditioner → List ℕ → Span
-releasedSpan c new = spanOf (c .released) (length (impulseOut c new))
+releasedSpan c new = spanOf (c .counts .released) (length (impulseOut c new))
 
 unfoldable pub loggedAfter : Machine → List ℕ → Logged
 loggedAfter m new =
@@ -101,43 +101,42 @@ loggedAfter m new =
     let cap = c .settings .spans in
     notedIq cap (settledOf (c .settings .iq)) (notedDc cap (modeOf (c .settings .dc)) (notesAfter m new .logged) (releasedSpan c new)) (releasedSpan c new)
 
+-- so many are new, and so many of all that wait are released
+abbrev pub countsAfter : InputConditioner → ℕ → ℕ → Counts
+countsAfter c new ready =
+    record { seen = c .counts .seen + new; released = c .counts .released + ready; held = c .counts .held + new - ready }
+
+-- the rings of spans and the repair ring come with their stores
+abbrev pub machineAfter : InputConditioner → Counts → ImpulseSuppressor → DcBlocker → Logged → rules.Ring → ℕ → Machine
+machineAfter c n s b logged repairs longruns =
+    let notes : Notes = record { log = logged .log; repairs = bare repairs; longruns = longruns } in
+    machineOf (afterCall c n s b notes) (logged .spans) (repairs .words)
+
 -- the chain after new samples
 unfoldable pub process : Machine → List ℕ → Machine
 process m new =
     let c = m .state in
-    let ready = length (impulseOut c new) in
     let noted = notesAfter m new in
-    let logged = loggedAfter m new in
-    record {
-      state =
-          record {
-            settings = c .settings;
-            seen = c .seen + length new;
-            released = c .released + ready;
-            held = c .held + length new - ready;
-            suppressor = impulseAfter c new;
-            blocker = blockerAfterBy (modeOf (c .settings .dc)) (c .blocker) (impulseOut c new);
-            monitor = c .monitor;
-            log = logged .log;
-            repairs = bare (noted .repairs);
-            longruns = noted .longruns;
-          };
-      spans = logged .spans;
-      repairs = noted .repairs .words;
-    }
+    machineAfter c
+    (countsAfter c (length new) (length (impulseOut c new)))
+    (impulseAfter c new)
+    (blockerAfterBy (modeOf (c .settings .dc)) (c .blocker) (impulseOut c new))
+    (loggedAfter m new)
+    (noted .repairs)
+    (noted .longruns)
 
 -- ---- what a call that is not refused has
 
 -- a fit state, with its stores
 pub record Stored (c : InputConditioner) (spans repairs : List ℕ) : Type 0 where
   pub fits : stateFits c ≡ true
-  pub rings : length (c .log .rings) ≡ 12
-  pub counts : length (c .log .counts) ≡ 12
-  pub repairs-long : length repairs ≡ 6 * c .settings .repairs
-  pub spans-long : length spans ≡ 24 * c .settings .spans
-  pub ends : endsFit (c .settings .spans) (record { log = c .log; spans = spans }) ≡ true
+  pub rings : length (c .notes .log .rings) ≡ 12
+  pub counts : length (c .notes .log .counts) ≡ 12
+  pub repairs-long : length repairs ≡ repairWidth * c .settings .repairs
+  pub spans-long : length spans ≡ storeWidth * c .settings .spans
+  pub ends : endsFit (c .settings .spans) (record { log = c .notes .log; spans = spans }) ≡ true
 
 pub record Acceptable (c : InputConditioner) (samples spans repairs : List ℕ) : Type 0 where
   pub stored : Stored c spans repairs
-  pub held-in : c .held ≤ length samples
-  pub few : length samples - c .held ≤ 2 ^ 48 - c .seen
+  pub held-in : c .counts .held ≤ length samples
+  pub few : length samples - c .counts .held ≤ totalLimit - c .counts .seen

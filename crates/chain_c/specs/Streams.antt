@@ -55,14 +55,14 @@ abbrev pub callLength : ℕ → ℕ → ℕ → ℕ
 callLength left held block = min left (held + block)
 
 abbrev pub lengthIn : ℕ → Stream → ℕ
-lengthIn block s = callLength (length (s .samples) - s .at) (s .machine .state .held) block
+lengthIn block s = callLength (length (s .samples) - s .at) (s .machine .state .counts .held) block
 
 -- nothing was refused, and the slice has new samples
 abbrev pub isMore : ℕ → ℕ → ℕ → Bool
 isMore number held len = eqb number 0 && ltb held len
 
 abbrev pub more : ℕ → Stream → Bool
-more block s = isMore (s .number) (s .machine .state .held) (lengthIn block s)
+more block s = isMore (s .number) (s .machine .state .counts .held) (lengthIn block s)
 
 abbrev pub turned : Stream → ℕ → Outcome → Stream
 turned s n o =

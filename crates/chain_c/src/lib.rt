@@ -152,9 +152,13 @@ fn turn(
     len: usize,
 ) -> Called
     requires { ⌜ at + len ≤ length (now samples) ⌝ }
-    ensures answer { λ r. ⌜ said (r .answer) ≡ called (machineOf state (now (spans .entry)) (now (repairs .entry))) (partAt at len (now (samples .entry))) .said ⌝ }
-    ensures chain { λ r. ⌜ machineOf (r .state) (now (spans .exit)) (now (repairs .exit)) ≡ called (machineOf state (now (spans .entry)) (now (repairs .entry))) (partAt at len (now (samples .entry))) .machine ⌝ }
-    ensures written { λ r. ⌜ now (samples .exit) ≡ withPartAt at len (now (samples .entry)) (called (machineOf state (now (spans .entry)) (now (repairs .entry))) (partAt at len (now (samples .entry))) .samples) ⌝ }
+    ensures answer { λ r. ⌜ said (r .answer)
+        ≡ called (machineOf state (now (spans .entry)) (now (repairs .entry))) (partAt at len (now (samples .entry))) .said ⌝ }
+    ensures chain { λ r. ⌜ machineOf (r .state) (now (spans .exit)) (now (repairs .exit))
+        ≡ called (machineOf state (now (spans .entry)) (now (repairs .entry))) (partAt at len (now (samples .entry))) .machine ⌝ }
+    ensures written { λ r. ⌜ now (samples .exit)
+        ≡ withPartAt at len (now (samples .entry))
+        (called (machineOf state (now (spans .entry)) (now (repairs .entry))) (partAt at len (now (samples .entry))) .samples) ⌝ }
 {
     let end = at + len;
     chain_call::condition(state, &mut samples[at..end], spans, repairs)
@@ -176,22 +180,26 @@ fn stream(
     number: u64,
 ) -> Streamed
     ensures at { λ r. ⌜ r .at ≡ streamedAll block (streamOf first (now (spans .entry)) (now (repairs .entry)) (now (samples .entry)) 0 number) .at ⌝ }
-    ensures number { λ r. ⌜ r .number ≡ streamedAll block (streamOf first (now (spans .entry)) (now (repairs .entry)) (now (samples .entry)) 0 number) .number ⌝ }
-    ensures samples { λ _. ⌜ now (samples .exit) ≡ streamedAll block (streamOf first (now (spans .entry)) (now (repairs .entry)) (now (samples .entry)) 0 number) .samples ⌝ }
-    ensures spans { λ _. ⌜ now (spans .exit) ≡ streamedAll block (streamOf first (now (spans .entry)) (now (repairs .entry)) (now (samples .entry)) 0 number) .machine .spans ⌝ }
-    ensures repairs { λ _. ⌜ now (repairs .exit) ≡ streamedAll block (streamOf first (now (spans .entry)) (now (repairs .entry)) (now (samples .entry)) 0 number) .machine .repairs ⌝ }
+    ensures number { λ r. ⌜ r .number
+        ≡ streamedAll block (streamOf first (now (spans .entry)) (now (repairs .entry)) (now (samples .entry)) 0 number) .number ⌝ }
+    ensures samples { λ _. ⌜ now (samples .exit)
+        ≡ streamedAll block (streamOf first (now (spans .entry)) (now (repairs .entry)) (now (samples .entry)) 0 number) .samples ⌝ }
+    ensures spans { λ _. ⌜ now (spans .exit)
+        ≡ streamedAll block (streamOf first (now (spans .entry)) (now (repairs .entry)) (now (samples .entry)) 0 number) .machine .spans ⌝ }
+    ensures repairs { λ _. ⌜ now (repairs .exit)
+        ≡ streamedAll block (streamOf first (now (spans .entry)) (now (repairs .entry)) (now (samples .entry)) 0 number) .machine .repairs ⌝ }
 {
     let mut state = first;
     let mut at: usize = 0;
     let mut told = number;
-    let mut len = call_length(samples.len(), state.held, block);
-    while is_more(told, state.held, len) {
+    let mut len = call_length(samples.len(), state.counts.held, block);
+    while is_more(told, state.counts.held, len) {
         let t = turn(state, samples, spans, repairs, at, len);
         state = t.state;
         let answer = t.answer;
         at = at + ready_in(answer);
         told = number_in(answer);
-        len = call_length(samples.len() - at, state.held, block);
+        len = call_length(samples.len() - at, state.counts.held, block);
     }
     Streamed { at, number: told }
 }
@@ -215,12 +223,36 @@ pub extern "C" fn chain_run(
     words: &mut [f64],
     released: &mut usize,
 ) -> u64
-    ensures number { λ r. ⌜ r ≡ chainRun (appliedChain impulse dc iq fs (record { gain = gain; phase = phase; centre = centre }) (length (now (spans .entry))) (length (now (repairs .entry))) (length (now (words .entry)))) block (now (samples .entry)) (now (spans .entry)) (now (repairs .entry)) (now (words .entry)) .number ⌝ }
-    ensures released { λ _. ⌜ now (released .exit) ≡ chainRun (appliedChain impulse dc iq fs (record { gain = gain; phase = phase; centre = centre }) (length (now (spans .entry))) (length (now (repairs .entry))) (length (now (words .entry)))) block (now (samples .entry)) (now (spans .entry)) (now (repairs .entry)) (now (words .entry)) .at ⌝ }
-    ensures samples { λ _. ⌜ now (samples .exit) ≡ chainRun (appliedChain impulse dc iq fs (record { gain = gain; phase = phase; centre = centre }) (length (now (spans .entry))) (length (now (repairs .entry))) (length (now (words .entry)))) block (now (samples .entry)) (now (spans .entry)) (now (repairs .entry)) (now (words .entry)) .samples ⌝ }
-    ensures spans { λ _. ⌜ now (spans .exit) ≡ chainRun (appliedChain impulse dc iq fs (record { gain = gain; phase = phase; centre = centre }) (length (now (spans .entry))) (length (now (repairs .entry))) (length (now (words .entry)))) block (now (samples .entry)) (now (spans .entry)) (now (repairs .entry)) (now (words .entry)) .machine .spans ⌝ }
-    ensures repairs { λ _. ⌜ now (repairs .exit) ≡ chainRun (appliedChain impulse dc iq fs (record { gain = gain; phase = phase; centre = centre }) (length (now (spans .entry))) (length (now (repairs .entry))) (length (now (words .entry)))) block (now (samples .entry)) (now (spans .entry)) (now (repairs .entry)) (now (words .entry)) .machine .repairs ⌝ }
-    ensures words { λ _. ⌜ now (words .exit) ≡ madeWords zeroF (saidOf (appliedChain impulse dc iq fs (record { gain = gain; phase = phase; centre = centre }) (length (now (spans .entry))) (length (now (repairs .entry))) (length (now (words .entry)))) (now (spans .entry)) (now (repairs .entry)) (now (words .entry))) (now (words .entry)) ⌝ }
+    ensures number { λ r. ⌜ r
+        ≡ chainRun
+        (appliedChain impulse dc iq fs (record { gain = gain; phase = phase; centre = centre }) (length (now (spans .entry)))
+        (length (now (repairs .entry))) (length (now (words .entry)))) block (now (samples .entry)) (now (spans .entry)) (now (repairs .entry)) (now
+        (words .entry)) .number ⌝ }
+    ensures released { λ _. ⌜ now (released .exit)
+        ≡ chainRun
+        (appliedChain impulse dc iq fs (record { gain = gain; phase = phase; centre = centre }) (length (now (spans .entry)))
+        (length (now (repairs .entry))) (length (now (words .entry)))) block (now (samples .entry)) (now (spans .entry)) (now (repairs .entry)) (now
+        (words .entry)) .at ⌝ }
+    ensures samples { λ _. ⌜ now (samples .exit)
+        ≡ chainRun
+        (appliedChain impulse dc iq fs (record { gain = gain; phase = phase; centre = centre }) (length (now (spans .entry)))
+        (length (now (repairs .entry))) (length (now (words .entry)))) block (now (samples .entry)) (now (spans .entry)) (now (repairs .entry)) (now
+        (words .entry)) .samples ⌝ }
+    ensures spans { λ _. ⌜ now (spans .exit)
+        ≡ chainRun
+        (appliedChain impulse dc iq fs (record { gain = gain; phase = phase; centre = centre }) (length (now (spans .entry)))
+        (length (now (repairs .entry))) (length (now (words .entry)))) block (now (samples .entry)) (now (spans .entry)) (now (repairs .entry)) (now
+        (words .entry)) .machine .spans ⌝ }
+    ensures repairs { λ _. ⌜ now (repairs .exit)
+        ≡ chainRun
+        (appliedChain impulse dc iq fs (record { gain = gain; phase = phase; centre = centre }) (length (now (spans .entry)))
+        (length (now (repairs .entry))) (length (now (words .entry)))) block (now (samples .entry)) (now (spans .entry)) (now (repairs .entry)) (now
+        (words .entry)) .machine .repairs ⌝ }
+    ensures words { λ _. ⌜ now (words .exit)
+        ≡ madeWords zeroF
+        (saidOf (appliedChain impulse dc iq fs (record { gain = gain; phase = phase; centre = centre }) (length (now (spans .entry)))
+        (length (now (repairs .entry))) (length (now (words .entry)))) (now (spans .entry)) (now (repairs .entry)) (now
+        (words .entry))) (now (words .entry)) ⌝ }
 {
     let calibration = IqCalibration {
         gain,
@@ -311,11 +343,23 @@ pub extern "C" fn hops_run(
     words: &mut [f64],
     reports: &mut usize,
 ) -> u64
-    ensures number { λ r. ⌜ r ≡ madeNumber (saidOf (watchingChain fs (length (now (x .entry))) (length (now (spans .entry))) (length (now (repairs .entry)))) (now (spans .entry)) (now (repairs .entry)) (now (words .entry))) ⌝ }
-    ensures reports { λ _. ⌜ now (reports .exit) ≡ hopsRun (watchingChain fs (length (now (x .entry))) (length (now (spans .entry))) (length (now (repairs .entry)))) hops (now (x .entry)) (now (spans .entry)) (now (repairs .entry)) (now (words .entry)) .reports ⌝ }
-    ensures spans { λ _. ⌜ now (spans .exit) ≡ hopsRun (watchingChain fs (length (now (x .entry))) (length (now (spans .entry))) (length (now (repairs .entry)))) hops (now (x .entry)) (now (spans .entry)) (now (repairs .entry)) (now (words .entry)) .spans ⌝ }
-    ensures repairs { λ _. ⌜ now (repairs .exit) ≡ madeWords 0 (saidOf (watchingChain fs (length (now (x .entry))) (length (now (spans .entry))) (length (now (repairs .entry)))) (now (spans .entry)) (now (repairs .entry)) (now (words .entry))) (now (repairs .entry)) ⌝ }
-    ensures words { λ _. ⌜ now (words .exit) ≡ hopsRun (watchingChain fs (length (now (x .entry))) (length (now (spans .entry))) (length (now (repairs .entry)))) hops (now (x .entry)) (now (spans .entry)) (now (repairs .entry)) (now (words .entry)) .words ⌝ }
+    ensures number { λ r. ⌜ r
+        ≡ madeNumber
+        (saidOf (watchingChain fs (length (now (x .entry))) (length (now (spans .entry))) (length (now (repairs .entry)))) (now (spans .entry))
+        (now (repairs .entry)) (now (words .entry))) ⌝ }
+    ensures reports { λ _. ⌜ now (reports .exit)
+        ≡ hopsRun (watchingChain fs (length (now (x .entry))) (length (now (spans .entry))) (length (now (repairs .entry)))) hops (now (x .entry))
+        (now (spans .entry)) (now (repairs .entry)) (now (words .entry)) .reports ⌝ }
+    ensures spans { λ _. ⌜ now (spans .exit)
+        ≡ hopsRun (watchingChain fs (length (now (x .entry))) (length (now (spans .entry))) (length (now (repairs .entry)))) hops (now (x .entry))
+        (now (spans .entry)) (now (repairs .entry)) (now (words .entry)) .spans ⌝ }
+    ensures repairs { λ _. ⌜ now (repairs .exit)
+        ≡ madeWords 0
+        (saidOf (watchingChain fs (length (now (x .entry))) (length (now (spans .entry))) (length (now (repairs .entry)))) (now (spans .entry))
+        (now (repairs .entry)) (now (words .entry))) (now (repairs .entry)) ⌝ }
+    ensures words { λ _. ⌜ now (words .exit)
+        ≡ hopsRun (watchingChain fs (length (now (x .entry))) (length (now (spans .entry))) (length (now (repairs .entry)))) hops (now (x .entry))
+        (now (spans .entry)) (now (repairs .entry)) (now (words .entry)) .words ⌝ }
 {
     let config = watching_chain(fs, x.len(), spans.len(), repairs.len());
     let made = chain_make::with_geometry(config, spans, repairs, words);

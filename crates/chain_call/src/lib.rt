@@ -8,19 +8,21 @@ ghost use Rattle.rules.specs.Log.{spanOf};
 ghost use Rattle.rules.specs.Iq.{correctedBy};
 ghost use Rattle.rules.specs.Answers.{accepted, numberOf};
 ghost use Rattle.rules.specs.Refusals.{tooMany};
+ghost use Rattle.rules.specs.Constants.{totalLimit};
 ghost use Rattle.log.specs.View.{Logged};
 ghost use Rattle.log.specs.Ready.{Bounded};
 ghost use Rattle.impulse.specs.View.{suppressorOf};
 ghost use Rattle.iq.specs.View.{settledOf};
 ghost use Rattle.stage_mode.specs.View.{modeOf};
 ghost use Rattle.impulse_slice.specs.Noted.{notedOf, noteAll, over};
-ghost use Rattle.chain.specs.Stages.{machineOf, notesIn, newPart, impulseAfter, impulseOut, impulseTold, blockerAfterBy, blockedBy, notedDc, notedIq, handsOn, process, Acceptable};
+ghost use Rattle.chain.specs.Stages.{machineOf, notesIn, newPart, impulseAfter, impulseOut, impulseTold, blockerAfterBy, blockedBy, notedDc, notedIq, handsOn};
+ghost use Rattle.chain.specs.Stages.{process, Acceptable};
 ghost use Rattle.chain.specs.Calls.{unreadRefusal, toldUnread, called};
 ghost use Rattle.chain_call.specs.Said.{said};
+use chain_state::Counts;
 use chain_state::InputConditioner;
 use dc::DcBlocker;
 use impulse::ImpulseSuppressor;
-use impulse_slice::Notes;
 use impulse_slice::Ran;
 use iq::Iq;
 use log::Log;
@@ -63,20 +65,17 @@ fn suppress(
     requires { ⌜ Acceptable state (now samples) (now spans) (now repairs) ⌝ }
     requires { ⌜ suppressorOf (state .suppressor .gate) (now window) (now sorted) (now pending) ≡ state .suppressor ⌝ }
     requires { ⌜ length (now sorted) ≡ 33 ⌝ }
-    ensures suppressor { λ r. ⌜ suppressorOf (r .gate) (now (window .exit)) (now (sorted .exit)) (now (pending .exit)) ≡ impulseAfter state (drop (state .held) (now (samples .entry))) ⌝ }
-    ensures noted { λ r. ⌜ notedOf (r .notes) (now (spans .exit)) (now (repairs .exit)) ≡ noteAll (state .settings .spans) (state .settings .repairs) (notesIn (machineOf state (now (spans .entry)) (now (repairs .entry)))) (impulseTold state (drop (state .held) (now (samples .entry)))) ⌝ }
-    ensures ready { λ r. ⌜ r .ready ≡ length (impulseOut state (drop (state .held) (now (samples .entry)))) ⌝ }
-    ensures written { λ r. ⌜ now (samples .exit) ≡ over (impulseOut state (drop (state .held) (now (samples .entry)))) (now (samples .entry)) ⌝ }
+    ensures suppressor { λ r. ⌜ suppressorOf (r .gate) (now (window .exit)) (now (sorted .exit)) (now (pending .exit))
+        ≡ impulseAfter state (drop (state .counts .held) (now (samples .entry))) ⌝ }
+    ensures noted { λ r. ⌜ notedOf (r .notes) (now (spans .exit)) (now (repairs .exit))
+        ≡ noteAll (state .settings .spans) (state .settings .repairs) (notesIn (machineOf state (now (spans .entry)) (now (repairs .entry))))
+        (impulseTold state (drop (state .counts .held) (now (samples .entry)))) ⌝ }
+    ensures ready { λ r. ⌜ r .ready ≡ length (impulseOut state (drop (state .counts .held) (now (samples .entry)))) ⌝ }
+    ensures written { λ r. ⌜ now (samples .exit) ≡ over (impulseOut state (drop (state .counts .held) (now (samples .entry)))) (now (samples .entry)) ⌝ }
 {
     let set = state.settings;
     let gate = state.suppressor.gate;
-    let log = state.log;
-    let ring = state.repairs;
-    let notes = Notes {
-        log,
-        repairs: ring,
-        longruns: state.longruns,
-    };
+    let notes = state.notes;
     if !set.impulse {
         return Ran {
             gate,
@@ -86,7 +85,7 @@ fn suppress(
     }
     impulse_slice::run(
         samples,
-        state.held,
+        state.counts.held,
         gate,
         window,
         sorted,
@@ -131,8 +130,10 @@ fn mark_dc(
     ready: u64,
 ) -> Log
     requires { ⌜ Bounded capacity (2 ^ 54) (record { log = log; spans = now spans }) ⌝ }
-    requires { ⌜ (start ≤ 2 ^ 52) × (ready ≤ 2 ^ 48) ⌝ }
-    ensures { λ r. ⌜ _≡_ {A = Logged} (record { log = r; spans = now (spans .exit) }) (notedDc capacity (modeOf mode) (record { log = log; spans = now (spans .entry) }) (spanOf start ready)) ⌝ }
+    requires { ⌜ (start ≤ 2 ^ 52) × (ready ≤ totalLimit) ⌝ }
+    ensures { λ r.
+        ⌜ _≡_ {A = Logged} (record { log = r; spans = now (spans .exit) })
+        (notedDc capacity (modeOf mode) (record { log = log; spans = now (spans .entry) }) (spanOf start ready)) ⌝ }
 {
     match mode {
         StageMode::Off => log,
@@ -144,8 +145,10 @@ fn mark_dc(
 // A correcting IQ stage marks what is released, and so does one that is withheld.
 fn mark_iq(log: Log, iq: Iq, spans: &mut [u64], capacity: usize, start: u64, ready: u64) -> Log
     requires { ⌜ Bounded capacity (2 ^ 55) (record { log = log; spans = now spans }) ⌝ }
-    requires { ⌜ (start ≤ 2 ^ 52) × (ready ≤ 2 ^ 48) ⌝ }
-    ensures { λ r. ⌜ _≡_ {A = Logged} (record { log = r; spans = now (spans .exit) }) (notedIq capacity (settledOf iq) (record { log = log; spans = now (spans .entry) }) (spanOf start ready)) ⌝ }
+    requires { ⌜ (start ≤ 2 ^ 52) × (ready ≤ totalLimit) ⌝ }
+    ensures { λ r.
+        ⌜ _≡_ {A = Logged} (record { log = r; spans = now (spans .exit) })
+        (notedIq capacity (settledOf iq) (record { log = log; spans = now (spans .entry) }) (spanOf start ready)) ⌝ }
 {
     match iq {
         Iq::Off => log,
@@ -166,7 +169,8 @@ fn filter(
     requires { ⌜ ready ≤ length (now samples) ⌝ }
     requires { ⌜ blocker .n + ready < 2 ^ 64 ⌝ }
     ensures level { λ r. ⌜ r ≡ blockerAfterBy (modeOf mode) blocker (take ready (now (samples .entry))) ⌝ }
-    ensures written { λ r. ⌜ now (samples .exit) ≡ map (correctedBy (settledOf iq)) (blockedBy (modeOf mode) blocker (take ready (now (samples .entry)))) ++ drop ready (now (samples .entry)) ⌝ }
+    ensures written { λ r. ⌜ now (samples .exit)
+        ≡ map (correctedBy (settledOf iq)) (blockedBy (modeOf mode) blocker (take ready (now (samples .entry)))) ++ drop ready (now (samples .entry)) ⌝ }
 {
     let after = remove_dc(mode, blocker, samples, ready);
     correct(iq, samples, ready);
@@ -184,8 +188,11 @@ fn mark_released(
     ready: u64,
 ) -> Log
     requires { ⌜ Bounded capacity (2 ^ 54) (record { log = log; spans = now spans }) ⌝ }
-    requires { ⌜ (start ≤ 2 ^ 52) × (ready ≤ 2 ^ 48) ⌝ }
-    ensures { λ r. ⌜ _≡_ {A = Logged} (record { log = r; spans = now (spans .exit) }) (notedIq capacity (settledOf iq) (notedDc capacity (modeOf mode) (record { log = log; spans = now (spans .entry) }) (spanOf start ready)) (spanOf start ready)) ⌝ }
+    requires { ⌜ (start ≤ 2 ^ 52) × (ready ≤ totalLimit) ⌝ }
+    ensures { λ r.
+        ⌜ _≡_ {A = Logged} (record { log = r; spans = now (spans .exit) })
+        (notedIq capacity (settledOf iq) (notedDc capacity (modeOf mode) (record { log = log; spans = now (spans .entry) }) (spanOf start ready))
+        (spanOf start ready)) ⌝ }
 {
     let marked = mark_dc(log, mode, spans, capacity, start, ready);
     mark_iq(marked, iq, spans, capacity, start, ready)
@@ -200,11 +207,13 @@ pub fn accept(
 ) -> Called
     requires { ⌜ unreadRefusal state (length (now samples)) (now spans) (now repairs) ≡ 0 ⌝ }
     ensures answer { λ r. ⌜ said (r .answer) ≡ accepted (length (handsOn state (newPart state (now (samples .entry))))) ⌝ }
-    ensures chain { λ r. ⌜ machineOf (r .state) (now (spans .exit)) (now (repairs .exit)) ≡ process (machineOf state (now (spans .entry)) (now (repairs .entry))) (newPart state (now (samples .entry))) ⌝ }
+    ensures chain { λ r. ⌜ machineOf (r .state) (now (spans .exit)) (now (repairs .exit))
+        ≡ process (machineOf state (now (spans .entry)) (now (repairs .entry))) (newPart state (now (samples .entry))) ⌝ }
     ensures written { λ r. ⌜ now (samples .exit) ≡ over (handsOn state (newPart state (now (samples .entry)))) (now (samples .entry)) ⌝ }
 {
     let len = samples.len();
-    let new = len - state.held;
+    let counts = state.counts;
+    let new = len - counts.held;
     let mut window = state.suppressor.window;
     let mut sorted = state.suppressor.sorted;
     let mut pending = state.suppressor.pending;
@@ -223,7 +232,7 @@ pub fn accept(
     let iq = set.iq;
     let before = state.blocker;
     let blocker = filter(mode, before, iq, samples, ready);
-    let notes = ran.notes;
+    let mut notes = ran.notes;
     let log = notes.log;
     let marked = mark_released(
         log,
@@ -231,7 +240,7 @@ pub fn accept(
         iq,
         spans,
         set.spans,
-        state.released,
+        counts.released,
         ready as u64,
     );
     let gate = ran.gate;
@@ -241,21 +250,19 @@ pub fn accept(
         sorted,
         pending,
     };
-    let monitor = state.monitor;
-    let ring = notes.repairs;
+    notes.log = marked;
+    let counts = Counts {
+        seen: counts.seen + new as u64,
+        released: counts.released + ready as u64,
+        held: len - ready,
+    };
+    let mut after = state;
+    after.counts = counts;
+    after.suppressor = suppressor;
+    after.blocker = blocker;
+    after.notes = notes;
     Called {
-        state: InputConditioner {
-            settings: set,
-            seen: state.seen + new as u64,
-            released: state.released + ready as u64,
-            held: len - ready,
-            suppressor,
-            blocker,
-            monitor,
-            log: marked,
-            repairs: ring,
-            longruns: notes.longruns,
-        },
+        state: after,
         answer: Conditioned::Ready(ready),
     }
 }
@@ -276,9 +283,9 @@ pub fn refusal(state: InputConditioner, len: usize, spans: &[u64], repairs: &[u6
     ensures { λ r. ⌜ said r ≡ toldUnread (unreadRefusal state len (now (spans .entry)) (now (repairs .entry))) ⌝ }
 {
     let set = state.settings;
-    let log = state.log;
-    let held = state.held;
-    let seen = state.seen;
+    let log = state.notes.log;
+    let held = state.counts.held;
+    let seen = state.counts.seen;
     if !state.fits() {
         return Conditioned::BadState;
     }
@@ -323,7 +330,8 @@ pub fn condition(
     repairs: &mut [u64],
 ) -> Called
     ensures answer { λ r. ⌜ said (r .answer) ≡ called (machineOf state (now (spans .entry)) (now (repairs .entry))) (now (samples .entry)) .said ⌝ }
-    ensures chain { λ r. ⌜ machineOf (r .state) (now (spans .exit)) (now (repairs .exit)) ≡ called (machineOf state (now (spans .entry)) (now (repairs .entry))) (now (samples .entry)) .machine ⌝ }
+    ensures chain { λ r. ⌜ machineOf (r .state) (now (spans .exit)) (now (repairs .exit))
+        ≡ called (machineOf state (now (spans .entry)) (now (repairs .entry))) (now (samples .entry)) .machine ⌝ }
     ensures written { λ r. ⌜ now (samples .exit) ≡ called (machineOf state (now (spans .entry)) (now (repairs .entry))) (now (samples .entry)) .samples ⌝ }
 {
     let unread = refusal(state, samples.len(), spans, repairs);
@@ -333,7 +341,7 @@ pub fn condition(
             answer: unread,
         };
     }
-    let held = state.held;
+    let held = state.counts.held;
     let found = sample_guard::first_unusable(&samples[held..]);
     if let Found::At(k) = found {
         return Called {

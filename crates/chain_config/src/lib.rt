@@ -5,7 +5,15 @@ ghost use lib.Dec.{eqb};
 ghost use Rattle.stage_mode.specs.View.{modeOf};
 ghost use Rattle.chain_config.specs.Config.{configOf, allOff, forced, observed, numberOf, settingRefusal, refusal};
 use iq::Calibration;
+use iq_monitor::ImageMonitor;
 use stage_mode::StageMode;
+
+// The most channels, spans in a ring and repairs.
+pub const SIZE_LIMIT: usize = 2048;
+
+pub const SPAN_LIMIT: usize = 256;
+
+pub const REPAIR_LIMIT: usize = 4096;
 
 // Which stages run, the receiver's rate and centre, the channels of a hop, the calibration, and how
 // many spans a ring and how many repairs the log holds.
@@ -60,19 +68,19 @@ pub fn settings_fit(fs: f64, n: usize, spans: usize, repairs: usize) -> Fitness
     if !dc::rate_fits(fs) {
         return Fitness::BadRate;
     }
-    if 2048 < n {
+    if SIZE_LIMIT < n {
         return Fitness::BadSize;
     }
     if spans == 0 {
         return Fitness::BadCapacity;
     }
-    if 256 < spans {
+    if SPAN_LIMIT < spans {
         return Fitness::BadCapacity;
     }
     if repairs == 0 {
         return Fitness::BadCapacity;
     }
-    if 4096 < repairs {
+    if REPAIR_LIMIT < repairs {
         return Fitness::BadCapacity;
     }
     Fitness::Fit
@@ -130,7 +138,7 @@ impl ConditioningConfig {
         if spans != log::STORE_WORDS * self.spans {
             return Fitness::BadLength;
         }
-        if words != 4 * self.n {
+        if words != ImageMonitor::CHANNEL_WORDS * self.n {
             return Fitness::BadLength;
         }
         Fitness::Fit

@@ -6,8 +6,8 @@ use lib.Dec.{eqb}
 use lib.ListN.{length}
 use lib.Ieee.{Float}
 use Rattle.rules.specs.Iq.{Settled, Off, Observing, Withheld, Correcting}
-use Rattle.rules.specs.Log.{Span, ringNumber, iq, Uncertain}
-use Rattle.rules.specs.Monitor.{Answer, noReport, report, suspectedSpan}
+use Rattle.rules.specs.Log.{Span, ringNumber, iq, Uncertain, storeWidth}
+use Rattle.rules.specs.Monitor.{Answer, noReport, report, suspectedSpan, channelWidth}
 use Rattle.rules.specs.Answers.{Said, accepted, nothing, refused}
 use Rattle.rules.specs.Refusals.{Cause, firstOf, badLength}
 use Rattle.log.specs.declared.Log.{Log}
@@ -20,6 +20,7 @@ use Rattle.iq_monitor.specs.Words.{wordsFit}
 use Rattle.iq_monitor.specs.Observe.{reportFrom, Seen, leaving, observed, hopSaid}
 use Rattle.chain_state.specs.declared.InputConditioner.{InputConditioner}
 use Rattle.chain_state.specs.Causes.{badState, badSpans}
+use Rattle.chain_state.specs.Changed.{afterHop}
 use Rattle.chain_hop.specs.declared.HopFitness.{HopFitness}
 use Rattle.chain_hop.specs.declared.HopFitness.the-variants as fitness
 use Rattle.chain_hop.specs.declared.HopSaid.{HopSaid}
@@ -37,8 +38,8 @@ unfoldable pub hopRefusal : InputConditioner → List ℕ → List Float → ℕ
 hopRefusal c spans ws =
     firstOf
     (badState c
-    ∷ badLength (24 * c .settings .spans) (length spans)
-    ∷ badLength (4 * c .settings .n) (length ws)
+    ∷ badLength (storeWidth * c .settings .spans) (length spans)
+    ∷ badLength (channelWidth * c .settings .n) (length ws)
     ∷ badSpans c spans
     ∷ badWords c ws
     ∷ [])
@@ -114,21 +115,6 @@ uncertain cap x m = markedAt cap x (ringNumber iq Uncertain) m
 abbrev pub noted : ℕ → Bool → HopAnswer → Logged → Logged
 noted cap observes a x = foldl (uncertain cap) x (cond observes (suspectedBy a) [])
 
-abbrev pub withMonitor : InputConditioner → ImageMonitor → Log → InputConditioner
-withMonitor c m l =
-    record {
-      settings = c .settings;
-      seen = c .seen;
-      released = c .released;
-      held = c .held;
-      suppressor = c .suppressor;
-      blocker = c .blocker;
-      monitor = m;
-      log = l;
-      repairs = c .repairs;
-      longruns = c .longruns;
-    }
-
 -- what is returned, the span store, and the monitor's words
 pub record Hopped : Type 0 where
   pub called : HopCalled
@@ -138,8 +124,8 @@ pub record Hopped : Type 0 where
 -- by what the monitor makes of it
 abbrev pub followed : InputConditioner → List ℕ → Seen → Hopped
 followed c spans s =
-    let x = noted (c .settings .spans) (isObserving (settledOf (c .settings .iq))) (s .seen .answer) (record { log = c .log; spans = spans }) in
-    record { called = record { state = withMonitor c (s .seen .monitor) (x .log); answer = answerOf (s .seen .answer) }; spans = x .spans; words = s .words }
+    let x = noted (c .settings .spans) (isObserving (settledOf (c .settings .iq))) (s .seen .answer) (record { log = c .notes .log; spans = spans }) in
+    record { called = record { state = afterHop c (s .seen .monitor) (x .log); answer = answerOf (s .seen .answer) }; spans = x .spans; words = s .words }
 
 unfoldable pub taken : InputConditioner → List ℕ → ℕ → List ℕ → List Float → Hopped
 taken c xs start spans ws = followed c spans (watched c xs start ws)

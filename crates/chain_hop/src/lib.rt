@@ -5,12 +5,16 @@ ghost use mathlib.Core.Bool.{true};
 ghost use mathlib.Core.List.{foldl};
 ghost use Prim.Native.Nat.{_*_, _≤_};
 ghost use lib.ListN.{length};
-ghost use Rattle.rules.specs.Monitor.{report, suspectedSpan};
+ghost use Rattle.rules.specs.Answers.{numberOf};
+ghost use Rattle.rules.specs.Monitor.{report, suspectedSpan, channelWidth};
+ghost use Rattle.rules.specs.Log.{storeWidth};
+ghost use Rattle.rules.specs.Constants.{sizeLimit};
 ghost use Rattle.log.specs.View.{Logged};
 ghost use Rattle.log.specs.Check.{logFits};
 ghost use Rattle.iq.specs.View.{settledOf};
 ghost use Rattle.iq_monitor.specs.Observe.{reportFrom};
-ghost use Rattle.chain_hop.specs.Hops.{hopRefusal, fitnessNumber, saidHop, answerOf, isOffIq, isObserving, hopTold, watched, uncertain, noted, taken, hopOf};
+ghost use Rattle.chain_hop.specs.Hops.{hopRefusal, fitnessNumber, saidHop, answerOf, isOffIq, isObserving, hopTold, watched, uncertain, noted, taken};
+ghost use Rattle.chain_hop.specs.Hops.{hopOf};
 ghost use Rattle.chain_hop.specs.HopReady.{Told, Window};
 use chain_state::InputConditioner;
 use iq::Iq;
@@ -48,6 +52,21 @@ pub enum HopSaid {
 pub struct HopCalled {
     pub state: InputConditioner,
     pub answer: HopSaid,
+}
+
+// Document 01's number of a refusal, and 0 where there is none.
+pub fn number(answer: HopSaid) -> u64
+    ensures { λ r. ⌜ r ≡ numberOf (saidHop answer) ⌝ }
+{
+    match answer {
+        HopSaid::Nothing => 0,
+        HopSaid::NoReport => 0,
+        HopSaid::Report(_) => 0,
+        HopSaid::BadState => 5,
+        HopSaid::BadLength => 4,
+        HopSaid::Early => 9,
+        HopSaid::Beyond(_) => 7,
+    }
 }
 
 fn is_off(iq: Iq) -> bool
@@ -89,14 +108,14 @@ fn hop_refusal(state: InputConditioner, spans: &[u64], words: &[f64]) -> HopFitn
     ensures { λ r. ⌜ fitnessNumber r ≡ hopRefusal state (now (spans .entry)) (now (words .entry)) ⌝ }
 {
     let settings = state.settings;
-    let log = state.log;
+    let log = state.notes.log;
     if !state.fits() {
         return HopFitness::BadState;
     }
     if spans.len() != log::STORE_WORDS * settings.spans {
         return HopFitness::BadLength;
     }
-    if words.len() != 4 * settings.n {
+    if words.len() != ImageMonitor::CHANNEL_WORDS * settings.n {
         return HopFitness::BadLength;
     }
     if !log.ends_fit(spans, settings.spans) {
@@ -110,9 +129,11 @@ fn hop_refusal(state: InputConditioner, spans: &[u64], words: &[f64]) -> HopFitn
 
 // Marks a window that is suspected.
 fn mark_window(log: Log, spans: &mut [u64], capacity: usize, evidence: Evidence) -> Log
-    requires { ⌜ (logFits capacity log ≡ true) × (length (now spans) ≡ capacity * 24) ⌝ }
+    requires { ⌜ (logFits capacity log ≡ true) × (length (now spans) ≡ capacity * storeWidth) ⌝ }
     requires { ⌜ Window evidence ⌝ }
-    ensures { λ r. ⌜ _≡_ {A = Logged} (record { log = r; spans = now (spans .exit) }) (foldl (uncertain capacity) (record { log = log; spans = now (spans .entry) }) (suspectedSpan (report (reportFrom evidence)))) ⌝ }
+    ensures { λ r.
+        ⌜ _≡_ {A = Logged} (record { log = r; spans = now (spans .exit) })
+        (foldl (uncertain capacity) (record { log = log; spans = now (spans .entry) }) (suspectedSpan (report (reportFrom evidence)))) ⌝ }
 {
     if !evidence.suspected {
         return log;
@@ -130,9 +151,10 @@ fn mark_window(log: Log, spans: &mut [u64], capacity: usize, evidence: Evidence)
 
 // Marks the window of the monitor's answer, if it suspects one.
 fn note(log: Log, spans: &mut [u64], capacity: usize, answer: HopAnswer) -> Log
-    requires { ⌜ (logFits capacity log ≡ true) × (length (now spans) ≡ capacity * 24) ⌝ }
+    requires { ⌜ (logFits capacity log ≡ true) × (length (now spans) ≡ capacity * storeWidth) ⌝ }
     requires { ⌜ Told answer ⌝ }
-    ensures { λ r. ⌜ _≡_ {A = Logged} (record { log = r; spans = now (spans .exit) }) (noted capacity true answer (record { log = log; spans = now (spans .entry) })) ⌝ }
+    ensures { λ r.
+        ⌜ _≡_ {A = Logged} (record { log = r; spans = now (spans .exit) }) (noted capacity true answer (record { log = log; spans = now (spans .entry) })) ⌝ }
 {
     match answer {
         HopAnswer::Nothing => log,
@@ -145,9 +167,11 @@ fn note(log: Log, spans: &mut [u64], capacity: usize, answer: HopAnswer) -> Log
 
 // The same, only while observing.
 fn noted(log: Log, spans: &mut [u64], capacity: usize, iq: Iq, answer: HopAnswer) -> Log
-    requires { ⌜ (logFits capacity log ≡ true) × (length (now spans) ≡ capacity * 24) ⌝ }
+    requires { ⌜ (logFits capacity log ≡ true) × (length (now spans) ≡ capacity * storeWidth) ⌝ }
     requires { ⌜ Told answer ⌝ }
-    ensures { λ r. ⌜ _≡_ {A = Logged} (record { log = r; spans = now (spans .exit) }) (noted capacity (isObserving (settledOf iq)) answer (record { log = log; spans = now (spans .entry) })) ⌝ }
+    ensures { λ r.
+        ⌜ _≡_ {A = Logged} (record { log = r; spans = now (spans .exit) })
+        (noted capacity (isObserving (settledOf iq)) answer (record { log = log; spans = now (spans .entry) })) ⌝ }
 {
     if !is_observing(iq) {
         return log;
@@ -157,8 +181,10 @@ fn noted(log: Log, spans: &mut [u64], capacity: usize, iq: Iq, answer: HopAnswer
 
 // What the monitor makes of a hop, unless IQ is off.
 fn watched(state: InputConditioner, x: &[u64], start: u64, words: &mut [f64]) -> Observed
-    requires { ⌜ (length (now words) ≡ 4 * state .settings .n) × (state .settings .n ≤ 2048) ⌝ }
-    ensures { λ r. ⌜ (r ≡ watched state (now (x .entry)) start (now (words .entry)) .seen) × (now (words .exit) ≡ watched state (now (x .entry)) start (now (words .entry)) .words) ⌝ }
+    requires { ⌜ (length (now words) ≡ channelWidth * state .settings .n) × (state .settings .n ≤ sizeLimit) ⌝ }
+    ensures { λ r.
+        ⌜ (r ≡ watched state (now (x .entry)) start (now (words .entry)) .seen)
+        × (now (words .exit) ≡ watched state (now (x .entry)) start (now (words .entry)) .words) ⌝ }
 {
     let settings = state.settings;
     let iq = settings.iq;
@@ -187,14 +213,16 @@ fn take_hop(
 {
     let settings = state.settings;
     let iq = settings.iq;
-    let log = state.log;
+    let mut notes = state.notes;
+    let log = notes.log;
     let seen = watched(state, x, start, words);
     let answer = seen.answer;
     let monitor = seen.monitor;
     let marked = noted(log, spans, settings.spans, iq, answer);
+    notes.log = marked;
     let mut after = state;
     after.monitor = monitor;
-    after.log = marked;
+    after.notes = notes;
     HopCalled {
         state: after,
         answer: answer_of(answer),

@@ -8,7 +8,7 @@ use Rattle.complex.specs.Complex.{Complex}
 use Rattle.complex.specs.View.{view64, make64}
 use Rattle.rules.specs.Constants.{spanLimit}
 use Rattle.rules.specs.Mode.{Mode, runs}
-use Rattle.rules.specs.Log.{Span, spanOf, spansOf}
+use Rattle.rules.specs.Log.{Span, spanOf, spansOf, storeWidth}
 use Rattle.rules.specs.Chain as rules
 use Rattle.rules.specs.Chain.{noLevel, levelIs}
 use Rattle.log.specs.declared.Ring.{Ring}
@@ -45,14 +45,9 @@ stateLevel c = levelWhere (modeOf (c .settings .dc)) (view64 (c .blocker .dc))
 unfoldable pub logOf : InputConditioner → ConditioningLog
 logOf c =
     record {
-      seen = c .seen;
-      released = c .released;
-      held = c .held;
-      counts = c .log .counts;
-      rings = c .log .rings;
-      dropped = droppedInAll (c .log);
-      repairs = c .repairs;
-      longruns = c .longruns;
+      counts = c .counts;
+      notes = c .notes;
+      dropped = droppedInAll (c .notes .log);
       dclevel = levelFrom (stateLevel c);
       iq = c .settings .iq;
     }
@@ -76,7 +71,7 @@ numberIn (s ∷ l) (suc i) = numberIn l i
 
 -- 'spans 1..256', and a store of '24·spans' words
 abbrev pub storeFits : ℕ → ℕ → Bool
-storeFits cap words = ltb 0 cap && leb cap spanLimit && eqb words (24 * cap)
+storeFits cap words = ltb 0 cap && leb cap spanLimit && eqb words (storeWidth * cap)
 
 -- not: 'ring count or head out of range'
 abbrev pub readable : ℕ → Ring → Bool
@@ -84,8 +79,9 @@ readable cap r = ltb (r .head) cap && leb (r .count) cap
 
 -- the spans of ring number k, the oldest first
 abbrev pub spansIn : InputConditioner → List ℕ → ℕ → List Span
-spansIn c ws k = spansOf (c .settings .spans) (marksAt (c .settings .spans) (record { log = c .log; spans = ws }) k .ring)
+spansIn c ws k = spansOf (c .settings .spans) (marksAt (c .settings .spans) (record { log = c .notes .log; spans = ws }) k .ring)
 
 -- span number i of ring number k, where the store and the ring can be read
 unfoldable pub spanRead : InputConditioner → List ℕ → ℕ → ℕ → Found
-spanRead c ws k i = let cap = c .settings .spans in cond (storeFits cap (length ws) && readable cap (ringOf (c .log) k)) (numberIn (spansIn c ws k) i) noSpan
+spanRead c ws k i = let cap = c .settings .spans in
+    cond (storeFits cap (length ws) && readable cap (ringOf (c .notes .log) k)) (numberIn (spansIn c ws k) i) noSpan

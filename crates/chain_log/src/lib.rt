@@ -11,11 +11,13 @@ ghost use Rattle.log.specs.View.{stageOf, markOf, marksAt};
 ghost use Rattle.log.specs.Check.{ringOf};
 ghost use Rattle.stage_mode.specs.View.{modeOf};
 ghost use Rattle.chain_log.specs.Reading.{levelOf, levelWhere, stateLevel, logOf, saidSpan, storeFits, readable, spanRead};
+use chain_state::Counts;
 use chain_state::InputConditioner;
 use complex::Complex64;
 use iq::Iq;
 use log::Log;
 use log::Mark;
+use log::Notes;
 use log::Ring;
 use log::Span;
 use log::Stage;
@@ -31,14 +33,9 @@ pub enum DcLevel {
 // length and dropped spans, and the dropped spans of all; the repair ring; the runs that were too long;
 // the DC level, and what IQ settled. The spans and repairs themselves stand in the lent stores.
 pub struct ConditioningLog {
-    pub seen: u64,
-    pub released: u64,
-    pub held: usize,
-    pub counts: [u64; 12],
-    pub rings: [Ring; 12],
+    pub counts: Counts,
+    pub notes: Notes,
     pub dropped: u64,
-    pub repairs: Ring,
-    pub longruns: u64,
     pub dclevel: DcLevel,
     pub iq: Iq,
 }
@@ -69,21 +66,15 @@ pub fn log(state: InputConditioner) -> ConditioningLog
     let iq = settings.iq;
     let blocker = state.blocker;
     let dc = blocker.dc;
-    let marks = state.log;
-    let counts = marks.counts;
-    let rings = marks.rings;
-    let repairs = state.repairs;
+    let counts = state.counts;
+    let notes = state.notes;
+    let marks = notes.log;
     let dropped = marks.dropped();
     let dclevel = dc_level(mode, dc);
     ConditioningLog {
-        seen: state.seen,
-        released: state.released,
-        held: state.held,
         counts,
-        rings,
+        notes,
         dropped,
-        repairs,
-        longruns: state.longruns,
         dclevel,
         iq,
     }
@@ -96,7 +87,7 @@ fn store_fits(capacity: usize, words: usize) -> bool
     if capacity == 0 {
         return false;
     }
-    if 256 < capacity {
+    if chain_config::SPAN_LIMIT < capacity {
         return false;
     }
     words == log::STORE_WORDS * capacity
@@ -119,10 +110,12 @@ fn has_span(ring: Ring, capacity: usize, i: usize) -> bool
 fn read_span(log: Log, spans: &[u64], capacity: usize, which: usize, i: usize) -> Span
     requires { ⌜ (which < 12) × (storeFits capacity (length (now spans)) ≡ true) ⌝ }
     requires { ⌜ (readable capacity (ringOf log which) && ltb i (ringOf log which .count)) ≡ true ⌝ }
-    ensures { λ s. ⌜ spanOf (s .start) (s .len) ≡ getD (spansOf capacity (marksAt capacity (record { log = log; spans = now (spans .entry) }) which .ring)) i (spanOf 0 0) ⌝ }
+    ensures { λ s.
+        ⌜ spanOf (s .start) (s .len)
+        ≡ getD (spansOf capacity (marksAt capacity (record { log = log; spans = now (spans .entry) }) which .ring)) i (spanOf 0 0) ⌝ }
 {
-    let a = which * (capacity * 2);
-    let e = a + capacity * 2;
+    let a = which * (capacity * log::SPAN_WORDS);
+    let e = a + capacity * log::SPAN_WORDS;
     let ring = log.rings[which];
     log::span_at(ring, &spans[a..e], capacity, i)
 }
@@ -137,7 +130,7 @@ pub fn span(state: InputConditioner, spans: &[u64], stage: Stage, kind: Mark, i:
         return SpanRead::NoSpan;
     }
     let which = log::ring_number(stage, kind);
-    let log = state.log;
+    let log = state.notes.log;
     let ring = log.rings[which];
     if !has_span(ring, capacity, i) {
         return SpanRead::NoSpan;

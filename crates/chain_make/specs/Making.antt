@@ -8,7 +8,7 @@ use Rattle.rules.specs.Dc.{corner, firstLevel}
 use Rattle.rules.specs.Iq.{Settled, Off, Observing, Withheld, Correcting}
 use Rattle.rules.specs.Chain.{Config, settledBy, settingOf}
 use Rattle.rules.specs.Mode.{runs}
-use Rattle.log.specs.View.{freshRing, freshLog}
+use Rattle.log.specs.View.{freshNotes}
 use Rattle.impulse.specs.Machine as impulse
 use Rattle.dc.specs.Blocker.{blockerOf}
 use Rattle.iq.specs.declared.Iq.{Iq}
@@ -48,15 +48,11 @@ unfoldable pub freshState : ConditioningConfig → InputConditioner
 freshState g =
     record {
       settings = freshSettings g;
-      seen = 0;
-      released = 0;
-      held = 0;
+      counts = record { seen = 0; released = 0; held = 0 };
       suppressor = impulse.fresh (settingOf (configOf g));
       blocker = blockerOf (corner (g .fs)) firstLevel;
       monitor = image.fresh;
-      log = freshLog;
-      repairs = freshRing;
-      longruns = 0;
+      notes = freshNotes;
     }
 
 -- ---- the answer

@@ -9,13 +9,13 @@ ghost use Rattle.chain_config.specs.Config.{configOf, numberOf};
 ghost use Rattle.chain_make.specs.Making.{freshSettings, freshState, numbered, saidMaking, makingNumber, makingSaid, isMade, madeWords};
 use chain_config::ConditioningConfig;
 use chain_config::Fitness;
+use chain_state::Counts;
 use chain_state::InputConditioner;
 use chain_state::Settings;
 use dc::DcBlocker;
 use impulse::ImpulseSuppressor;
 use iq_monitor::ImageMonitor;
-use log::Log;
-use log::Ring;
+use log::Notes;
 use stage_mode::StageMode;
 
 // What making answers.
@@ -85,19 +85,19 @@ fn fresh_state(config: ConditioningConfig) -> InputConditioner
     let suppressor = fresh_suppressor(config);
     let blocker = DcBlocker::fresh(config.fs);
     let monitor = ImageMonitor::fresh();
-    let log = Log::fresh();
-    let repairs = Ring::fresh();
-    InputConditioner {
-        settings,
+    let notes = Notes::fresh();
+    let counts = Counts {
         seen: 0,
         released: 0,
         held: 0,
+    };
+    InputConditioner {
+        settings,
+        counts,
         suppressor,
         blocker,
         monitor,
-        log,
-        repairs,
-        longruns: 0,
+        notes,
     }
 }
 
@@ -156,11 +156,18 @@ pub fn with_geometry(
     repairs: &mut [u64],
     words: &mut [f64],
 ) -> Made
-    ensures answer { λ r. ⌜ saidMaking (r .answer) ≡ makingSaid (configOf config) (length (now (spans .entry))) (length (now (repairs .entry))) (length (now (words .entry))) ⌝ }
+    ensures answer { λ r. ⌜ saidMaking (r .answer)
+        ≡ makingSaid (configOf config) (length (now (spans .entry))) (length (now (repairs .entry))) (length (now (words .entry))) ⌝ }
     ensures state { λ r. ⌜ r .state ≡ freshState config ⌝ }
-    ensures spans { λ r. ⌜ now (spans .exit) ≡ madeWords 0 (makingSaid (configOf config) (length (now (spans .entry))) (length (now (repairs .entry))) (length (now (words .entry)))) (now (spans .entry)) ⌝ }
-    ensures repairs { λ r. ⌜ now (repairs .exit) ≡ madeWords 0 (makingSaid (configOf config) (length (now (spans .entry))) (length (now (repairs .entry))) (length (now (words .entry)))) (now (repairs .entry)) ⌝ }
-    ensures words { λ r. ⌜ now (words .exit) ≡ madeWords zeroF (makingSaid (configOf config) (length (now (spans .entry))) (length (now (repairs .entry))) (length (now (words .entry)))) (now (words .entry)) ⌝ }
+    ensures spans { λ r. ⌜ now (spans .exit)
+        ≡ madeWords 0 (makingSaid (configOf config) (length (now (spans .entry))) (length (now (repairs .entry))) (length (now (words .entry))))
+        (now (spans .entry)) ⌝ }
+    ensures repairs { λ r. ⌜ now (repairs .exit)
+        ≡ madeWords 0 (makingSaid (configOf config) (length (now (spans .entry))) (length (now (repairs .entry))) (length (now (words .entry))))
+        (now (repairs .entry)) ⌝ }
+    ensures words { λ r. ⌜ now (words .exit)
+        ≡ madeWords zeroF (makingSaid (configOf config) (length (now (spans .entry))) (length (now (repairs .entry))) (length (now (words .entry))))
+        (now (words .entry)) ⌝ }
 {
     let state = fresh_state(config);
     let answer = answer_to(config, spans.len(), repairs.len(), words.len());

@@ -108,7 +108,8 @@ module _ {A : Type 0} {lt : A → A → Bool} {good : A → Type 0} (o : Ordered
       let e = t .2 in
       let m = ap length e ∙ length-append u (a ∷ v) in
       let r = length-append u v in
-      let rest = arranged (o .key a) s (u ++ v) (c .2) (others a u v (o .key a) s (omega arith) (c .2) (subst (λ (l : List A). AllIn l s) e (i .1))) (omega arith) in (
+      let rest =
+      arranged (o .key a) s (u ++ v) (c .2) (others a u v (o .key a) s (omega arith) (c .2) (subst (λ (l : List A). AllIn l s) e (i .1))) (omega arith) in (
         subst (All good) (sym e) (all-join good a u v (c .0) (rest .0)),
         ap (sort lt) e ∙ sort-pull a u v (c .0) (rest .0) ∙ ap (insert lt a) (rest .1) ∙ in-front a s (c .0) (c .2),
       )

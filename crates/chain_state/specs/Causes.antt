@@ -12,4 +12,4 @@ badState c = record { holds = not (stateFits c); number = 5 }
 
 -- 'newest span's sum > 2^49'
 abbrev pub badSpans : InputConditioner → List ℕ → Cause
-badSpans c spans = record { holds = not (endsFit (c .settings .spans) (record { log = c .log; spans = spans })); number = 5 }
+badSpans c spans = record { holds = not (endsFit (c .settings .spans) (record { log = c .notes .log; spans = spans })); number = 5 }

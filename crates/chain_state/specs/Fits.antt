@@ -11,7 +11,7 @@ use Rattle.rules.specs.Sort.{sort}
 use Rattle.rules.specs.Guard.{magnitude}
 use Rattle.rules.specs.Refusals.{withinLimit}
 use Rattle.rules.specs.Iq.{Settled, Off, Observing, Withheld, Correcting, accepted}
-use Rattle.rules.specs.Impulse.{Setting, standard, width, lookahead, judged, blockLength}
+use Rattle.rules.specs.Impulse.{windowSize, lookaheadSize, nextJudged, blockLength}
 use Rattle.amplitude_limit.specs.Limit.{limited}
 use Rattle.log.specs.Check.{allTo, ringFits, logFits}
 use Rattle.impulse.specs.declared.Run.{Run}
@@ -28,6 +28,7 @@ use Rattle.iq_monitor.specs.declared.Begun.the-variants.{Never, At}
 use Rattle.iq_monitor.specs.declared.ImageMonitor.{ImageMonitor}
 use Rattle.chain_config.specs.Config.{settingRefusal}
 use Rattle.chain_state.specs.declared.Settings.{Settings}
+use Rattle.chain_state.specs.declared.Counts.{Counts}
 use Rattle.chain_state.specs.declared.InputConditioner.{InputConditioner}
 
 -- not: 'a counter > 2^52'
@@ -40,35 +41,19 @@ counter k = leb k counterLimit
 unfoldable pub settingsFit : Settings → ℕ → Bool
 settingsFit s block = eqb (settingRefusal (s .fs) (s .n) (s .spans) (s .repairs)) 0 && eqb block (blockLength (s .fs))
 
--- ---- the impulse stage's fixed numbers, whatever its block length and mode
-
-abbrev fixed : Setting
-fixed = standard 0 true
-
--- 'window 33'
-abbrev pub windowSize : ℕ
-windowSize = width fixed
-
--- 'lookahead 21'
-abbrev pub lookaheadSize : ℕ
-lookaheadSize = lookahead fixed
-
--- 'the next judged', of so many received
-abbrev pub nextJudged : ℕ → ℕ
-nextJudged received = judged fixed received
-
 -- ---- the samples seen, released and held
 
 abbrev pub applies : InputConditioner → Bool
-applies c = c .settings .impulse && c .suppressor .gate .apply
+applies c = c .settings .impulse && c .suppressor .gate .settings .apply
 
 -- 'min(21, received) if impulse applies, else .. 0'
 abbrev pub heldBy : Bool → ℕ → ℕ
 heldBy applies seen = cond applies (min lookaheadSize seen) 0
 
 -- not: 'released + held ≠ received; held not min(21, received) if impulse applies, else not 0'
-unfoldable pub countsFit : Bool → ℕ → ℕ → ℕ → Bool
-countsFit applies seen released held = counter seen && counter released && eqb held (heldBy applies seen) && eqb (released + held) seen
+unfoldable pub countsFit : Bool → Counts → Bool
+countsFit applies n =
+    counter (n .seen) && counter (n .released) && eqb (n .held) (heldBy applies (n .seen)) && eqb (n .released + n .held) (n .seen)
 
 -- ---- the impulse stage
 
@@ -87,9 +72,9 @@ leftFits (Neighbour x) = withinLimit x
 
 unfoldable pub gateFits : Gate → Bool
 gateFits g =
-    counter (g .received) && counter (g .block) && counter (g .flagged)
-    && runFits (g .run) (nextJudged (g .received))
-    && leftFits (g .left)
+    counter (g .received) && counter (g .block .number) && counter (g .block .flagged)
+    && runFits (g .mending .run) (nextJudged (g .received))
+    && leftFits (g .mending .left)
 
 -- not: 'a window power not within 1e36; a window .. power with its sign bit set'
 unfoldable pub powerFits : Float → Bool
@@ -152,7 +137,7 @@ monitorFits m = counter (m .end) && begunFits (m .first) (m .end)
 
 -- not: 'ring count or head out of range', of spans and of repairs
 unfoldable pub logsFit : InputConditioner → Bool
-logsFit c = logFits (c .settings .spans) (c .log) && ringFits (c .settings .repairs) (c .repairs) (c .longruns)
+logsFit c = logFits (c .settings .spans) (c .notes .log) && ringFits (c .settings .repairs) (c .notes .repairs) (c .notes .longruns)
 
 unfoldable pub stagesFit : InputConditioner → Bool
 stagesFit c = blockerFits (c .blocker) && coefficientFits (settledOf (c .settings .iq)) && monitorFits (c .monitor)
@@ -160,9 +145,9 @@ stagesFit c = blockerFits (c .blocker) && coefficientFits (settledOf (c .setting
 -- the settings, the counts and the gate
 unfoldable pub frontFits : InputConditioner → Bool
 frontFits c =
-    settingsFit (c .settings) (c .suppressor .gate .blocklen)
-    && countsFit (applies c) (c .seen) (c .released) (c .held)
+    settingsFit (c .settings) (c .suppressor .gate .settings .blocklen)
+    && countsFit (applies c) (c .counts)
     && gateFits (c .suppressor .gate)
 
 unfoldable pub stateFits : InputConditioner → Bool
-stateFits c = frontFits c && suppressorFits (c .suppressor) (c .settings .impulse) (c .seen) && logsFit c && stagesFit c
+stateFits c = frontFits c && suppressorFits (c .suppressor) (c .settings .impulse) (c .counts .seen) && logsFit c && stagesFit c

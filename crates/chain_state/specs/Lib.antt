@@ -2,5 +2,6 @@
 pub mod Fits
 pub mod Occurs
 pub mod Causes
+pub mod Changed
 -- what is proved of them
 pub mod laws

@@ -10,12 +10,15 @@ ghost use lib.Ieee.{binary64, lt, eq, toBits};
 ghost use Rattle.rules.specs.Constants.{zeroF};
 ghost use Rattle.rules.specs.Sort.{sort};
 ghost use Rattle.rules.specs.Lists.{All};
+ghost use Rattle.rules.specs.Impulse.{windowSize, lookaheadSize};
 ghost use Rattle.amplitude_limit.specs.Limit.{limited};
 ghost use Rattle.log.specs.Check.{allTo};
 ghost use Rattle.impulse_window.specs.Rising.{climbs, Held};
 ghost use Rattle.iq.specs.View.{settledOf};
 ghost use Rattle.chain_state.specs.Occurs.{occurs};
-ghost use Rattle.chain_state.specs.Fits.{counter, windowSize, lookaheadSize, settingsFit, applies, heldBy, countsFit, endsAt, runFits, leftFits, gateFits, powerFits, powersFit, samplesFit, arraysFit, sortedFits, suppressorFits, blockerFits, coefficientFits, begunFits, monitorFits, logsFit, stagesFit, frontFits, stateFits};
+ghost use Rattle.chain_state.specs.Fits.{counter, settingsFit, applies, heldBy, countsFit, endsAt, runFits, leftFits, gateFits, powerFits, powersFit};
+ghost use Rattle.chain_state.specs.Fits.{samplesFit, arraysFit, sortedFits, suppressorFits, blockerFits, coefficientFits, begunFits, monitorFits};
+ghost use Rattle.chain_state.specs.Fits.{logsFit, stagesFit, frontFits, stateFits};
 use dc::DcBlocker;
 use impulse::Gate;
 use impulse::ImpulseSuppressor;
@@ -25,8 +28,7 @@ use impulse::Run;
 use iq::Iq;
 use iq_monitor::Begun;
 use iq_monitor::ImageMonitor;
-use log::Log;
-use log::Ring;
+use log::Notes;
 use stage_mode::StageMode;
 
 // What making settled. `impulse`: that stage runs; whether it applies or observes stands in its gate.
@@ -40,18 +42,20 @@ pub struct Settings {
     pub iq: Iq,
 }
 
-// The samples seen, released and held; the stages; the log.
-pub struct InputConditioner {
-    pub settings: Settings,
+// How many samples came, how many were handed on, and how many are held back.
+pub struct Counts {
     pub seen: u64,
     pub released: u64,
     pub held: usize,
+}
+
+pub struct InputConditioner {
+    pub settings: Settings,
+    pub counts: Counts,
     pub suppressor: ImpulseSuppressor,
     pub blocker: DcBlocker,
     pub monitor: ImageMonitor,
-    pub log: Log,
-    pub repairs: Ring,
-    pub longruns: u64,
+    pub notes: Notes,
 }
 
 // ---- the settings
@@ -88,19 +92,19 @@ fn held_by(applies: bool, seen: u64) -> usize
     holds(ImpulseSuppressor::LOOKAHEAD, seen)
 }
 
-fn counts_fit(applies: bool, seen: u64, released: u64, held: usize) -> bool
-    ensures { λ r. ⌜ r ≡ countsFit applies seen released held ⌝ }
+fn counts_fit(applies: bool, counts: Counts) -> bool
+    ensures { λ r. ⌜ r ≡ countsFit applies counts ⌝ }
 {
-    if log::COUNTER_LIMIT < seen {
+    if log::COUNTER_LIMIT < counts.seen {
         return false;
     }
-    if log::COUNTER_LIMIT < released {
+    if log::COUNTER_LIMIT < counts.released {
         return false;
     }
-    if held != held_by(applies, seen) {
+    if counts.held != held_by(applies, counts.seen) {
         return false;
     }
-    released + held as u64 == seen
+    counts.released + counts.held as u64 == counts.seen
 }
 
 // ---- the impulse stage
@@ -151,9 +155,10 @@ fn counters_fit(received: u64, block: u64, flagged: u64) -> bool
 fn gate_fits(g: Gate) -> bool
     ensures { λ r. ⌜ r ≡ gateFits g ⌝ }
 {
-    let run = g.run;
-    let left = g.left;
-    if !counters_fit(g.received, g.block, g.flagged) {
+    let mending = g.mending;
+    let run = mending.run;
+    let left = mending.left;
+    if !counters_fit(g.received, g.block.number, g.block.flagged) {
         return false;
     }
     if !run_fits(run, impulse::next_judged(g.received)) {
@@ -285,7 +290,7 @@ fn equal(a: f32, b: f32) -> bool
 }
 
 // Whether the powers are above 0, and each above the one before.
-fn ascends(sorted: &[f32; ImpulseSuppressor::WINDOW]) -> bool
+fn strictly_ascends(sorted: &[f32; ImpulseSuppressor::WINDOW]) -> bool
     requires { ⌜ length (now sorted) ≡ windowSize ⌝ }
     ensures result { λ r. ⌜ r ≡ climbs lt zeroF (now (sorted .entry)) ⌝ }
     ensures values { λ r. ⌜ All Held (now (sorted .entry)) ⌝ }
@@ -340,7 +345,7 @@ fn is_arranged(
     requires { ⌜ length (now window) ≡ windowSize ⌝ ∗ ⌜ length (now sorted) ≡ windowSize ⌝ }
     ensures { λ r. ⌜ (r ≡ true → sort lt (now (window .entry)) ≡ now (sorted .entry)) ⌝ }
 {
-    if !ascends(sorted) {
+    if !strictly_ascends(sorted) {
         return false;
     }
     all_occur(window, sorted)
@@ -467,7 +472,7 @@ impl InputConditioner {
         if !settings.impulse {
             return false;
         }
-        gate.apply
+        gate.settings.apply
     }
 
     // The settings, the counts and the gate.
@@ -475,19 +480,20 @@ impl InputConditioner {
         ensures { λ r. ⌜ r ≡ frontFits self ⌝ }
     {
         let settings = self.settings;
+        let counts = self.counts;
         let suppressor = self.suppressor;
         let gate = suppressor.gate;
-        if !settings_fit(settings, gate.blocklen) {
+        if !settings_fit(settings, gate.settings.blocklen) {
             return false;
         }
-        if !counts_fit(self.applies(), self.seen, self.released, self.held) {
+        if !counts_fit(self.applies(), counts) {
             return false;
         }
         gate_fits(gate)
     }
 
     fn impulse_fits(self) -> bool
-        ensures { λ r. ⌜ r ≡ suppressorFits (self .suppressor) (self .settings .impulse) (self .seen) ⌝ }
+        ensures { λ r. ⌜ r ≡ suppressorFits (self .suppressor) (self .settings .impulse) (self .counts .seen) ⌝ }
     {
         let settings = self.settings;
         let suppressor = self.suppressor;
@@ -495,19 +501,20 @@ impl InputConditioner {
         if is_untouched(settings.impulse, gate.received) {
             return true;
         }
-        suppressor_fits(suppressor, settings.impulse, self.seen)
+        suppressor_fits(suppressor, settings.impulse, self.counts.seen)
     }
 
     fn logs_fit(self) -> bool
         ensures { λ r. ⌜ r ≡ logsFit self ⌝ }
     {
         let settings = self.settings;
-        let log = self.log;
-        let repairs = self.repairs;
+        let notes = self.notes;
+        let log = notes.log;
+        let repairs = notes.repairs;
         if !log.fits(settings.spans) {
             return false;
         }
-        log::ring_fits(repairs, self.longruns, settings.repairs)
+        log::ring_fits(repairs, notes.longruns, settings.repairs)
     }
 
     fn stages_fit(self) -> bool

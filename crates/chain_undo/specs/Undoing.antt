@@ -32,7 +32,7 @@ recordsFit (e ∷ es) = recordFits e && recordsFit es
 
 -- those that a state holds, with its lent store
 abbrev pub recordsOf : InputConditioner → List ℕ → List (List ℕ)
-recordsOf c repairs = heldRecords (c .settings .repairs) (ringIn (c .repairs) repairs)
+recordsOf c repairs = heldRecords (c .settings .repairs) (ringIn (c .notes .repairs) repairs)
 
 -- ---- what is declined: '5, 4', 5's rule on lent words straight after
 
@@ -41,7 +41,7 @@ abbrev pub badRecords : InputConditioner → List ℕ → Cause
 badRecords c repairs = record { holds = not (recordsFit (recordsOf c repairs)); number = 5 }
 
 unfoldable pub undoRefusal : InputConditioner → List ℕ → ℕ
-undoRefusal c repairs = firstOf (badState c ∷ badLength (6 * c .settings .repairs) (length repairs) ∷ badRecords c repairs ∷ [])
+undoRefusal c repairs = firstOf (badState c ∷ badLength (repairWidth * c .settings .repairs) (length repairs) ∷ badRecords c repairs ∷ [])
 
 -- ---- the operation
 

@@ -6,7 +6,8 @@ ghost use mathlib.Core.Bool.{true};
 ghost use Prim.Native.Nat.{_+_, _≤_};
 ghost use lib.ListN.{length};
 ghost use Rattle.rules.specs.Lists.{at};
-ghost use Rattle.rules.specs.Log.{Sound};
+ghost use Rattle.rules.specs.Log.{Sound, repairWidth};
+ghost use Rattle.rules.specs.Answers.{numberOf};
 ghost use Rattle.rules.specs.Undo.{heldRecords, returned, undone, undoneAll};
 ghost use Rattle.log.specs.View.{ringIn};
 ghost use Rattle.chain_undo.specs.Undoing.{recordIn, recordFits, recordsFit, said, undoOf};
@@ -20,6 +21,17 @@ pub enum Undone {
     BadState,
     // Number 4.
     BadLength,
+}
+
+// Document 01's number of a refusal, and 0 where there is none.
+pub fn number(answer: Undone) -> u64
+    ensures { λ r. ⌜ r ≡ numberOf (said answer) ⌝ }
+{
+    match answer {
+        Undone::Restored => 0,
+        Undone::BadState => 5,
+        Undone::BadLength => 4,
+    }
 }
 
 // Whether the record whose words begin at this place has a length of 1 to 4 and starts in range.
@@ -40,7 +52,7 @@ fn record_fits(repairs: &[u64], place: usize) -> bool
 
 // Whether every held record does.
 fn records_fit(ring: Ring, repairs: &[u64], capacity: usize) -> bool
-    requires { ⌜ Sound 6 capacity (ringIn ring (now repairs)) ⌝ }
+    requires { ⌜ Sound repairWidth capacity (ringIn ring (now repairs)) ⌝ }
     ensures { λ r. ⌜ r ≡ recordsFit (heldRecords capacity (ringIn ring (now (repairs .entry)))) ⌝ }
 {
     let head = ring.head;
@@ -70,7 +82,8 @@ fn put_back(samples: &mut [u64], first: u64, k: u64, original: u64)
 fn undo_record(samples: &mut [u64], first: u64, repairs: &[u64], place: usize)
     requires { ⌜ place + 6 ≤ length (now repairs) ⌝ }
     requires { ⌜ recordFits (recordIn (now repairs) place) ≡ true ⌝ }
-    ensures { λ r. ⌜ now (samples .exit) ≡ undone first (recordIn (now (repairs .entry)) place) (at (recordIn (now (repairs .entry)) place) 1) (now (samples .entry)) ⌝ }
+    ensures { λ r.
+        ⌜ now (samples .exit) ≡ undone first (recordIn (now (repairs .entry)) place) (at (recordIn (now (repairs .entry)) place) 1) (now (samples .entry)) ⌝ }
 {
     let start = repairs[place];
     let len = repairs[place + 1];
@@ -84,7 +97,7 @@ fn undo_record(samples: &mut [u64], first: u64, repairs: &[u64], place: usize)
 
 // Those of every held record, oldest first.
 fn undo_records(samples: &mut [u64], first: u64, ring: Ring, repairs: &[u64], capacity: usize)
-    requires { ⌜ Sound 6 capacity (ringIn ring (now repairs)) ⌝ }
+    requires { ⌜ Sound repairWidth capacity (ringIn ring (now repairs)) ⌝ }
     requires { ⌜ recordsFit (heldRecords capacity (ringIn ring (now repairs))) ≡ true ⌝ }
     ensures { λ r. ⌜ now (samples .exit) ≡ undoneAll first (heldRecords capacity (ringIn ring (now (repairs .entry)))) (now (samples .entry)) ⌝ }
 {
@@ -119,7 +132,7 @@ pub fn revert_repairs(
     if repairs.len() != log::REPAIR_WORDS * capacity {
         return Undone::BadLength;
     }
-    let ring = state.repairs;
+    let ring = state.notes.repairs;
     if !records_fit(ring, repairs, capacity) {
         return Undone::BadState;
     }

@@ -1,4 +1,5 @@
--- Complex numbers of floats, each operation by document 01's formula, in its order: every sum, product and quotient of parts rounds to the format. Definitions only.
+-- Complex numbers of floats, each operation by document 01's formula, in its order: every sum, product and quotient of parts rounds to the format. Definitions
+-- only.
 use Prim.Native.Nat.{ℕ, _+_, _*_, _/_, _%_, _^_}
 use mathlib.Core.Bool.{not}
 use lib.Dec.{T}

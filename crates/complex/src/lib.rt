@@ -3,7 +3,8 @@
 
 ghost use mathlib.Core.Path.{_≡_};
 ghost use lib.Ieee.{binary32, binary64};
-ghost use Rattle.complex.specs.Complex.{sum, difference, product, power, quotient, oneMinus, onePlus, conjugate, scaled, unscaled, norm, narrowedParts, wordOf, sampleOf};
+ghost use Rattle.complex.specs.Complex.{sum, difference, product, power, quotient, oneMinus, onePlus, conjugate, scaled, unscaled, norm, narrowedParts};
+ghost use Rattle.complex.specs.Complex.{wordOf, sampleOf};
 ghost use Rattle.complex.specs.View.{view32, make32, view64, make64, singleOf};
 
 pub struct Complex32 {

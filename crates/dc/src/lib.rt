@@ -13,6 +13,7 @@ ghost use Rattle.rules.specs.Constants.{one, rateLimit};
 ghost use Rattle.rules.specs.Dc.{corner, weight, clamped, isZero, firstLevel, advanced, restoredAll};
 ghost use Rattle.rules.specs.Iq.{ranged};
 ghost use Rattle.dc.specs.Blocker.{levelOf, blockerOf, pushed, processed, restored, blockerAfter, processedAll};
+ghost use Rattle.rules.specs.Answers.{numberIn};
 ghost use Rattle.dc.specs.Undo.{said, undoReturned, undoWords};
 use complex::Complex64;
 
@@ -239,6 +240,18 @@ pub enum Reverted {
     BadRate,
     BadLength,
     Beyond(usize),
+}
+
+// Document 01's number of an answer, and 0 where there is none.
+pub fn number(answer: Reverted) -> u64
+    ensures { λ r. ⌜ r ≡ numberIn (said answer) ⌝ }
+{
+    match answer {
+        Reverted::Restored => 0,
+        Reverted::BadRate => 1,
+        Reverted::BadLength => 4,
+        Reverted::Beyond(_) => 7,
+    }
 }
 
 // The samples y of an applying stage that started fresh at the rate fs, as they were before it.

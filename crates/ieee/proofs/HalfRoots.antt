@@ -26,7 +26,8 @@ pub record Square (g : ℕ) : Type 0 where
   pub upper : g / 2 ^ 26 * (g / 2 ^ 26) ≤ 2 ^ 54
   pub mixed : g / 2 ^ 26 * (g % 2 ^ 26) ≤ 2 ^ 53
   pub lower : g % 2 ^ 26 * (g % 2 ^ 26) ≤ 2 ^ 52
-  pub whole : g * g ≡ (g / 2 ^ 26 * (g / 2 ^ 26) + g / 2 ^ 26 * (g % 2 ^ 26) / 2 ^ 25) * 2 ^ 52 + (g / 2 ^ 26 * (g % 2 ^ 26) % 2 ^ 25 * 2 ^ 27 + g % 2 ^ 26 * (g % 2 ^ 26))
+  pub whole : g * g
+      ≡ (g / 2 ^ 26 * (g / 2 ^ 26) + g / 2 ^ 26 * (g % 2 ^ 26) / 2 ^ 25) * 2 ^ 52 + (g / 2 ^ 26 * (g % 2 ^ 26) % 2 ^ 25 * 2 ^ 27 + g % 2 ^ 26 * (g % 2 ^ 26))
 
 pub square : (g : ℕ) → g < 2 ^ 53 → Square g
 square g h =

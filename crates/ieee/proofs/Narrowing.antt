@@ -44,7 +44,8 @@ bits s m y hi lo =
     let r = 38 + (887 + c - y) in
     let k = y - (887 + c) in
     ap (toBits binary32) (round-same binary32 s (m * 2 ^ y) (2 ^ 1074) (w * 2 ^ y) (2 ^ (1074 + c)) (pow-pos 1074) (pow-pos (1074 + c))
-    (ap (λ (x : ℕ). m * 2 ^ y * x) (pow-add 2 1074 c ∙ mul-comm (2 ^ 1074) (2 ^ c)) ∙ sym (mul-assoc (m * 2 ^ y) (2 ^ c) (2 ^ 1074)) ∙ ap (λ (x : ℕ). x * 2 ^ 1074) (mul-right-comm m (2 ^ y) (2 ^ c))))
+    (ap (λ (x : ℕ). m * 2 ^ y * x) (pow-add 2 1074 c ∙ mul-comm (2 ^ 1074) (2 ^ c)) ∙ sym (mul-assoc (m * 2 ^ y) (2 ^ c) (2 ^ 1074))
+    ∙ ap (λ (x : ℕ). x * 2 ^ 1074) (mul-right-comm m (2 ^ y) (2 ^ c))))
     ∙ round-bits binary32 w y (1074 + c) k r (omega arith) (lt-of-lt-of-le (p .high) (pow-mono {i = 62} {j = 24 + r} (omega arith)))
     (λ g. subst (λ (x : ℕ). 2 ^ x ≤ w) (lead y c g) (p .low (lt-of-lt-of-le (pow-pos 52) (lo (omega arith)))))
     s
@@ -56,7 +57,8 @@ bits s m y hi lo =
 pub narrow-bits-is : (x : Float) → T (fits binary64 x) → T (not (isNan x)) → patternIn (toBits binary64 x) ≡ toBits binary32 (narrowed x)
 narrow-bits-is x F N = let b = toBits binary64 x in sym (go (leb (2 ^ 63) b) (exponentIn b) (b % 2 ^ 52) (mod-lt b (pow-pos 52)) (meaning x F N))
   where
-    go : (s : Bool) (e t : ℕ) → t < 2 ^ 52 → Meaning x s e t → toBits binary32 (narrowed x) ≡ cond s (2 ^ 31) 0 + patternOf (significandOf e t) (e - 1) (shiftOf (significandOf e t))
+    go : (s : Bool) (e t : ℕ) → t < 2 ^ 52 → Meaning x s e t
+        → toBits binary32 (narrowed x) ≡ cond s (2 ^ 31) 0 + patternOf (significandOf e t) (e - 1) (shiftOf (significandOf e t))
     go s e t h (inl v) =
         ap (toBits binary32) (narrowed-value x s (significandOf e t * 2 ^ (e - 1)) (2 ^ 1074) (pow-pos 1074) (v .1))
         ∙ bits s (significandOf e t) (e - 1) (omega arith) (λ p. omega arith)

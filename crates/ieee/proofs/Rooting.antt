@@ -39,14 +39,30 @@ module _ (w m rest r i n : ℕ) (f : Found w m rest r i) (go-on : i < 54) (down 
       let s = square-even r in
       let p = more w i in
       let t = twice i in
-      record { turns = omega arith; digits = omega arith; bound = pow-mono {i = i + 1} {j = 54} (omega arith); left = omega arith; total = omega arith; word = omega arith }
+      record {
+        turns = omega arith;
+        digits = omega arith;
+        bound = pow-mono {i = i + 1} {j = 54} (omega arith);
+        left = omega arith;
+        total = omega arith;
+        word =
+            omega arith;
+      }
 
   pub found-one : r * 4 < rest * 4 + m / 2 ^ 62 → Found w (n * 4) (rest * 4 + m / 2 ^ 62 - (r * 4 + 1)) (r * 2 + 1) (i + 1)
   found-one h =
       let s = square-odd r in
       let p = more w i in
       let t = twice i in
-      record { turns = omega arith; digits = omega arith; bound = pow-mono {i = i + 1} {j = 54} (omega arith); left = omega arith; total = omega arith; word = omega arith }
+      record {
+        turns = omega arith;
+        digits = omega arith;
+        bound = pow-mono {i = i + 1} {j = 54} (omega arith);
+        left = omega arith;
+        total = omega arith;
+        word =
+            omega arith;
+      }
 
 pub found-same : {w m rest rest' r r' i : ℕ} → rest' ≡ rest → r' ≡ r → Found w m rest r i → Found w m rest' r' i
 found-same {w} {m} {rest} {rest'} {r} {r'} {i} p q f = subst (λ (x : ℕ). Found w m x r' i) (sym p) (subst (λ (x : ℕ). Found w m rest x i) (sym q) f)

@@ -2,7 +2,9 @@
 use mathlib.Core.Path.{_≡_, refl, sym, ap, _∙_, subst}
 use mathlib.Core.Logic.{_⊎_, inl, inr}
 use Prim.Native.Nat.{ℕ, zero, suc, _+_, _-_, _*_, _/_, _%_, _^_, _≤_, _<_, min}
-use native.Mathlib.Nat.{le-trans, le-of-eq, le-of-lt, lt-of-lt-of-le, le-antisymm, le-of-suc-le-suc, mul-one, mul-assoc, mul-comm, mul-left-comm, mul-right-comm, add-mul, suc-mul, le-div-iff-mul-le, mod-eq-of-lt, mul-le-mul, mul-le-mul-left, mul-le-mul-right, le-of-mul-le-mul-right, div-lt-iff-lt-mul, div-add-mod', mod-lt, div-one, div-eq-of-lt}
+use native.Mathlib.Nat.{le-trans, le-of-eq, le-of-lt, lt-of-lt-of-le, le-antisymm, le-of-suc-le-suc, mul-one, mul-assoc, mul-comm, mul-left-comm}
+use native.Mathlib.Nat.{mul-right-comm, add-mul, suc-mul, le-div-iff-mul-le, mod-eq-of-lt, mul-le-mul, mul-le-mul-left, mul-le-mul-right}
+use native.Mathlib.Nat.{le-of-mul-le-mul-right, div-lt-iff-lt-mul, div-add-mod', mod-lt, div-one, div-eq-of-lt}
 use native.Mathlib.Omega.{arith}
 use mathlib.Core.Bool.{Bool, true, false, true≢false, false≢true, cond}
 use lib.Dec.{T, lit≤}
@@ -41,7 +43,8 @@ ceil-mono a b c d B D h =
     (le-of-mul-le-mul-right (le-trans h (le-trans (mul-le-mul-right b (ceil-ge c d D)) (le-of-eq (mul-right-comm (ceilDiv c d) d b)))) D)
 
 ceil-small : (a u : ℕ) → 0 < a → a ≤ u → ceilDiv a u ≡ 1
-ceil-small a u A h = le-antisymm (ceil-le a u 1 (omega arith) (omega arith)) (le-div-iff-mul-le {k = u} {x = 1} {y = a + (u - 1)} (omega arith) .1 (omega arith))
+ceil-small a u A h =
+    le-antisymm (ceil-le a u 1 (omega arith) (omega arith)) (le-div-iff-mul-le {k = u} {x = 1} {y = a + (u - 1)} (omega arith) .1 (omega arith))
 
 ceil-zero : (u : ℕ) → 0 < u → ceilDiv 0 u ≡ 0
 ceil-zero u U = div-eq-of-lt (omega arith)
@@ -120,7 +123,8 @@ unfolding wholeBy
 of-nan g = refl
 
 pub below-zero : (g : ℕ → ℕ → ℕ) (x : Float) (s : Bool) (e t : ℕ) → s ≡ true → Meaning x s e t → 0 ≡ wholeBy g x
-below-zero g x s e t p (inl v) = negative g x (significandOf e t * 2 ^ (e - 1)) (2 ^ 1074) (subst (λ (b : Bool). HasValue x b (significandOf e t * 2 ^ (e - 1)) (2 ^ 1074)) p (v .1))
+below-zero g x s e t p (inl v) =
+    negative g x (significandOf e t * 2 ^ (e - 1)) (2 ^ 1074) (subst (λ (b : Bool). HasValue x b (significandOf e t * 2 ^ (e - 1)) (2 ^ 1074)) p (v .1))
 below-zero g x s e t p (inr v) = sym (ap (wholeBy g) (v .2 ∙ ap inf p) ∙ infinite g true)
 
 -- ---- the digits w of an f64 that is not negative, with their leading one at 61, and the place y, at which 1074 + shiftOf m is the place of ones
@@ -144,7 +148,8 @@ module _ (g : ℕ → ℕ → ℕ) (R : Rule g) (x : Float) (s : Bool) (e t : �
   value h (inl v) =
       by-value g R x (m * 2 ^ y) (2 ^ 1074) (pow-pos 1074) (subst (λ (b : Bool). HasValue x b (m * 2 ^ y) (2 ^ 1074)) S (v .1))
       ∙ ap (λ (n : ℕ). min n (2 ^ 64 - 1)) (R .same (m * 2 ^ y) (2 ^ 1074) (w * 2 ^ y) (2 ^ first) (pow-pos 1074) (pow-pos first)
-      (ap (λ (z : ℕ). m * 2 ^ y * z) (pow-add 2 1074 (shiftOf m) ∙ mul-comm (2 ^ 1074) (2 ^ shiftOf m)) ∙ sym (mul-assoc (m * 2 ^ y) (2 ^ shiftOf m) (2 ^ 1074)) ∙ ap (λ (z : ℕ). z * 2 ^ 1074) (mul-right-comm m (2 ^ y) (2 ^ shiftOf m))))
+      (ap (λ (z : ℕ). m * 2 ^ y * z) (pow-add 2 1074 (shiftOf m) ∙ mul-comm (2 ^ 1074) (2 ^ shiftOf m)) ∙ sym (mul-assoc (m * 2 ^ y) (2 ^ shiftOf m) (2 ^ 1074))
+      ∙ ap (λ (z : ℕ). z * 2 ^ 1074) (mul-right-comm m (2 ^ y) (2 ^ shiftOf m))))
   value h (inr v) = absurd (no e h (v .0))
     where
       no : (e : ℕ) → e < 2047 → 2047 ≤ e → ⊥
@@ -155,7 +160,8 @@ module _ (g : ℕ → ℕ → ℕ) (R : Rule g) (x : Float) (s : Bool) (e t : �
   low r h p k =
       let P = place in
       let one : g (w * 2 ^ y) (2 ^ first) ≡ g w (2 ^ (first - y)) =
-      R .same (w * 2 ^ y) (2 ^ first) w (2 ^ (first - y)) (pow-pos first) (pow-pos (first - y)) (mul-assoc w (2 ^ y) (2 ^ (first - y)) ∙ ap (λ (a : ℕ). w * a) (sym (pow-add 2 y (first - y)) ∙ ap (λ (a : ℕ). 2 ^ a) (sum y first h))) in
+      R .same (w * 2 ^ y) (2 ^ first) w (2 ^ (first - y)) (pow-pos first) (pow-pos (first - y))
+      (mul-assoc w (2 ^ y) (2 ^ (first - y)) ∙ ap (λ (a : ℕ). w * a) (sym (pow-add 2 y (first - y)) ∙ ap (λ (a : ℕ). 2 ^ a) (sum y first h))) in
       let two : g w (2 ^ r) ≡ g w (2 ^ (first - y)) = cap P (le-or-lt (first - y) 63) in
       let b = R .bound w (2 ^ r) (pow-pos r) in
       let H = P .high in

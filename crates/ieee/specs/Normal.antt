@@ -8,7 +8,8 @@ use Rattle.ieee.specs.declared.Normal.{Normal}
 abbrev pub exponentIn : ℕ → ℕ
 exponentIn b = b / 2 ^ 52 % 2048
 
--- An f64 of the exponent's field e and the digits t is significandOf e t * 2 ^ (e - 1) of the format's smallest values: the leading digit is there unless e is 0, and a field of 0 counts as 1.
+-- An f64 of the exponent's field e and the digits t is significandOf e t * 2 ^ (e - 1) of the format's smallest values: the leading digit is there unless e is
+-- 0, and a field of 0 counts as 1.
 abbrev pub significandOf : ℕ → ℕ → ℕ
 significandOf e t = t + 2 ^ 52 * min e 1
 

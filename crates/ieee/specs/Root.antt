@@ -22,8 +22,10 @@ pub record HalfRoot (w g : ℕ) : Type 0 where
   pub half : g ≡ (R + 1) / 2
 
 -- IEEE 754's squareRoot at binary64, rounding to nearest, ties to even. `rooted-nearest` says that it is the nearest.
--- Of a number above zero, n is how many of the format's smallest values, 2 ^ -1074, it is. So its root is √n * 2 ^ -537, and isqrt (n * 4 ^ 64) of 2 ^ -601 are the root cut down.
--- What is half a 2 ^ -601 above that rounds as the root does: the format's values there and the middles between two of them are whole numbers of 2 ^ -590, and no root is such a middle.
+-- Of a number above zero, n is how many of the format's smallest values, 2 ^ -1074, it is. So its root is √n * 2 ^ -537, and isqrt (n * 4 ^ 64) of 2 ^ -601 are
+-- the root cut down.
+-- What is half a 2 ^ -601 above that rounds as the root does: the format's values there and the middles between two of them are whole numbers of 2 ^ -590, and
+-- no root is such a middle.
 unfoldable pub rooted : Float → Float
 unfolding isqrt
 rooted nan = nan

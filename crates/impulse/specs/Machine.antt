@@ -14,6 +14,9 @@ use Rattle.impulse.specs.declared.Open.{Open}
 use Rattle.impulse.specs.declared.Open.the-variants.{Running, Closed}
 use Rattle.impulse.specs.declared.Left.{Left}
 use Rattle.impulse.specs.declared.Left.the-variants.{Neighbour, Missing}
+use Rattle.impulse.specs.declared.GateSettings.{GateSettings}
+use Rattle.impulse.specs.declared.Mending.{Mending}
+use Rattle.impulse.specs.declared.Block.{Block}
 use Rattle.impulse.specs.declared.Gate.{Gate}
 use Rattle.impulse.specs.declared.ImpulseSuppressor.{ImpulseSuppressor}
 use Rattle.impulse.specs.declared.Answer.{Answer}
@@ -21,14 +24,24 @@ use Rattle.impulse.specs.declared.Answer.the-variants.{Released, Nothing
 
 -- the setting that the code has: the standard one, with the gate's block length and mode
 abbrev pub settingOf : Gate → Setting
-settingOf g = standard (g .blocklen) (g .apply)
+settingOf g = standard (g .settings .blocklen) (g .settings .apply)
+
+-- what a gate has of a setting
+abbrev pub gateSettings : Setting → GateSettings
+gateSettings s = record { apply = s .apply; blocklen = s .block }
 
 -- ---- the beginning
+
+abbrev pub noRun : Mending
+noRun = record { run = Closed; left = Missing }
+
+abbrev pub firstBlock : Block
+firstBlock = record { number = 0; flagged = 0; paused = false }
 
 abbrev pub fresh : Setting → ImpulseSuppressor
 fresh s =
     record {
-      gate = record { apply = s .apply; blocklen = s .block; received = 0; run = Closed; left = Missing; block = 0; flagged = 0; paused = false };
+      gate = record { settings = gateSettings s; received = 0; mending = noRun; block = firstBlock };
       window = replicate (width s) zeroF;
       sorted = replicate (width s) zeroF;
       pending = replicate (lookahead s) 0;
@@ -38,65 +51,40 @@ fresh s =
 
 -- one more sample has come
 abbrev pub arrived : Gate → Gate
-arrived g =
-    record {
-      apply = g .apply;
-      blocklen = g .blocklen;
-      received = g .received + 1;
-      run = g .run;
-      left = g .left;
-      block = g .block;
-      flagged = g .flagged;
-      paused = g .paused;
-    }
+arrived g = record { settings = g .settings; received = g .received + 1; mending = g .mending; block = g .block }
+
+abbrev pub withMending : Gate → Mending → Gate
+withMending g m = record { settings = g .settings; received = g .received; mending = m; block = g .block }
+
+abbrev pub withBlock : Gate → Block → Gate
+withBlock g b = record { settings = g .settings; received = g .received; mending = g .mending; block = b }
+
+-- the block that follows the gate's, with no sample judged yet
+abbrev pub nextBlock : Gate → ℕ → Block
+nextBlock g number = record { number = number; flagged = 0; paused = pauses (g .settings .blocklen) (g .block .paused) (g .block .flagged) }
 
 -- sample j comes to be judged: the gate in its block
 unfoldable pub entered : Gate → ℕ → Gate
 entered g j =
-    cond (eqb (j / g .blocklen) (g .block)) g
-    (record {
-      apply = g .apply;
-      blocklen = g .blocklen;
-      received = g .received;
-      run = g .run;
-      left = g .left;
-      block = j / g .blocklen;
-      flagged = 0;
-      paused = pauses (g .blocklen) (g .paused) (g .flagged);
-    })
+    let number = j / g .settings .blocklen in
+    cond (eqb number (g .block .number)) g (withBlock g (nextBlock g number))
 
 -- a flagged sample j opens a run or lengthens it
 abbrev pub grown : Open → ℕ → Bool → Run
 grown Closed j paused = record { start = j; len = 1; paused = paused }
 grown (Running r) j paused = record { start = r .start; len = r .len + 1; paused = r .paused || paused }
 
+-- with so many of its samples flagged
+abbrev pub withFlagged : Block → ℕ → Block
+withFlagged b n = record { number = b .number; flagged = n; paused = b .paused }
+
 -- after a flagged sample
 abbrev pub withRun : Gate → Run → Gate
-withRun g r =
-    record {
-      apply = g .apply;
-      blocklen = g .blocklen;
-      received = g .received;
-      run = Running r;
-      left = g .left;
-      block = g .block;
-      flagged = g .flagged + 1;
-      paused = g .paused;
-    }
+withRun g r = withBlock (withMending g (record { run = Running r; left = g .mending .left })) (withFlagged (g .block) (g .block .flagged + 1))
 
 -- after a sample x that is not flagged
 abbrev pub withNeighbour : Gate → ℕ → Gate
-withNeighbour g x =
-    record {
-      apply = g .apply;
-      blocklen = g .blocklen;
-      received = g .received;
-      run = Closed;
-      left = Neighbour x;
-      block = g .block;
-      flagged = g .flagged;
-      paused = g .paused;
-    }
+withNeighbour g x = withMending g (record { run = Closed; left = Neighbour x })
 
 -- ---- a run in the circular array of pending samples
 
@@ -127,10 +115,13 @@ pub data Ending : Type 0 where
   mendedRun : ℕ → ℕ → List ℕ → Ending
 
 unfoldable pub closing : Setting → Run → List ℕ → Ending
-closing s r l = cond (mendable s (r .paused) (r .len)) (mendedRun (r .start) (r .len) (readRun (lookahead s) l (r .start) (r .len))) (keptRun (r .start) (r .len) (ltb (s .run) (r .len)))
+closing s r l =
+    cond (mendable s (r .paused) (r .len)) (mendedRun (r .start) (r .len) (readRun (lookahead s) l (r .start) (r .len)))
+    (keptRun (r .start) (r .len) (ltb (s .run) (r .len)))
 
 unfoldable pub closingPending : Setting → Run → Left → ℕ → List ℕ → List ℕ
-closingPending s r left right l = cond (mendable s (r .paused) (r .len)) (writeRun (lookahead s) l (neighbourOr left right) right (r .start) (r .len) (r .len)) l
+closingPending s r left right l =
+    cond (mendable s (r .paused) (r .len)) (writeRun (lookahead s) l (neighbourOr left right) right (r .start) (r .len) (r .len)) l
 
 abbrev pub ending : Setting → Open → List ℕ → Ending
 ending s Closed l = going
@@ -148,10 +139,14 @@ pub record Judgement : Type 0 where
 
 -- by sample j's flag, the gate being in its block
 abbrev pub decided : Setting → Gate → ℕ → List ℕ → Bool → Judgement
-decided s g j l true = record { gate = withRun g (grown (g .run) j (g .paused)); uncertain = g .paused; ended = going; pending = l }
+decided s g j l true =
+    let m = g .mending in
+    let p = g .block .paused in
+    record { gate = withRun g (grown (m .run) j p); uncertain = p; ended = going; pending = l }
 decided s g j l false =
+    let m = g .mending in
     let x = getD l (j % lookahead s) 0 in
-    record { gate = withNeighbour g x; uncertain = g .paused; ended = ending s (g .run) l; pending = endingPending s (g .run) (g .left) x l }
+    record { gate = withNeighbour g x; uncertain = g .block .paused; ended = ending s (m .run) l; pending = endingPending s (m .run) (m .left) x l }
 
 -- a sample of power p is flagged, when n samples have come: the strongest `trim` of the window are left out of the mean
 unfoldable pub flaggedBy : ℕ → ℕ → ℕ → List Float → Float → Bool

@@ -10,7 +10,7 @@ runEnd Closed = 0
 runEnd (Running r) = r .start + r .len
 
 pub record Room (g : Gate) : Type 0 where
-  pub blocks : 0 < g .blocklen
+  pub blocks : 0 < g .settings .blocklen
   pub early : g .received ≤ 2 ^ 50
-  pub few : g .flagged ≤ 2 ^ 52 + g .received
-  pub behind : runEnd (g .run) ≤ g .received
+  pub few : g .block .flagged ≤ 2 ^ 52 + g .received
+  pub behind : runEnd (g .mending .run) ≤ g .received

@@ -30,15 +30,15 @@ PowerWithin p = Within p (2 ^ 115) 1 × Plain binary32 p
 -- m stands when n samples have come
 pub record Sound (s : Setting) (n : ℕ) (m : ImpulseSuppressor) : Type 0 where
   -- the settings and the counters
-  pub apply : m .gate .apply ≡ s .apply
-  pub blocklen : m .gate .blocklen ≡ s .block
+  pub apply : m .gate .settings .apply ≡ s .apply
+  pub blocklen : m .gate .settings .blocklen ≡ s .block
   pub received : m .gate .received ≡ n
-  pub block : m .gate .block ≤ n
-  pub flags : m .gate .flagged ≤ n
+  pub block : m .gate .block .number ≤ n
+  pub flags : m .gate .block .flagged ≤ n
   -- an open run is not empty, and ends at the next sample to be judged
-  pub run : (r : Run) → m .gate .run ≡ Running r → (0 < r .len) × (r .start + r .len ≡ judged s n)
+  pub run : (r : Run) → m .gate .mending .run ≡ Running r → (0 < r .len) × (r .start + r .len ≡ judged s n)
   -- the parts, within 1e18; the powers, within 1e36, with no sign bit
-  pub left : (x : ℕ) → m .gate .left ≡ Neighbour x → WordWithin (2 ^ 59) x
+  pub left : (x : ℕ) → m .gate .mending .left ≡ Neighbour x → WordWithin (2 ^ 59) x
   pub pending : All (WordWithin (2 ^ 59)) (m .pending)
   pub powers : All PowerWithin (m .window)
   -- the sorted list is that window sorted

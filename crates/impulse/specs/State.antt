@@ -1,24 +1,27 @@
 -- What stands when the first n samples of an input have come, given by the rules for the whole input; and what the n-th push says. Definitions only.
 use mathlib.Core.Bool.{Bool, false, cond}
 use mathlib.Core.List.{List, _++_, map}
-use Prim.Native.Nat.{ℕ, suc, _+_, _-_}
+use Prim.Native.Nat.{ℕ, suc, _-_}
 use lib.Dec.{ltb, eqb}
 use lib.ListN.{length, take, drop, replicate}
 use lib.Ieee.{Float, lt}
 use Rattle.rules.specs.Constants.{zeroF}
 use Rattle.rules.specs.Lists.{at}
 use Rattle.rules.specs.Sort.{sort}
-use Rattle.rules.specs.Impulse.{Setting, width, lookahead, powerOf, judged, flagged, before, start, closes, blockOf, paused, touches, mendable, value, newestBlock, flagsIn}
+use Rattle.rules.specs.Impulse.{Setting, width, lookahead, powerOf, judged, flagged, before, start, closes, blockOf, paused, touches, mendable, value}
+use Rattle.rules.specs.Impulse.{newestBlock, flagsIn}
 use Rattle.impulse.specs.declared.Run.{Run}
 use Rattle.impulse.specs.declared.Open.{Open}
 use Rattle.impulse.specs.declared.Open.the-variants.{Running, Closed}
 use Rattle.impulse.specs.declared.Left.{Left}
 use Rattle.impulse.specs.declared.Left.the-variants.{Neighbour, Missing}
+use Rattle.impulse.specs.declared.Mending.{Mending}
+use Rattle.impulse.specs.declared.Block.{Block}
 use Rattle.impulse.specs.declared.Gate.{Gate}
 use Rattle.impulse.specs.declared.ImpulseSuppressor.{ImpulseSuppressor}
 use Rattle.impulse.specs.declared.Answer.{Answer}
 use Rattle.impulse.specs.declared.Answer.the-variants.{Released, Nothing}
-use Rattle.impulse.specs.Machine.{Ending, going, keptRun, mendedRun, Outcome}
+use Rattle.impulse.specs.Machine.{gateSettings, Ending, going, keptRun, mendedRun, Outcome}
 use Rattle.impulse.specs.Circle.{circle}
 
 -- ---- by the flags F, when j are judged
@@ -35,19 +38,16 @@ module _ (s : Setting) (F : ℕ → Bool) where
 unfoldable pub leftAt : (ℕ → Bool) → List ℕ → ℕ → Left
 leftAt F xs j = cond (eqb (start F j) 0) Missing (Neighbour (at xs (start F j - 1)))
 
+abbrev pub mendingAt : Setting → (ℕ → Bool) → List ℕ → ℕ → Mending
+mendingAt s F xs j = record { run = openAt s F j; left = leftAt F xs j }
+
+-- block b, when j are judged
+abbrev pub blockAt : Setting → (ℕ → Bool) → ℕ → ℕ → Block
+blockAt s F j b = record { number = b; flagged = flagsIn s F b j; paused = paused (s .block) F b }
+
 -- n have come, and block b is the newest judged sample's
 abbrev pub gateIn : Setting → (ℕ → Bool) → List ℕ → ℕ → ℕ → ℕ → Gate
-gateIn s F xs n j b =
-    record {
-      apply = s .apply;
-      blocklen = s .block;
-      received = n;
-      run = openAt s F j;
-      left = leftAt F xs j;
-      block = b;
-      flagged = flagsIn s F b j;
-      paused = paused (s .block) F b;
-    }
+gateIn s F xs n j b = record { settings = gateSettings s; received = n; mending = mendingAt s F xs j; block = blockAt s F j b }
 
 abbrev pub gateAt : Setting → (ℕ → Bool) → List ℕ → ℕ → ℕ → Gate
 gateAt s F xs n j = gateIn s F xs n j (newestBlock s j)

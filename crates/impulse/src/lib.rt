@@ -7,13 +7,14 @@ ghost use mathlib.Core.Path.{_≡_};
 ghost use mathlib.Core.Bool.{true};
 ghost use Prim.Native.Nat.{_+_, _-_, _^_, _≤_, _<_, min};
 ghost use lib.ListN.{length};
-ghost use Rattle.rules.specs.Impulse.{standard, pauses};
-ghost use Rattle.impulse.specs.Machine.{settingOf, fresh, grown, arrived, entered, withRun, withNeighbour, closing, closingPending, ending, endingPending, flaggedBy, judge, verdict, released, push};
+ghost use Rattle.rules.specs.Impulse.{windowSize, lookaheadSize, trimSize, standard, nextJudged, pauses};
+ghost use Rattle.impulse.specs.Machine.{settingOf, fresh, grown, arrived, withMending, withBlock, entered, withRun, withNeighbour, closing};
+ghost use Rattle.impulse.specs.Machine.{closingPending, ending, endingPending, flaggedBy, judge, verdict, released, push};
 ghost use Rattle.impulse.specs.View.{suppressorOf, endedOf, judgedOf, pushedOf};
 ghost use Rattle.impulse.specs.Room.{runEnd, Room};
 ghost use Rattle.impulse_window.specs.Rising.{Rising};
 
-mod mending;
+mod runs;
 
 use log::Repair;
 
@@ -35,17 +36,31 @@ pub enum Left {
     Missing,
 }
 
-// The suppressor's scalars. `block` is the block of the newest judged sample, `flagged` how many of
-// its judged samples are flagged.
-pub struct Gate {
+// What making settled.
+pub struct GateSettings {
     pub apply: bool,
     pub blocklen: u64,
-    pub received: u64,
+}
+
+// What a repair is made from: the open run, and its left neighbour.
+pub struct Mending {
     pub run: Open,
     pub left: Left,
-    pub block: u64,
+}
+
+// A block of samples: its number, how many of its judged samples are flagged, and whether it is paused.
+pub struct Block {
+    pub number: u64,
     pub flagged: u64,
     pub paused: bool,
+}
+
+// The suppressor's scalars. `block` is the block of the newest judged sample.
+pub struct Gate {
+    pub settings: GateSettings,
+    pub received: u64,
+    pub mending: Mending,
+    pub block: Block,
 }
 
 // The whole state. `sorted` has the window's powers, ascending, and then zeros.
@@ -85,7 +100,7 @@ impl ImpulseSuppressor {
     // The reference window, centred on the sample being judged.
     pub const WINDOW: usize = impulse_window::WINDOW;
     // The samples on each side of it.
-    pub const HALF_WINDOW: usize = 16;
+    pub const HALF_WINDOW: usize = ImpulseSuppressor::WINDOW / 2;
     // The window's strongest powers, left out of the reference: room for two runs that are mended.
     pub const TRIM: usize = 2 * ImpulseSuppressor::MAX_RUN;
     // The longest run that is mended.
@@ -99,14 +114,17 @@ impl ImpulseSuppressor {
         ensures { λ r. ⌜ r ≡ fresh (standard blocklen apply) ⌝ }
     {
         let gate = Gate {
-            apply,
-            blocklen,
+            settings: GateSettings { apply, blocklen },
             received: 0,
-            run: Open::Closed,
-            left: Left::Missing,
-            block: 0,
-            flagged: 0,
-            paused: false,
+            mending: Mending {
+                run: Open::Closed,
+                left: Left::Missing,
+            },
+            block: Block {
+                number: 0,
+                flagged: 0,
+                paused: false,
+            },
         };
         ImpulseSuppressor {
             gate,
@@ -127,7 +145,7 @@ pub fn pauses(blocklen: u64, was: bool, flagged: u64) -> bool
 
 // The next sample to be judged, of so many received: half a window before the next that comes.
 pub fn next_judged(received: u64) -> u64
-    ensures { λ r. ⌜ r ≡ received - 16 ⌝ }
+    ensures { λ r. ⌜ r ≡ nextJudged received ⌝ }
 {
     if received < ImpulseSuppressor::HALF_WINDOW as u64 {
         return 0;
@@ -137,8 +155,8 @@ pub fn next_judged(received: u64) -> u64
 
 // How many of the window's powers are kept, when n samples have come.
 fn kept(n: u64) -> usize
-    requires { ⌜ 8 ≤ n ⌝ }
-    ensures { λ r. ⌜ r ≡ min n 33 - 8 ⌝ }
+    requires { ⌜ trimSize ≤ n ⌝ }
+    ensures { λ r. ⌜ r ≡ min n windowSize - trimSize ⌝ }
 {
     if n < ImpulseSuppressor::WINDOW as u64 {
         return n as usize - ImpulseSuppressor::TRIM;
@@ -149,9 +167,9 @@ fn kept(n: u64) -> usize
 // A sample of power p is flagged, when n samples have come. `rising`: it is known that the powers ascend
 // from 0 on.
 fn is_flagged(sorted: &[f32; ImpulseSuppressor::WINDOW], n: u64, p: f32, rising: bool) -> bool
-    requires { ⌜ (8 ≤ n) × (length (now sorted) ≡ 33) ⌝ }
+    requires { ⌜ (trimSize ≤ n) × (length (now sorted) ≡ windowSize) ⌝ }
     requires { ⌜ (rising ≡ true → Rising 0 (now sorted)) ⌝ }
-    ensures { λ b. ⌜ b ≡ flaggedBy 33 8 n (now (sorted .entry)) p ⌝ }
+    ensures { λ b. ⌜ b ≡ flaggedBy windowSize trimSize n (now (sorted .entry)) p ⌝ }
 {
     impulse_window::is_flagged(sorted, kept(n), p, rising)
 }
@@ -177,7 +195,7 @@ fn grown(run: Open, j: u64, paused: bool) -> Run
 
 // What the i-th sample, x, releases. `out` is the sample whose place it takes.
 fn released(apply: bool, i: u64, out: u64, x: u64) -> Answer
-    ensures { λ r. ⌜ r ≡ released 21 apply i out x ⌝ }
+    ensures { λ r. ⌜ r ≡ released lookaheadSize apply i out x ⌝ }
 {
     if !apply {
         return Answer::Released(x);
@@ -199,69 +217,80 @@ impl Gate {
         g
     }
 
+    // With another run and neighbour, and another block. The literal compiles to fewer instructions than
+    // `g.mending = mending`, and the block's fields to fewer than the block.
+    fn with_both(self, mending: Mending, block: Block) -> Gate
+        ensures { λ g. ⌜ g ≡ withBlock (withMending self mending) block ⌝ }
+    {
+        let settings = self.settings;
+        Gate {
+            settings,
+            received: self.received,
+            mending,
+            block: Block {
+                number: block.number,
+                flagged: block.flagged,
+                paused: block.paused,
+            },
+        }
+    }
+
     // The gate in the block of j.
     fn entered(self, j: u64) -> Gate
-        requires { ⌜ 0 < self .blocklen ⌝ }
+        requires { ⌜ 0 < self .settings .blocklen ⌝ }
         ensures { λ r. ⌜ r ≡ entered self j ⌝ }
     {
-        let block = j / self.blocklen;
-        if block == self.block {
+        let number = j / self.settings.blocklen;
+        if number == self.block.number {
             return self;
         }
-        let run = self.run;
-        let left = self.left;
-        let paused = pauses(self.blocklen, self.paused, self.flagged);
-        Gate {
-            apply: self.apply,
-            blocklen: self.blocklen,
-            received: self.received,
-            run,
-            left,
-            block,
+        let paused = pauses(
+            self.settings.blocklen,
+            self.block.paused,
+            self.block.flagged,
+        );
+        let block = Block {
+            number,
             flagged: 0,
             paused,
-        }
+        };
+        let mending = self.mending;
+        self.with_both(mending, block)
     }
 
     // After a flagged sample.
     fn with_run(self, r: Run) -> Gate
-        requires { ⌜ self .flagged ≤ 2 ^ 53 ⌝ }
+        requires { ⌜ self .block .flagged ≤ 2 ^ 53 ⌝ }
         ensures { λ g. ⌜ g ≡ withRun self r ⌝ }
     {
-        let left = self.left;
-        Gate {
-            apply: self.apply,
-            blocklen: self.blocklen,
-            received: self.received,
+        let last = self.mending;
+        let left = last.left;
+        let mending = Mending {
             run: Open::Running(r),
             left,
-            block: self.block,
-            flagged: self.flagged + 1,
-            paused: self.paused,
-        }
+        };
+        let mut block = self.block;
+        block.flagged = block.flagged + 1;
+        self.with_both(mending, block)
     }
 
     // After a sample that is not flagged.
     fn with_neighbour(self, x: u64) -> Gate
         ensures { λ g. ⌜ g ≡ withNeighbour self x ⌝ }
     {
-        Gate {
-            apply: self.apply,
-            blocklen: self.blocklen,
-            received: self.received,
+        let mending = Mending {
             run: Open::Closed,
             left: Left::Neighbour(x),
-            block: self.block,
-            flagged: self.flagged,
-            paused: self.paused,
-        }
+        };
+        let block = self.block;
+        self.with_both(mending, block)
     }
 
     // Ends a run at its right neighbour: mends it, or keeps it where it is too long, paused or only observed.
     fn close(self, r: Run, right: u64, pending: &mut [u64; ImpulseSuppressor::LOOKAHEAD]) -> Ended
         requires { ⌜ r .start + r .len ≤ 2 ^ 52 ⌝ }
         ensures result { λ e. ⌜ e ≡ endedOf (closing (settingOf self) r (now (pending .entry))) ⌝ }
-        ensures words { λ e. ⌜ now (pending .exit) ≡ closingPending (settingOf self) r (self .left) right (now (pending .entry)) ⌝ }
+        ensures words { λ e. ⌜ now (pending .exit) ≡ closingPending (settingOf self) r (self .mending .left) right (now (pending .entry)) ⌝ }
     {
         let start = r.start;
         let len = r.len;
@@ -272,7 +301,7 @@ impl Gate {
                 long: true,
             };
         }
-        if !self.apply {
+        if !self.settings.apply {
             return Ended::Kept {
                 start,
                 len,
@@ -286,19 +315,21 @@ impl Gate {
                 long: false,
             };
         }
-        let left = self.left;
-        let repair = mending::repair(pending, start, len);
-        mending::mend(pending, mending::neighbour(left, right), right, start, len);
+        let mending = self.mending;
+        let left = mending.left;
+        let repair = runs::repair(pending, start, len);
+        runs::mend(pending, runs::neighbour(left, right), right, start, len);
         Ended::Mended(repair)
     }
 
     // Ends the open run, if there is one.
     fn ending(self, right: u64, pending: &mut [u64; ImpulseSuppressor::LOOKAHEAD]) -> Ended
-        requires { ⌜ runEnd (self .run) ≤ 2 ^ 52 ⌝ }
-        ensures result { λ e. ⌜ e ≡ endedOf (ending (settingOf self) (self .run) (now (pending .entry))) ⌝ }
-        ensures words { λ e. ⌜ now (pending .exit) ≡ endingPending (settingOf self) (self .run) (self .left) right (now (pending .entry)) ⌝ }
+        requires { ⌜ runEnd (self .mending .run) ≤ 2 ^ 52 ⌝ }
+        ensures result { λ e. ⌜ e ≡ endedOf (ending (settingOf self) (self .mending .run) (now (pending .entry))) ⌝ }
+        ensures words { λ e. ⌜ now (pending .exit) ≡ endingPending (settingOf self) (self .mending .run) (self .mending .left) right (now (pending .entry)) ⌝ }
     {
-        let run = self.run;
+        let mending = self.mending;
+        let run = mending.run;
         let Open::Running(r) = run else {
             return Ended::Going;
         };
@@ -314,15 +345,17 @@ impl Gate {
         pending: &mut [u64; ImpulseSuppressor::LOOKAHEAD],
         rising: bool,
     ) -> Judged
-        requires { ⌜ (0 < self .blocklen) × (8 ≤ self .received) × (self .flagged ≤ 2 ^ 53) × (runEnd (self .run) ≤ 2 ^ 52) × (length (now sorted) ≡ 33) ⌝ }
+        requires { ⌜ (0 < self .settings .blocklen) × (trimSize ≤ self .received) × (self .block .flagged ≤ 2 ^ 53) × (runEnd (self .mending .run) ≤ 2 ^ 52)
+            × (length (now sorted) ≡ windowSize) ⌝ }
         requires { ⌜ (rising ≡ true → Rising 0 (now sorted)) ⌝ }
         ensures result { λ r. ⌜ r ≡ judgedOf (judge (settingOf self) self j p (now (sorted .entry)) (now (pending .entry))) ⌝ }
         ensures words { λ r. ⌜ now (pending .exit) ≡ judge (settingOf self) self j p (now (sorted .entry)) (now (pending .entry)) .pending ⌝ }
     {
         let g = self.entered(j);
-        let run = g.run;
-        let uncertain = g.paused;
+        let uncertain = g.block.paused;
         if is_flagged(sorted, g.received, p, rising) {
+            let mending = g.mending;
+            let run = mending.run;
             let r = grown(run, j, uncertain);
             return Judged {
                 gate: g.with_run(r),
@@ -349,10 +382,12 @@ impl Gate {
         pending: &mut [u64; ImpulseSuppressor::LOOKAHEAD],
         rising: bool,
     ) -> Judged
-        requires { ⌜ (0 < self .blocklen) × (i ≤ self .received) × (self .flagged ≤ 2 ^ 53) × (runEnd (self .run) ≤ 2 ^ 52) × (length (now sorted) ≡ 33) ⌝ }
+        requires { ⌜ (0 < self .settings .blocklen) × (i ≤ self .received) × (self .block .flagged ≤ 2 ^ 53) × (runEnd (self .mending .run) ≤ 2 ^ 52)
+            × (length (now sorted) ≡ windowSize) ⌝ }
         requires { ⌜ (rising ≡ true → Rising 0 (now sorted)) ⌝ }
         ensures result { λ r. ⌜ r ≡ judgedOf (verdict (settingOf self) self i (now (window .entry)) (now (sorted .entry)) (now (pending .entry))) ⌝ }
-        ensures words { λ r. ⌜ now (pending .exit) ≡ verdict (settingOf self) self i (now (window .entry)) (now (sorted .entry)) (now (pending .entry)) .pending ⌝ }
+        ensures words { λ r. ⌜ now (pending .exit)
+            ≡ verdict (settingOf self) self i (now (window .entry)) (now (sorted .entry)) (now (pending .entry)) .pending ⌝ }
     {
         if i < ImpulseSuppressor::HALF_WINDOW as u64 {
             return Judged {
@@ -376,16 +411,20 @@ impl Gate {
         pending: &mut [u64; ImpulseSuppressor::LOOKAHEAD],
     ) -> Pushed
         requires { ⌜ Room self ⌝ }
-        requires { ⌜ length (now sorted) ≡ 33 ⌝ }
-        ensures result { λ r. ⌜ r ≡ pushedOf (push (settingOf self) (suppressorOf self (now (window .entry)) (now (sorted .entry)) (now (pending .entry))) x) ⌝ }
-        ensures powers { λ r. ⌜ now (window .exit) ≡ push (settingOf self) (suppressorOf self (now (window .entry)) (now (sorted .entry)) (now (pending .entry))) x .state .window ⌝ }
-        ensures ascending { λ r. ⌜ now (sorted .exit) ≡ push (settingOf self) (suppressorOf self (now (window .entry)) (now (sorted .entry)) (now (pending .entry))) x .state .sorted ⌝ }
-        ensures words { λ r. ⌜ now (pending .exit) ≡ push (settingOf self) (suppressorOf self (now (window .entry)) (now (sorted .entry)) (now (pending .entry))) x .state .pending ⌝ }
+        requires { ⌜ length (now sorted) ≡ windowSize ⌝ }
+        ensures result { λ r. ⌜ r
+            ≡ pushedOf (push (settingOf self) (suppressorOf self (now (window .entry)) (now (sorted .entry)) (now (pending .entry))) x) ⌝ }
+        ensures powers { λ r. ⌜ now (window .exit)
+            ≡ push (settingOf self) (suppressorOf self (now (window .entry)) (now (sorted .entry)) (now (pending .entry))) x .state .window ⌝ }
+        ensures ascending { λ r. ⌜ now (sorted .exit)
+            ≡ push (settingOf self) (suppressorOf self (now (window .entry)) (now (sorted .entry)) (now (pending .entry))) x .state .sorted ⌝ }
+        ensures words { λ r. ⌜ now (pending .exit)
+            ≡ push (settingOf self) (suppressorOf self (now (window .entry)) (now (sorted .entry)) (now (pending .entry))) x .state .pending ⌝ }
     {
         let i = self.received;
         let rising = impulse_window::take_in(window, sorted, i, x);
-        let out = mending::hold(pending, i, x);
-        let answer = released(self.apply, i, out, x);
+        let out = runs::hold(pending, i, x);
+        let answer = released(self.settings.apply, i, out, x);
         let d = self.arrived().verdict(i, window, sorted, pending, rising);
         let gate = d.gate;
         let ended = d.ended;

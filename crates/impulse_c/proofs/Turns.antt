@@ -1,4 +1,5 @@
--- What holds between two pushes of a run from fresh: the suppressor stands as the samples so far lead, it has room, and what was emitted stands in front of the output. Assumes nothing.
+-- What holds between two pushes of a run from fresh: the suppressor stands as the samples so far lead, it has room, and what was emitted stands in front of the
+-- output. Assumes nothing.
 use mathlib.Core.Path.{_≡_, refl, ap, sym, _∙_, subst}
 use mathlib.Core.Bool.{Bool}
 use mathlib.Core.List.{List, _++_, append-nil, append-assoc}
@@ -10,7 +11,7 @@ use lib.ListN.{length, getD, take, drop, length-append, length-drop, length-repl
 use lib.Seq.{drop-cons, drop-drop, take-at, drop-at, length-take-le}
 use lib.Ieee.{Float, nan}
 use Rattle.rules.specs.Constants.{zeroF}
-use Rattle.rules.specs.Impulse.{Setting, standard, powerOf}
+use Rattle.rules.specs.Impulse.{Setting, standard, powerOf, windowSize}
 use Rattle.impulse.specs.declared.Gate.{Gate}
 use Rattle.impulse.specs.declared.Pushed.{Pushed}
 use Rattle.impulse.specs.declared.ImpulseSuppressor.{ImpulseSuppressor}
@@ -27,7 +28,7 @@ pub record Ready (s : Setting) (m : ImpulseSuppressor) (k : ℕ) : Type 0 where
   pub setting : settingOf (m .gate) ≡ s
   pub room : Room (m .gate)
   pub next : m .gate .received ≡ k
-  pub full : length (m .sorted) ≡ 33
+  pub full : length (m .sorted) ≡ windowSize
 
 pub ready-fresh : (blocklen : ℕ) (apply : Bool) → 0 < blocklen → Ready (standard blocklen apply) (fresh (standard blocklen apply)) 0
 ready-fresh blocklen apply h =
@@ -35,7 +36,7 @@ ready-fresh blocklen apply h =
       setting = refl;
       room = record { blocks = h; early = omega arith; few = omega arith; behind = omega arith };
       next = refl;
-      full = length-replicate 33 zeroF;
+      full = length-replicate windowSize zeroF;
     }
 
 pub ready-next : (s : Setting) (m : ImpulseSuppressor) (k x : ℕ) → Ready s m k → k < 2 ^ 50 → Ready s (push (settingOf (m .gate)) m x .state) (k + 1)
@@ -47,7 +48,7 @@ ready-next s m k x r h =
       setting = setting-step t m x ∙ r .setting;
       room = room-step t m x (r .room) (omega arith);
       next = received-step t m x ∙ ap (λ (i : ℕ). i + 1) n;
-      full = ordered-length 33 (m .gate .received) (getD (m .window) (m .gate .received % 33) nan) (powerOf x) (m .sorted) (lit< tt) (r .full);
+      full = ordered-length windowSize (m .gate .received) (getD (m .window) (m .gate .received % windowSize) nan) (powerOf x) (m .sorted) (lit< tt) (r .full);
     }
 
 -- ---- the output
@@ -110,7 +111,8 @@ module _ (s : Setting) (e : ImpulseSuppressor → ℕ → List ℕ) (xs words₀
       → (out ≡ length (outs (step s) e (fresh s) xs)) × (words ≡ placed words₀ 0 (outs (step s) e (fresh s) xs))
   going-last m words out k g h w =
       let all = outs (step s) e (fresh s) xs in
-      let done : take out words ≡ all = sym (append-nil (take out words)) ∙ ap (λ (l : List ℕ). take out words ++ outs (step s) e m l) (sym (drop-of-length-le xs {i = k} h)) ∙ g .front in
+      let done : take out words ≡ all = sym (append-nil (take out words))
+      ∙ ap (λ (l : List ℕ). take out words ++ outs (step s) e m l) (sym (drop-of-length-le xs {i = k} h)) ∙ g .front in
       let size : out ≡ length all = sym (length-take-le out words w) ∙ ap length done in
       let zero-plus : out ≡ 0 + length all = omega arith in
       (size, sym (take-append-drop out words) ∙ (λ i. done i ++ g .behind i) ∙ ap (λ (n : ℕ). all ++ drop n words₀) zero-plus)

@@ -35,7 +35,8 @@ outcomeOf (Mended r) = record { kind = 3; start = r .start; len = r .len; first 
 unfoldable pub recordOf : Pushed → List ℕ
 recordOf p =
     let t = outcomeOf (p .ended) in
-    isReleased (p .answer) ∷ releasedWord (p .answer) ∷ indicator (p .uncertain) ∷ t .kind ∷ t .start ∷ t .len ∷ t .first ∷ t .second ∷ t .third ∷ t .fourth ∷ []
+    isReleased (p .answer) ∷ releasedWord (p .answer) ∷ indicator (p .uncertain) ∷ t .kind ∷ t .start ∷ t .len ∷ t .first ∷ t .second ∷ t .third ∷ t .fourth ∷
+    []
 
 -- ---- a whole run
 

@@ -11,7 +11,7 @@ use Rattle.log.specs.declared.Log.{Log}
 use Rattle.log.specs.declared.Repair.{Repair}
 use Rattle.log.specs.View.{Logged, ringIn, markedAt, wordsOfRepair}
 use Rattle.impulse.specs.declared.Ended.the-variants.{Kept, Mended}
-use Rattle.impulse_slice.specs.declared.Notes.{Notes}
+use Rattle.log.specs.declared.Notes.{Notes}
 use Rattle.impulse_slice.specs.Noted.{notedOf, noteAll, filledEvents}
 
 -- the log with its store

@@ -8,7 +8,7 @@ use lib.Dec.{lit<}
 use lib.ListN.{length, getD, take, drop, length-append, length-drop}
 use lib.Seq.{drop-drop, take-all, take-suc, take-append-seam, drop-append-add, getD-drop, getD-append-add, length-take-le}
 use lib.Ieee.{Float}
-use Rattle.rules.specs.Impulse.{Setting}
+use Rattle.rules.specs.Impulse.{Setting, windowSize, nextJudged}
 use Rattle.impulse.specs.declared.Gate.{Gate}
 use Rattle.impulse.specs.declared.Pushed.{Pushed}
 use Rattle.impulse.specs.declared.ImpulseSuppressor.{ImpulseSuppressor}
@@ -35,13 +35,14 @@ module _ (g : Gate) (w s : List Float) (l : List ℕ) (x : ℕ) (p : Pushed) (e 
   pub emitted : given (p .answer) ≡ emit (settingOf g) (suppressorOf g w s l) x
   emitted = ap (λ (q : Pushed). given (q .answer)) e
 
-  pub said : (spanCapacity repairCapacity : ℕ) (n n' : Noted) (j : ℕ) → j ≡ g .received - 16 → n' ≡ noteAll spanCapacity repairCapacity n (doubts j (p .uncertain) ++ filledEvents (p .ended))
+  pub said : (spanCapacity repairCapacity : ℕ) (n n' : Noted) (j : ℕ) → j ≡ nextJudged (g .received)
+      → n' ≡ noteAll spanCapacity repairCapacity n (doubts j (p .uncertain) ++ filledEvents (p .ended))
       → n' ≡ noteAll spanCapacity repairCapacity n (news (settingOf g) (suppressorOf g w s l) x)
   said spanCapacity repairCapacity n n' j f h =
       let o = push (settingOf g) (suppressorOf g w s l) x in
       h
       ∙ (λ i. noteAll spanCapacity repairCapacity n (doubts (f i) (e i .uncertain) ++ filledEvents (e i .ended)))
-      ∙ said-same spanCapacity repairCapacity n (g .received - 16) (o .uncertain) (o .ended)
+      ∙ said-same spanCapacity repairCapacity n (nextJudged (g .received)) (o .uncertain) (o .ended)
 
   -- a run that ended lies before the sample
   pub ended-early : Room g → endedEnd (p .ended) ≤ 2 ^ 60
@@ -64,7 +65,8 @@ over-length ys xs h = omega (arith, length-append ys (drop (length ys) xs), leng
 over-placed : (ys new xs : List ℕ) → placed (over ys xs) (length ys) new ≡ over (ys ++ new) xs
 over-placed ys new xs =
     let a = take-append-seam ys (drop (length ys) xs) in
-    let b = drop-append-add ys (drop (length ys) xs) (length new) ∙ drop-drop (length new) (length ys) xs ∙ ap (λ (n : ℕ). drop n xs) (sym (length-append ys new)) in
+    let b = drop-append-add ys (drop (length ys) xs) (length new) ∙ drop-drop (length new) (length ys) xs
+    ∙ ap (λ (n : ℕ). drop n xs) (sym (length-append ys new)) in
     λ i. (a i ++ new) ++ b i
 
 -- ---- all of them
@@ -116,7 +118,7 @@ module _ (spanCapacity repairCapacity held : ℕ) (m₀ : ImpulseSuppressor) (n�
     pub length-same : length xs ≡ length xs₀
     length-same = ap length (g .written) ∙ over-length (handed s m₀ (taken k)) xs₀ (omega (arith, handed-few k (g .inside), g .inside))
 
-    pub going-full : length (m₀ .sorted) ≡ 33 → length (m .sorted) ≡ 33
+    pub going-full : length (m₀ .sorted) ≡ windowSize → length (m .sorted) ≡ windowSize
     going-full h = ap (λ (q : ImpulseSuppressor). length (q .sorted)) (g .state) ∙ sorted-after s m₀ (taken k) (lit< tt) h
 
     pub going-room : k < length xs₀ → (held < length xs₀ → Room (m₀ .gate) × (m₀ .gate .received + (length xs₀ - held) ≤ 2 ^ 50)) → Room (m .gate)
@@ -126,14 +128,16 @@ module _ (spanCapacity repairCapacity held : ℕ) (m₀ : ImpulseSuppressor) (n�
         let w = may e .1 in
         subst (λ (q : ImpulseSuppressor). Room (q .gate)) (sym (g .state)) (room-after s m₀ (taken k) (may e .0) (omega arith))
 
-    pub going-roomy : k < length xs₀ → (held < length xs₀ → Room (m₀ .gate) × (m₀ .gate .received + (length xs₀ - held) ≤ 2 ^ 50)) → Roomy spanCapacity repairCapacity (2 ^ 52) n₀ → Roomy spanCapacity repairCapacity (2 ^ 60) n
+    pub going-roomy : k < length xs₀ → (held < length xs₀ → Room (m₀ .gate) × (m₀ .gate .received + (length xs₀ - held) ≤ 2 ^ 50))
+        → Roomy spanCapacity repairCapacity (2 ^ 52) n₀ → Roomy spanCapacity repairCapacity (2 ^ 60) n
     going-roomy h may r =
         let e : held < length xs₀ = omega (arith, g .from) in
         let l = taken-length k (g .inside) in
         let w = may e .1 in
         let few : m₀ .gate .received + length (taken k) ≤ 2 ^ 50 = omega arith in
         subst (λ (q : Noted). Roomy spanCapacity repairCapacity (2 ^ 60) q) (sym (g .notes))
-        (roomy-up spanCapacity repairCapacity (2 ^ 53) (2 ^ 60) (noteAll spanCapacity repairCapacity n₀ (told s m₀ (taken k))) (omega arith) (roomy-after spanCapacity repairCapacity n₀ s m₀ (taken k) (λ z. (may e .0, few)) r))
+        (roomy-up spanCapacity repairCapacity (2 ^ 53) (2 ^ 60) (noteAll spanCapacity repairCapacity n₀ (told s m₀ (taken k))) (omega arith)
+        (roomy-after spanCapacity repairCapacity n₀ s m₀ (taken k) (λ z. (may e .0, few)) r))
 
     -- ---- the next turn
 

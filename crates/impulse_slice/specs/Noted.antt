@@ -7,7 +7,7 @@ use lib.ListN.{length, take, drop}
 use Rattle.rules.specs.Lists.{indicator}
 use Rattle.rules.specs.Impulse.{Setting, Event, uncertain, kept, mended}
 use Rattle.rules.specs.Log as rules
-use Rattle.rules.specs.Log.{ringNumber, impulse, Repaired, Flagged, Uncertain, Span, spanOf, append, repairWords, marksOf, Sound}
+use Rattle.rules.specs.Log.{ringNumber, impulse, Repaired, Flagged, Uncertain, Span, spanOf, append, repairWords, repairWidth, marksOf, Sound}
 use Rattle.log.specs.View.{Logged, ringIn, marksAt, markedAt}
 use Rattle.log.specs.Ready.{Twelve, Bounded}
 use Rattle.impulse.specs.declared.Open.{Open}
@@ -16,7 +16,7 @@ use Rattle.impulse.specs.declared.Ended.{Ended}
 use Rattle.impulse.specs.declared.Ended.the-variants.{Going, Kept, Mended}
 use Rattle.impulse.specs.declared.ImpulseSuppressor.{ImpulseSuppressor}
 use Rattle.impulse.specs.Running.{after, outs, step, emit, news}
-use Rattle.impulse_slice.specs.declared.Notes.{Notes}
+use Rattle.log.specs.declared.Notes.{Notes}
 
 -- the rings with the span store, the repair ring with its words, and the long runs
 pub record Noted : Type 0 where
@@ -27,12 +27,17 @@ pub record Noted : Type 0 where
 abbrev pub notedOf : Notes → List ℕ → List ℕ → Noted
 notedOf n spans repairs = record { logged = record { log = n .log; spans = spans }; repairs = ringIn (n .repairs) repairs; longruns = n .longruns }
 
--- one event: a ring of spans can hold `cap`, the repair ring `room`
+-- one event: a ring of spans can hold `spanCapacity`, the repair ring `repairCapacity`
 abbrev pub noteEvent : ℕ → ℕ → Noted → Event → Noted
 noteEvent spanCapacity repairCapacity x (uncertain j) =
     record { logged = markedAt spanCapacity (x .logged) (ringNumber impulse Uncertain) (spanOf j 1); repairs = x .repairs; longruns = x .longruns }
 noteEvent spanCapacity repairCapacity x (kept a n long) =
-    record { logged = markedAt spanCapacity (x .logged) (ringNumber impulse Flagged) (spanOf a n); repairs = x .repairs; longruns = x .longruns + indicator long }
+    record {
+      logged = markedAt spanCapacity (x .logged) (ringNumber impulse Flagged) (spanOf a n);
+      repairs = x .repairs;
+      longruns =
+          x .longruns + indicator long;
+    }
 noteEvent spanCapacity repairCapacity x (mended a n originals) =
     record {
       logged = markedAt spanCapacity (x .logged) (ringNumber impulse Repaired) (spanOf a n);
@@ -103,7 +108,7 @@ runLength (Running r) = r .len
 -- every counter is at most b, and each ring is sound
 pub record Roomy (spanCapacity repairCapacity b : ℕ) (x : Noted) : Type 0 where
   pub spans : Bounded spanCapacity b (x .logged)
-  pub repairs : Sound 6 repairCapacity (x .repairs)
+  pub repairs : Sound repairWidth repairCapacity (x .repairs)
   pub dropped : x .repairs .dropped ≤ b
   pub longruns : x .longruns ≤ b
 

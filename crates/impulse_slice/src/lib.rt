@@ -5,6 +5,7 @@ ghost use mathlib.Core.List.{List, _++_};
 ghost use Prim.Native.Nat.{ℕ, _+_, _-_, _^_, _≤_, _<_};
 ghost use lib.ListN.{length, getD, drop};
 ghost use Rattle.rules.specs.Lists.{indicator};
+ghost use Rattle.rules.specs.Impulse.{windowSize};
 ghost use Rattle.log.specs.Ready.{Bounded};
 ghost use Rattle.impulse.specs.Machine.{settingOf};
 ghost use Rattle.impulse.specs.View.{suppressorOf, given};
@@ -15,18 +16,10 @@ use impulse::Answer;
 use impulse::Ended;
 use impulse::Gate;
 use impulse::ImpulseSuppressor;
-use log::Log;
 use log::Mark;
+use log::Notes;
 use log::Repair;
-use log::Ring;
 use log::Stage;
-
-// What the stage tells: the rings of spans, the ring of repairs, and how many runs were too long.
-pub struct Notes {
-    pub log: Log,
-    pub repairs: Ring,
-    pub longruns: u64,
-}
 
 // One sample taken: `out` is the place behind the released ones.
 pub struct Turned {
@@ -59,36 +52,34 @@ fn counted(longruns: u64, long: bool) -> u64
 fn note_doubt(notes: Notes, doubt: bool, j: u64, spans: &mut [u64], cap: usize) -> Notes
     requires { ⌜ Bounded cap (2 ^ 60) (record { log = notes .log; spans = now spans }) ⌝ }
     requires { ⌜ j ≤ 2 ^ 60 ⌝ }
-    ensures { λ r. ⌜ ((room : ℕ) (rs : List ℕ) → notedOf r (now (spans .exit)) rs ≡ noteAll cap room (notedOf notes (now (spans .entry)) rs) (doubts j doubt)) ⌝ }
+    ensures { λ r.
+        ⌜ ((room : ℕ) (rs : List ℕ) → notedOf r (now (spans .exit)) rs ≡ noteAll cap room (notedOf notes (now (spans .entry)) rs) (doubts j doubt)) ⌝ }
 {
     if !doubt {
         return notes;
     }
     let log = notes.log;
-    let repairs = notes.repairs;
     let marked = log.mark(spans, cap, Stage::Impulse, Mark::Uncertain, j, 1);
-    Notes {
-        log: marked,
-        repairs,
-        longruns: notes.longruns,
-    }
+    let mut told = notes;
+    told.log = marked;
+    told
 }
 
 // A run that was kept is flagged, and a long one is counted.
 fn note_kept(notes: Notes, start: u64, len: u64, long: bool, spans: &mut [u64], cap: usize) -> Notes
     requires { ⌜ Bounded cap (2 ^ 61) (record { log = notes .log; spans = now spans }) ⌝ }
     requires { ⌜ (notes .longruns ≤ 2 ^ 61) × (start + len ≤ 2 ^ 60) ⌝ }
-    ensures { λ r. ⌜ ((room : ℕ) (rs : List ℕ) → notedOf r (now (spans .exit)) rs ≡ noteAll cap room (notedOf notes (now (spans .entry)) rs) (filledEvents (Ended.Kept start len long))) ⌝ }
+    ensures { λ r.
+        ⌜ ((room : ℕ) (rs : List ℕ)
+        → notedOf r (now (spans .exit)) rs ≡ noteAll cap room (notedOf notes (now (spans .entry)) rs) (filledEvents (Ended.Kept start len long))) ⌝ }
 {
     let log = notes.log;
-    let repairs = notes.repairs;
     let longruns = counted(notes.longruns, long);
     let marked = log.mark(spans, cap, Stage::Impulse, Mark::Flagged, start, len);
-    Notes {
-        log: marked,
-        repairs,
-        longruns,
-    }
+    let mut told = notes;
+    told.log = marked;
+    told.longruns = longruns;
+    told
 }
 
 // A run that was mended is marked, and its originals are recorded.
@@ -102,17 +93,18 @@ fn note_mended(
 ) -> Notes
     requires { ⌜ Roomy cap room (2 ^ 61) (notedOf notes (now spans) (now repairs)) ⌝ }
     requires { ⌜ r .start + r .len ≤ 2 ^ 60 ⌝ }
-    ensures { λ n. ⌜ notedOf n (now (spans .exit)) (now (repairs .exit)) ≡ noteAll cap room (notedOf notes (now (spans .entry)) (now (repairs .entry))) (filledEvents (Ended.Mended r)) ⌝ }
+    ensures { λ n.
+        ⌜ notedOf n (now (spans .exit)) (now (repairs .exit))
+        ≡ noteAll cap room (notedOf notes (now (spans .entry)) (now (repairs .entry))) (filledEvents (Ended.Mended r)) ⌝ }
 {
     let log = notes.log;
     let ring = notes.repairs;
     let marked = log.mark(spans, cap, Stage::Impulse, Mark::Repaired, r.start, r.len);
     let recorded = log::record_repair(ring, repairs, room, r);
-    Notes {
-        log: marked,
-        repairs: recorded,
-        longruns: notes.longruns,
-    }
+    let mut told = notes;
+    told.log = marked;
+    told.repairs = recorded;
+    told
 }
 
 // What became of a run.
@@ -126,7 +118,9 @@ fn note_ended(
 ) -> Notes
     requires { ⌜ Roomy cap room (2 ^ 61) (notedOf notes (now spans) (now repairs)) ⌝ }
     requires { ⌜ endedEnd ended ≤ 2 ^ 60 ⌝ }
-    ensures { λ r. ⌜ notedOf r (now (spans .exit)) (now (repairs .exit)) ≡ noteAll cap room (notedOf notes (now (spans .entry)) (now (repairs .entry))) (filledEvents ended) ⌝ }
+    ensures { λ r.
+        ⌜ notedOf r (now (spans .exit)) (now (repairs .exit))
+        ≡ noteAll cap room (notedOf notes (now (spans .entry)) (now (repairs .entry))) (filledEvents ended) ⌝ }
 {
     match ended {
         Ended::Going => notes,
@@ -148,7 +142,9 @@ fn note(
 ) -> Notes
     requires { ⌜ Roomy cap room (2 ^ 60) (notedOf notes (now spans) (now repairs)) ⌝ }
     requires { ⌜ (j ≤ 2 ^ 60) × (endedEnd ended ≤ 2 ^ 60) ⌝ }
-    ensures { λ r. ⌜ notedOf r (now (spans .exit)) (now (repairs .exit)) ≡ noteAll cap room (notedOf notes (now (spans .entry)) (now (repairs .entry))) (doubts j doubt ++ filledEvents ended) ⌝ }
+    ensures { λ r.
+        ⌜ notedOf r (now (spans .exit)) (now (repairs .exit))
+        ≡ noteAll cap room (notedOf notes (now (spans .entry)) (now (repairs .entry))) (doubts j doubt ++ filledEvents ended) ⌝ }
 {
     let first = note_doubt(notes, doubt, j, spans, cap);
     note_ended(first, ended, spans, cap, repairs, room)
@@ -186,12 +182,22 @@ fn take(
 ) -> Turned
     requires { ⌜ (k < length (now samples)) × (out ≤ k) ⌝ }
     requires { ⌜ Room gate ⌝ }
-    requires { ⌜ length (now sorted) ≡ 33 ⌝ }
+    requires { ⌜ length (now sorted) ≡ windowSize ⌝ }
     requires { ⌜ Roomy cap room (2 ^ 60) (notedOf notes (now spans) (now repairs)) ⌝ }
-    ensures suppressor { λ r. ⌜ suppressorOf (r .gate) (now (window .exit)) (now (sorted .exit)) (now (pending .exit)) ≡ step (settingOf gate) (suppressorOf gate (now (window .entry)) (now (sorted .entry)) (now (pending .entry))) (getD (now (samples .entry)) k 0) ⌝ }
-    ensures noted { λ r. ⌜ notedOf (r .notes) (now (spans .exit)) (now (repairs .exit)) ≡ noteAll cap room (notedOf notes (now (spans .entry)) (now (repairs .entry))) (news (settingOf gate) (suppressorOf gate (now (window .entry)) (now (sorted .entry)) (now (pending .entry))) (getD (now (samples .entry)) k 0)) ⌝ }
-    ensures ready { λ r. ⌜ r .out ≡ out + length (emit (settingOf gate) (suppressorOf gate (now (window .entry)) (now (sorted .entry)) (now (pending .entry))) (getD (now (samples .entry)) k 0)) ⌝ }
-    ensures written { λ r. ⌜ now (samples .exit) ≡ placed (now (samples .entry)) out (emit (settingOf gate) (suppressorOf gate (now (window .entry)) (now (sorted .entry)) (now (pending .entry))) (getD (now (samples .entry)) k 0)) ⌝ }
+    ensures suppressor { λ r. ⌜ suppressorOf (r .gate) (now (window .exit)) (now (sorted .exit)) (now (pending .exit))
+        ≡ step (settingOf gate) (suppressorOf gate (now (window .entry)) (now (sorted .entry)) (now (pending .entry))) (getD (now (samples .entry)) k 0) ⌝ }
+    ensures noted { λ r. ⌜ notedOf (r .notes) (now (spans .exit)) (now (repairs .exit))
+        ≡ noteAll cap room (notedOf notes (now (spans .entry)) (now (repairs .entry)))
+        (news (settingOf gate) (suppressorOf gate (now (window .entry)) (now (sorted .entry)) (now (pending .entry))) (getD (now (samples .entry)) k 0))
+        ⌝ }
+    ensures ready { λ r. ⌜ r .out
+        ≡ out + length
+        (emit (settingOf gate) (suppressorOf gate (now (window .entry)) (now (sorted .entry)) (now (pending .entry))) (getD (now (samples .entry)) k 0))
+        ⌝ }
+    ensures written { λ r. ⌜ now (samples .exit)
+        ≡ placed (now (samples .entry)) out
+        (emit (settingOf gate) (suppressorOf gate (now (window .entry)) (now (sorted .entry)) (now (pending .entry))) (getD (now (samples .entry)) k 0))
+        ⌝ }
 {
     let j = impulse::next_judged(gate.received);
     let p = gate.push(samples[k], window, sorted, pending);
@@ -223,12 +229,22 @@ pub fn run(
 ) -> Ran
     requires { ⌜ held ≤ length (now samples) ⌝ }
     requires { ⌜ (held < length (now samples) → Room first × (first .received + (length (now samples) - held) ≤ 2 ^ 50)) ⌝ }
-    requires { ⌜ length (now sorted) ≡ 33 ⌝ }
+    requires { ⌜ length (now sorted) ≡ windowSize ⌝ }
     requires { ⌜ Roomy cap room (2 ^ 52) (notedOf notes (now spans) (now repairs)) ⌝ }
-    ensures suppressor { λ r. ⌜ suppressorOf (r .gate) (now (window .exit)) (now (sorted .exit)) (now (pending .exit)) ≡ stateAfter (settingOf first) (suppressorOf first (now (window .entry)) (now (sorted .entry)) (now (pending .entry))) (drop held (now (samples .entry))) ⌝ }
-    ensures noted { λ r. ⌜ notedOf (r .notes) (now (spans .exit)) (now (repairs .exit)) ≡ noteAll cap room (notedOf notes (now (spans .entry)) (now (repairs .entry))) (told (settingOf first) (suppressorOf first (now (window .entry)) (now (sorted .entry)) (now (pending .entry))) (drop held (now (samples .entry)))) ⌝ }
-    ensures ready { λ r. ⌜ r .ready ≡ length (handed (settingOf first) (suppressorOf first (now (window .entry)) (now (sorted .entry)) (now (pending .entry))) (drop held (now (samples .entry)))) ⌝ }
-    ensures written { λ r. ⌜ now (samples .exit) ≡ over (handed (settingOf first) (suppressorOf first (now (window .entry)) (now (sorted .entry)) (now (pending .entry))) (drop held (now (samples .entry)))) (now (samples .entry)) ⌝ }
+    ensures suppressor { λ r. ⌜ suppressorOf (r .gate) (now (window .exit)) (now (sorted .exit)) (now (pending .exit))
+        ≡ stateAfter (settingOf first) (suppressorOf first (now (window .entry)) (now (sorted .entry)) (now (pending .entry)))
+        (drop held (now (samples .entry))) ⌝ }
+    ensures noted { λ r. ⌜ notedOf (r .notes) (now (spans .exit)) (now (repairs .exit))
+        ≡ noteAll cap room (notedOf notes (now (spans .entry)) (now (repairs .entry)))
+        (told (settingOf first) (suppressorOf first (now (window .entry)) (now (sorted .entry)) (now (pending .entry)))
+        (drop held (now (samples .entry)))) ⌝ }
+    ensures ready { λ r. ⌜ r .ready
+        ≡ length
+        (handed (settingOf first) (suppressorOf first (now (window .entry)) (now (sorted .entry)) (now (pending .entry)))
+        (drop held (now (samples .entry)))) ⌝ }
+    ensures written { λ r. ⌜ now (samples .exit)
+        ≡ over (handed (settingOf first) (suppressorOf first (now (window .entry)) (now (sorted .entry)) (now (pending .entry)))
+        (drop held (now (samples .entry)))) (now (samples .entry)) ⌝ }
 {
     let mut gate = first;
     let mut said = notes;

@@ -1,4 +1,5 @@
--- Laws of powers that ascend from 0 on: what the test says; one power replaced by minima and maxima is a removal and an insertion, and the powers still ascend. Assumes nothing.
+-- Laws of powers that ascend from 0 on: what the test says; one power replaced by minima and maxima is a removal and an insertion, and the powers still ascend.
+-- Assumes nothing.
 use mathlib.Core.Path.{_≡_, refl, sym, ap, _∙_, subst}
 use mathlib.Core.Bool.{Bool, true, false, cond, _&&_}
 use mathlib.Core.List.{List, [], _∷_}
@@ -36,7 +37,8 @@ module _ (by : Float → Float → Bool) where
   climbs-one z [] d h = absurd (omega arith)
   climbs-one z (a ∷ l) d h = unless (by z a)
 
-  pub climbs-more : (z : Float) (l : List Float) (k : ℕ) (d : Float) → suc k < length l → climbs by z (take (suc (suc k)) l) ≡ (climbs by z (take (suc k) l) && by (getD l k d) (getD l (suc k) d))
+  pub climbs-more : (z : Float) (l : List Float) (k : ℕ) (d : Float) → suc k < length l
+      → climbs by z (take (suc (suc k)) l) ≡ (climbs by z (take (suc k) l) && by (getD l k d) (getD l (suc k) d))
   unfolding climbs
   climbs-more z [] k d h = absurd (omega arith)
   climbs-more z (a ∷ []) k d h = absurd (omega arith)
@@ -49,7 +51,8 @@ pub held-more : (l : List Float) (k : ℕ) (d : Float) → k < length l → All 
 held-more l k d h g e = rw (take-suc l k d h) (all-append Held (take k l) (getD l k d ∷ []) g (e, tt))
 
 -- the test of the first k + 1, of the next, and so of both
-pub further : (by : Float → Float → Bool) (l : List Float) (k : ℕ) (so next : Bool) → suc k < length l → so ≡ climbs by zeroF (take (suc k) l) → All Held (take (suc k) l)
+pub further : (by : Float → Float → Bool) (l : List Float) (k : ℕ) (so next : Bool) → suc k < length l → so ≡ climbs by zeroF (take (suc k) l)
+    → All Held (take (suc k) l)
     → next ≡ by (getD l k nan) (getD l (k + 1) nan) → Held (getD l (k + 1) nan)
     → ((so && next) ≡ climbs by zeroF (take (suc (k + 1)) l)) × All Held (take (suc (k + 1)) l)
 further by l k so next h e a f g =
@@ -109,7 +112,8 @@ closed-is old n (suc m) (a ∷ []) h r e = absurd (omega arith)
 closed-is old n zero (a ∷ b ∷ l) h r e = absurd (omega arith)
 closed-is old n (suc m) (a ∷ b ∷ l) h r e = go (lt a old) (closed-is old (key binary32 a) m (b ∷ l) h (r .3) (omega arith)) refl
   where
-    go : (t : Bool) → closed old (b ∷ l) ≡ take m (remove lt old (b ∷ l)) → lt a old ≡ t → cond t a b ∷ closed old (b ∷ l) ≡ take (suc m) (cond t (a ∷ remove lt old (b ∷ l)) (b ∷ l))
+    go : (t : Bool) → closed old (b ∷ l) ≡ take m (remove lt old (b ∷ l)) → lt a old ≡ t
+        → cond t a b ∷ closed old (b ∷ l) ≡ take (suc m) (cond t (a ∷ remove lt old (b ∷ l)) (b ∷ l))
     go true i f = ap (λ (t : List Float). a ∷ t) i
     go false i f =
         let s = r .3 in
@@ -170,7 +174,8 @@ unfolding insert
 insert-rising p n [] q h k r = (q, h, k, tt)
 insert-rising p n (c ∷ l) q h k r = go (lt c p) (λ u. insert-rising p (key binary32 c) l q h u (r .3)) refl
   where
-    go : (t : Bool) → (key binary32 c ≤ key binary32 p → Rising (key binary32 c) (insert lt p l)) → lt c p ≡ t → Rising n (cond t (c ∷ insert lt p l) (p ∷ c ∷ l))
+    go : (t : Bool) → (key binary32 c ≤ key binary32 p → Rising (key binary32 c) (insert lt p l)) → lt c p ≡ t
+        → Rising n (cond t (c ∷ insert lt p l) (p ∷ c ∷ l))
     go true i f = let u = below binary32 c (r .0) (r .1) p h f .1 in (r .0, r .1, r .2, i (omega arith))
     go false i f = (q, h, k, (r .0, r .1, not-below binary32 c (r .0) (r .1) p q h f, r .3))
 
@@ -250,5 +255,6 @@ module _ (old p : Float) where
 
 -- ---- a list filled from the front
 
-pub filled : (l m : List Float) (k : ℕ) (v d : Float) → k < length l → k < length m → take k l ≡ take k m → v ≡ getD m k d → take (suc k) (set l k v) ≡ take (suc k) m
+pub filled : (l m : List Float) (k : ℕ) (v d : Float) → k < length l → k < length m → take k l ≡ take k m → v ≡ getD m k d
+    → take (suc k) (set l k v) ≡ take (suc k) m
 filled l m k v d h g e f = rw (take-suc-set l k v h, take-suc m k d g, e, f)

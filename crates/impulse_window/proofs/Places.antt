@@ -140,7 +140,8 @@ module _ {A : Type 0} (lt : A → A → Bool) where
       rw (take-append-le k m r h, drop-append-le k m r h) (sym (append-assoc (take k m) (p ∷ drop k m) r))
 
   -- the gap is at the end of the first i
-  pub growing : (l : List A) (i : ℕ) (p : A) → i ≤ length l → putIn (without l i) (rank lt p (take i (without l i))) p ≡ insert lt p (take i l) ++ drop (i + 1) l
+  pub growing : (l : List A) (i : ℕ) (p : A) → i ≤ length l
+      → putIn (without l i) (rank lt p (take i (without l i))) p ≡ insert lt p (take i l) ++ drop (i + 1) l
   growing l i p h =
       let n = length-take-le i l h in
       let k = rank-le lt p (take i l) in

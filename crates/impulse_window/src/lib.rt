@@ -9,7 +9,7 @@ ghost use lib.Ieee.{binary64, lt, le, add, mul, div, nan};
 ghost use Rattle.rules.specs.Constants.{zeroF, impulseRatio};
 ghost use Rattle.rules.specs.Sort.{insert, remove};
 ghost use Rattle.rules.specs.Lists.{All};
-ghost use Rattle.rules.specs.Impulse.{powerOf, standsOut};
+ghost use Rattle.rules.specs.Impulse.{windowSize, powerOf, standsOut};
 ghost use Rattle.impulse_window.specs.Ordered.{ordered, mean};
 ghost use Rattle.impulse_window.specs.Ordering.{rank, without, putIn};
 ghost use Rattle.impulse_window.specs.Rising.{climbs, Held, Rising, least, most, moved, blended, thirtyTwo};
@@ -18,12 +18,17 @@ use complex::Complex32;
 // The reference window.
 pub const WINDOW: usize = 33;
 
+// Its last place, and the one before.
+const LAST: usize = WINDOW - 1;
+
+const LAST_BUT_ONE: usize = WINDOW - 2;
+
 // How far above the reference the power of an impulse is.
 const IMPULSE_RATIO: f64 = 144.0;
 
 // Place k of the array with the gap left out.
 fn beside(sorted: &[f32; WINDOW], gap: usize, k: usize) -> f32
-    requires { ⌜ (gap ≤ 32) × (k < 32) × (length (now sorted) ≡ 33) ⌝ }
+    requires { ⌜ (gap < windowSize) × (k < windowSize - 1) × (length (now sorted) ≡ windowSize) ⌝ }
     ensures { λ r. ⌜ r ≡ getD (without (now (sorted .entry)) gap) k nan ⌝ }
 {
     if k < gap {
@@ -34,7 +39,7 @@ fn beside(sorted: &[f32; WINDOW], gap: usize, k: usize) -> f32
 
 // Where p goes among the first n powers, the gap left out: before the first that is not below it.
 fn rank(sorted: &[f32; WINDOW], n: usize, gap: usize, p: f32) -> usize
-    requires { ⌜ (n ≤ 32) × (gap ≤ 32) × (length (now sorted) ≡ 33) ⌝ }
+    requires { ⌜ (n < windowSize) × (gap < windowSize) × (length (now sorted) ≡ windowSize) ⌝ }
     ensures { λ r. ⌜ r ≡ rank lt p (take n (without (now (sorted .entry)) gap)) ⌝ }
 {
     let mut k: usize = 0;
@@ -49,7 +54,7 @@ fn rank(sorted: &[f32; WINDOW], n: usize, gap: usize, p: f32) -> usize
 
 // Moves the powers from `at` to the gap up by one, and puts p at `at`.
 fn raise(sorted: &mut [f32; WINDOW], gap: usize, at: usize, p: f32)
-    requires { ⌜ (at ≤ gap) × (gap ≤ 32) × (length (now sorted) ≡ 33) ⌝ }
+    requires { ⌜ (at ≤ gap) × (gap < windowSize) × (length (now sorted) ≡ windowSize) ⌝ }
     ensures { λ r. ⌜ now (sorted .exit) ≡ putIn (without (now (sorted .entry)) gap) at p ⌝ }
 {
     let mut k = gap;
@@ -62,7 +67,7 @@ fn raise(sorted: &mut [f32; WINDOW], gap: usize, at: usize, p: f32)
 
 // Moves the powers from the gap to `at` down by one, and puts p at `at`.
 fn lower(sorted: &mut [f32; WINDOW], gap: usize, at: usize, p: f32)
-    requires { ⌜ (gap ≤ at) × (at ≤ 32) × (length (now sorted) ≡ 33) ⌝ }
+    requires { ⌜ (gap ≤ at) × (at < windowSize) × (length (now sorted) ≡ windowSize) ⌝ }
     ensures { λ r. ⌜ now (sorted .exit) ≡ putIn (without (now (sorted .entry)) gap) at p ⌝ }
 {
     let mut k = gap;
@@ -75,7 +80,7 @@ fn lower(sorted: &mut [f32; WINDOW], gap: usize, at: usize, p: f32)
 
 // The gap closed, and p put in at place `at` of the powers that are left.
 fn put(sorted: &mut [f32; WINDOW], gap: usize, at: usize, p: f32)
-    requires { ⌜ (gap ≤ 32) × (at ≤ 32) × (length (now sorted) ≡ 33) ⌝ }
+    requires { ⌜ (gap < windowSize) × (at < windowSize) × (length (now sorted) ≡ windowSize) ⌝ }
     ensures { λ r. ⌜ now (sorted .exit) ≡ putIn (without (now (sorted .entry)) gap) at p ⌝ }
 {
     if at < gap {
@@ -87,7 +92,7 @@ fn put(sorted: &mut [f32; WINDOW], gap: usize, at: usize, p: f32)
 
 // The i-th power, p, goes in: the window is not full yet.
 fn grow(sorted: &mut [f32; WINDOW], i: u64, p: f32)
-    requires { ⌜ (i < 33) × (length (now sorted) ≡ 33) ⌝ }
+    requires { ⌜ (i < windowSize) × (length (now sorted) ≡ windowSize) ⌝ }
     ensures { λ r. ⌜ now (sorted .exit) ≡ insert lt p (take i (now (sorted .entry))) ++ drop (i + 1) (now (sorted .entry)) ⌝ }
 {
     let n = i as usize;
@@ -97,12 +102,11 @@ fn grow(sorted: &mut [f32; WINDOW], i: u64, p: f32)
 
 // The old power goes out and p goes in, whatever the order of the others.
 fn exchange(sorted: &mut [f32; WINDOW], old: f32, p: f32)
-    requires { ⌜ length (now sorted) ≡ 33 ⌝ }
-    ensures { λ r. ⌜ now (sorted .exit) ≡ insert lt p (take 32 (remove lt old (now (sorted .entry)))) ⌝ }
+    requires { ⌜ length (now sorted) ≡ windowSize ⌝ }
+    ensures { λ r. ⌜ now (sorted .exit) ≡ insert lt p (take (windowSize - 1) (remove lt old (now (sorted .entry)))) ⌝ }
 {
-    let last = WINDOW - 1;
-    let gap = rank(sorted, last, last, old);
-    let at = rank(sorted, last, gap, p);
+    let gap = rank(sorted, LAST, LAST, old);
+    let at = rank(sorted, LAST, gap, p);
     put(sorted, gap, at, p);
 }
 
@@ -117,13 +121,13 @@ fn at_most(a: f32, b: f32) -> bool
 
 // Whether they do. None is a NaN then.
 fn ascends(sorted: &[f32; WINDOW]) -> bool
-    requires { ⌜ length (now sorted) ≡ 33 ⌝ }
+    requires { ⌜ length (now sorted) ≡ windowSize ⌝ }
     ensures result { λ r. ⌜ r ≡ climbs le zeroF (now (sorted .entry)) ⌝ }
     ensures values { λ r. ⌜ All Held (now (sorted .entry)) ⌝ }
 {
     let mut rising = at_most(0.0, sorted[0]);
     let mut k: usize = 0;
-    while k < WINDOW - 1 {
+    while k < LAST {
         rising = rising & at_most(sorted[k], sorted[k + 1]);
         k = k + 1;
     }
@@ -167,25 +171,25 @@ fn between(old: f32, p: f32, a: f32, b: f32, c: f32) -> f32
 
 // The powers without the old one and with p.
 fn blended(sorted: &[f32; WINDOW], old: f32, p: f32) -> [f32; WINDOW]
-    requires { ⌜ length (now sorted) ≡ 33 ⌝ }
+    requires { ⌜ length (now sorted) ≡ windowSize ⌝ }
     ensures { λ r. ⌜ r ≡ blended old p (now (sorted .entry)) ⌝ }
 {
     let mut out = [0.0f32; WINDOW];
     out[0] = least(moved(old, sorted[0], sorted[1]), p);
     let mut k: usize = 0;
-    while k < WINDOW - 2 {
+    while k < LAST_BUT_ONE {
         out[k + 1] = between(old, p, sorted[k], sorted[k + 1], sorted[k + 2]);
         k = k + 1;
     }
-    out[32] = most(moved(old, sorted[31], sorted[32]), p);
+    out[LAST] = most(moved(old, sorted[LAST_BUT_ONE], sorted[LAST]), p);
     out
 }
 
 // The old power goes out and p goes in.
 fn replace(sorted: &mut [f32; WINDOW], old: f32, p: f32)
-    requires { ⌜ length (now sorted) ≡ 33 ⌝ }
+    requires { ⌜ length (now sorted) ≡ windowSize ⌝ }
     requires { ⌜ Rising 0 (now sorted) ⌝ }
-    ensures result { λ r. ⌜ now (sorted .exit) ≡ insert lt p (take 32 (remove lt old (now (sorted .entry)))) ⌝ }
+    ensures result { λ r. ⌜ now (sorted .exit) ≡ insert lt p (take (windowSize - 1) (remove lt old (now (sorted .entry)))) ⌝ }
     ensures rising { λ r. ⌜ (le zeroF p ≡ true → Rising 0 (now (sorted .exit))) ⌝ }
 {
     let out = blended(sorted, old, p);
@@ -197,8 +201,8 @@ fn replace(sorted: &mut [f32; WINDOW], old: f32, p: f32)
 // The i-th power, p, goes in, and once the window is full the oldest goes out. The answer is true only
 // if the powers ascend from 0 on.
 fn order(sorted: &mut [f32; WINDOW], i: u64, old: f32, p: f32) -> bool
-    requires { ⌜ length (now sorted) ≡ 33 ⌝ }
-    ensures result { λ r. ⌜ now (sorted .exit) ≡ ordered 33 i old p (now (sorted .entry)) ⌝ }
+    requires { ⌜ length (now sorted) ≡ windowSize ⌝ }
+    ensures result { λ r. ⌜ now (sorted .exit) ≡ ordered windowSize i old p (now (sorted .entry)) ⌝ }
     ensures rising { λ r. ⌜ (r ≡ true → Rising 0 (now (sorted .exit))) ⌝ }
 {
     if i < WINDOW as u64 {
@@ -216,9 +220,9 @@ fn order(sorted: &mut [f32; WINDOW], i: u64, old: f32, p: f32) -> bool
 // Sample i comes: its power takes its place in the window and goes among the ordered ones. The answer
 // is true only if these ascend from 0 on.
 pub fn take_in(window: &mut [f32; WINDOW], sorted: &mut [f32; WINDOW], i: u64, x: u64) -> bool
-    requires { ⌜ length (now sorted) ≡ 33 ⌝ }
-    ensures powers { λ r. ⌜ now (window .exit) ≡ set (now (window .entry)) (i % 33) (powerOf x) ⌝ }
-    ensures ascending { λ r. ⌜ now (sorted .exit) ≡ ordered 33 i (getD (now (window .entry)) (i % 33) nan) (powerOf x) (now (sorted .entry)) ⌝ }
+    requires { ⌜ length (now sorted) ≡ windowSize ⌝ }
+    ensures powers { λ r. ⌜ now (window .exit) ≡ set (now (window .entry)) (i % windowSize) (powerOf x) ⌝ }
+    ensures ascending { λ r. ⌜ now (sorted .exit) ≡ ordered windowSize i (getD (now (window .entry)) (i % windowSize) nan) (powerOf x) (now (sorted .entry)) ⌝ }
     ensures rising { λ r. ⌜ (r ≡ true → Rising 0 (now (sorted .exit))) ⌝ }
 {
     let p = Complex32::unpack(x).norm_sqr();
@@ -232,7 +236,7 @@ pub fn take_in(window: &mut [f32; WINDOW], sorted: &mut [f32; WINDOW], i: u64, x
 
 // The sum of the first n powers, in their order.
 fn sum(sorted: &[f32; WINDOW], n: usize) -> f64
-    requires { ⌜ (n ≤ 33) × (length (now sorted) ≡ 33) ⌝ }
+    requires { ⌜ (n ≤ windowSize) × (length (now sorted) ≡ windowSize) ⌝ }
     ensures { λ r. ⌜ r ≡ foldl (add binary64) zeroF (take n (now (sorted .entry))) ⌝ }
 {
     let mut s = 0.0;
@@ -246,7 +250,7 @@ fn sum(sorted: &[f32; WINDOW], n: usize) -> f64
 
 // Their mean.
 fn reference(sorted: &[f32; WINDOW], n: usize) -> f64
-    requires { ⌜ (n ≤ 33) × (length (now sorted) ≡ 33) ⌝ }
+    requires { ⌜ (n ≤ windowSize) × (length (now sorted) ≡ windowSize) ⌝ }
     ensures { λ r. ⌜ r ≡ mean (take n (now (sorted .entry))) ⌝ }
 {
     sum(sorted, n) / (n as f64)
@@ -271,7 +275,7 @@ fn is_near(x: f32, p: f32) -> bool
 
 // Whether it is known without the mean of the first k powers that a sample of power p is not flagged.
 fn is_quiet(sorted: &[f32; WINDOW], k: usize, rising: bool, p: f32) -> bool
-    requires { ⌜ (k ≤ 32) × (length (now sorted) ≡ 33) ⌝ }
+    requires { ⌜ (k < windowSize) × (length (now sorted) ≡ windowSize) ⌝ }
     requires { ⌜ (rising ≡ true → Rising 0 (now sorted)) ⌝ }
     ensures { λ r. ⌜ (r ≡ true → standsOut (mean (take k (now (sorted .entry)))) p ≡ false) ⌝ }
 {
@@ -287,7 +291,7 @@ fn is_quiet(sorted: &[f32; WINDOW], k: usize, rising: bool, p: f32) -> bool
 // A sample of power p stands out from the mean of the first k powers. `rising`: it is known that the
 // powers ascend from 0 on.
 pub fn is_flagged(sorted: &[f32; WINDOW], k: usize, p: f32, rising: bool) -> bool
-    requires { ⌜ (k ≤ 32) × (length (now sorted) ≡ 33) ⌝ }
+    requires { ⌜ (k < windowSize) × (length (now sorted) ≡ windowSize) ⌝ }
     requires { ⌜ (rising ≡ true → Rising 0 (now sorted)) ⌝ }
     ensures { λ b. ⌜ b ≡ standsOut (mean (take k (now (sorted .entry)))) p ⌝ }
 {

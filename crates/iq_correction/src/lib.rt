@@ -13,6 +13,7 @@ ghost use Rattle.rules.specs.Iq.{ranged, corrected, correctedBy, uncorrected};
 ghost use Rattle.amplitude_limit.specs.Limit.{under};
 ghost use Rattle.iq.specs.View.{settledOf};
 ghost use Rattle.iq_correction.specs.Groups.{Small, FiniteWord, rebased, partBits, Clear, Mapping};
+ghost use Rattle.rules.specs.Answers.{numberIn};
 ghost use Rattle.iq_correction.specs.Undo.{said, undoReturned, undoWords};
 use complex::Complex64;
 use iq::Iq;
@@ -204,6 +205,17 @@ pub enum Reverted {
     Restored,
     Unfit,
     Beyond(usize),
+}
+
+// Document 01's number of an answer, and 0 where there is none.
+pub fn number(answer: Reverted) -> u64
+    ensures { λ r. ⌜ r ≡ numberIn (said answer) ⌝ }
+{
+    match answer {
+        Reverted::Restored => 0,
+        Reverted::Unfit => 10,
+        Reverted::Beyond(_) => 7,
+    }
 }
 
 // The samples of a stage that corrected with rho, as they were before it, in place.

@@ -6,11 +6,12 @@ use Prim.Native.Nat.{ℕ, suc, _+_, _-_, _*_, _/_, _≤_, _<_}
 use native.Mathlib.Omega.{arith}
 use native.Mathlib.Numerals.{add-one}
 use lib.ListN.{length, getD, take, drop, set, length-set, length-append, length-drop, drop-of-length-le, List·getD-append}
-use lib.Seq.{take-all, take-suc, drop-cons, take-append-le, take-at, drop-at, getD-append-add, set-split, take-suc-set, drop-set-lt, getD-take, take-take, length-take-le}
+use lib.Seq.{take-all, take-suc, drop-cons, take-append-le, take-at, drop-at, getD-append-add, set-split, take-suc-set, drop-set-lt, getD-take, take-take}
+use lib.Seq.{length-take-le}
 use lib.Ieee.{Float, nan, binary64, lt, add, mul}
 use borrow.Rule.Slice.PartMut.{midOf, postOf, putMid}
 use Rattle.rules.specs.Constants.{zeroF, oneHalf}
-use Rattle.rules.specs.Monitor.{floorOf}
+use Rattle.rules.specs.Monitor.{floorOf, channelWidth}
 use Rattle.rules.specs.Sort.{insert, sort}
 use Rattle.rules.specs.laws.ListLaws.{read-any}
 use Rattle.rules.specs.laws.SortLaws.{all-append}
@@ -25,7 +26,8 @@ copied-none ws n =
     let e : 3 * n + 0 ≡ 3 * n = omega arith in
     (omega arith, refl, ap (λ (i : ℕ). take i ws) e ∙ sym (append-nil (take (3 * n) ws)))
 
-pub copied-next : {A : Type 0} (d : A) (ws₀ : List A) (n : ℕ) (ws : List A) (k : ℕ) → length ws₀ ≡ 4 * n → k < n → Copied ws₀ n ws k → Copied ws₀ n (set ws (3 * n + k) (getD ws k d)) (k + 1)
+pub copied-next : {A : Type 0} (d : A) (ws₀ : List A) (n : ℕ) (ws : List A) (k : ℕ) → length ws₀ ≡ channelWidth * n → k < n → Copied ws₀ n ws k
+    → Copied ws₀ n (set ws (3 * n + k) (getD ws k d)) (k + 1)
 copied-next {A = A} d ws₀ n ws k len h c =
     let i = 3 * n + k in
     let same : getD ws k d ≡ getD ws₀ k d =
@@ -44,7 +46,8 @@ copied-next {A = A} d ws₀ n ws k len h c =
           ∙ ap (λ (l : List A). take (3 * n) ws₀ ++ l) (sym (ap (λ (j : ℕ). take j ws₀) (add-one k) ∙ take-suc ws₀ k d (omega arith))),
     )
 
-pub copied-all : {A : Type 0} (ws₀ : List A) (n : ℕ) (ws : List A) (k : ℕ) → length ws₀ ≡ 4 * n → n ≤ k → Copied ws₀ n ws k → ws ≡ take (3 * n) ws₀ ++ take n ws₀
+pub copied-all : {A : Type 0} (ws₀ : List A) (n : ℕ) (ws : List A) (k : ℕ) → length ws₀ ≡ channelWidth * n → n ≤ k → Copied ws₀ n ws k
+    → ws ≡ take (3 * n) ws₀ ++ take n ws₀
 copied-all {A = A} ws₀ n ws k len h c =
     let e : k ≡ n = omega arith in
     sym (take-all (3 * n + k) ws (omega arith)) ∙ c .2 ∙ ap (λ (i : ℕ). take (3 * n) ws₀ ++ take i ws₀) e
@@ -66,7 +69,8 @@ pub insert-end : (a : Float) → insert lt a [] ≡ a ∷ []
 unfolding insert
 insert-end a = refl
 
-pub sinking-next : (l₀ : List Float) (k : ℕ) (a : Float) (l : List Float) (i : ℕ) → i + 1 < length l → lt (getD l (i + 1) nan) a ≡ true → Sinking l₀ k a l i → Sinking l₀ k a (set l i (getD l (i + 1) nan)) (i + 1)
+pub sinking-next : (l₀ : List Float) (k : ℕ) (a : Float) (l : List Float) (i : ℕ) → i + 1 < length l → lt (getD l (i + 1) nan) a ≡ true → Sinking l₀ k a l i
+    → Sinking l₀ k a (set l i (getD l (i + 1) nan)) (i + 1)
 sinking-next l₀ k a l i h t s =
     let b = getD l (i + 1) nan in
     let rest = drop (i + 1 + 1) l in
@@ -83,7 +87,8 @@ sinking-next l₀ k a l i h t s =
     )
 
 -- it stands before one that is not below it, or at the end
-pub sinking-stop : (l₀ : List Float) (k : ℕ) (a : Float) (l : List Float) (i : ℕ) → lt (getD l (i + 1) nan) a ≡ false → i + 1 < length l → Sinking l₀ k a l i → set l i a ≡ take k l₀ ++ insert lt a (drop (k + 1) l₀)
+pub sinking-stop : (l₀ : List Float) (k : ℕ) (a : Float) (l : List Float) (i : ℕ) → lt (getD l (i + 1) nan) a ≡ false → i + 1 < length l → Sinking l₀ k a l i
+    → set l i a ≡ take k l₀ ++ insert lt a (drop (k + 1) l₀)
 sinking-stop l₀ k a l i t h s =
     let b = getD l (i + 1) nan in
     let one : drop (i + 1) l ≡ b ∷ drop (suc (i + 1)) l = drop-cons l (i + 1) nan h in
@@ -92,7 +97,8 @@ sinking-stop l₀ k a l i t h s =
     ∙ ap (λ (p : List Float). take i l ++ p) (ap (λ (p : List Float). a ∷ p) one ∙ sym (ap (insert lt a) one ∙ insert-stop a b (drop (suc (i + 1)) l) t))
     ∙ s .2
 
-pub sinking-end : (l₀ : List Float) (k : ℕ) (a : Float) (l : List Float) (i : ℕ) → length l ≤ i + 1 → Sinking l₀ k a l i → set l i a ≡ take k l₀ ++ insert lt a (drop (k + 1) l₀)
+pub sinking-end : (l₀ : List Float) (k : ℕ) (a : Float) (l : List Float) (i : ℕ) → length l ≤ i + 1 → Sinking l₀ k a l i
+    → set l i a ≡ take k l₀ ++ insert lt a (drop (k + 1) l₀)
 sinking-end l₀ k a l i h s =
     let none : drop (i + 1) l ≡ [] = drop-of-length-le l {i = i + 1} h in
     set-split l i a (omega arith)
@@ -138,18 +144,22 @@ sorting-length l₀ l k s =
 pub sorting-none : (l : List Float) → Sorting l l (length l)
 sorting-none l = (
   omega arith,
-  sym (ap (λ (p : List Float). take (length l) l ++ p) (ap (sort lt) (drop-of-length-le l {i = length l} (omega arith)) ∙ sort-nil) ∙ append-nil (take (length l) l) ∙ take-all (length l) l (omega arith)),
+  sym (ap (λ (p : List Float). take (length l) l ++ p) (ap (sort lt) (drop-of-length-le l {i = length l} (omega arith)) ∙ sort-nil)
+      ∙ append-nil (take (length l) l) ∙ take-all (length l) l (omega arith)),
 )
 
-pub sorting-next : (l₀ l l' : List Float) (k : ℕ) → 0 < k → l' ≡ take (k - 1) l ++ insert lt (getD l (k - 1) nan) (drop (k - 1 + 1) l) → Sorting l₀ l k → Sorting l₀ l' (k - 1)
+pub sorting-next : (l₀ l l' : List Float) (k : ℕ) → 0 < k → l' ≡ take (k - 1) l ++ insert lt (getD l (k - 1) nan) (drop (k - 1 + 1) l) → Sorting l₀ l k
+    → Sorting l₀ l' (k - 1)
 sorting-next l₀ l l' k K e s =
     let j = k - 1 in
     let back : j + 1 ≡ k = omega arith in
     let n : length (take k l₀) ≡ k = length-take-le k l₀ (s .0) in
     let front : take j l ≡ take j l₀ = ap (take j) (s .1) ∙ take-append-le j (take k l₀) (sort lt (drop k l₀)) (omega arith) ∙ take-take j k l₀ (omega arith) in
-    let here : getD l j nan ≡ getD l₀ j nan = ap (λ (p : List Float). getD p j nan) (s .1) ∙ List·getD-append (take k l₀) (sort lt (drop k l₀)) nan j (omega arith) ∙ getD-take k l₀ j nan (omega arith) in
+    let here : getD l j nan ≡ getD l₀ j nan = ap (λ (p : List Float). getD p j nan) (s .1)
+    ∙ List·getD-append (take k l₀) (sort lt (drop k l₀)) nan j (omega arith) ∙ getD-take k l₀ j nan (omega arith) in
     let rest : drop (j + 1) l ≡ sort lt (drop k l₀) = ap (λ (i : ℕ). drop i l) back ∙ ap (drop k) (s .1) ∙ drop-at (take k l₀) (sort lt (drop k l₀)) k n in
-    let last : drop j l₀ ≡ getD l₀ j nan ∷ drop k l₀ = drop-cons l₀ j nan (omega arith) ∙ ap (λ (i : ℕ). getD l₀ j nan ∷ drop i l₀) (sym (add-one j) ∙ back) in (
+    let last : drop j l₀ ≡ getD l₀ j nan ∷ drop k l₀ = drop-cons l₀ j nan (omega arith)
+    ∙ ap (λ (i : ℕ). getD l₀ j nan ∷ drop i l₀) (sym (add-one j) ∙ back) in (
       omega arith,
       e
           ∙ ap (λ (p : List Float). p ++ insert lt (getD l j nan) (drop (j + 1) l)) front
@@ -162,7 +172,7 @@ pub sorting-all : (l₀ l : List Float) (k : ℕ) → k ≤ 0 → Sorting l₀ l
 sorting-all l₀ l k h s = let z : k ≡ 0 = omega arith in s .1 ∙ ap (λ (i : ℕ). take i l₀ ++ sort lt (drop i l₀)) z
 
 -- ---- the copied powers, lent: they are the powers, and what they become stands behind the rest
-module _ (n : ℕ) (ws copied : List Float) (len : length ws ≡ 4 * n) (e : copied ≡ take (3 * n) ws ++ take n ws) where
+module _ (n : ℕ) (ws copied : List Float) (len : length ws ≡ channelWidth * n) (e : copied ≡ take (3 * n) ws ++ take n ws) where
   others-length : length (take (3 * n) ws) ≡ 3 * n
   others-length = length-take-le (3 * n) ws (omega arith)
 
@@ -180,17 +190,21 @@ module _ (n : ℕ) (ws copied : List Float) (len : length ws ≡ 4 * n) (e : cop
 
   pub put-back : (part : List Float) → putMid (3 * n) (length copied - 3 * n) copied part ≡ take (3 * n) ws ++ part
   put-back part =
-      let rest : postOf (3 * n) (length copied - 3 * n) copied ≡ [] = ap (λ (i : ℕ). drop i (drop (3 * n) copied)) lent ∙ ap (drop n) back ∙ drop-of-length-le (take n ws) {i = n} (let b = powers-length in omega arith) in
-      ap (λ (l : List Float). l ++ (part ++ postOf (3 * n) (length copied - 3 * n) copied)) (ap (take (3 * n)) e ∙ take-at (take (3 * n) ws) (take n ws) (3 * n) others-length)
+      let rest : postOf (3 * n) (length copied - 3 * n) copied ≡ [] = ap (λ (i : ℕ). drop i (drop (3 * n) copied)) lent ∙ ap (drop n) back
+      ∙ drop-of-length-le (take n ws) {i = n} (let b = powers-length in omega arith) in
+      ap (λ (l : List Float). l ++ (part ++ postOf (3 * n) (length copied - 3 * n) copied))
+      (ap (take (3 * n)) e ∙ take-at (take (3 * n) ws) (take n ws) (3 * n) others-length)
       ∙ ap (λ (l : List Float). take (3 * n) ws ++ (part ++ l)) rest
       ∙ ap (λ (l : List Float). take (3 * n) ws ++ l) (append-nil part)
 
 -- ---- `sorted_floor`
-pub sorted-in-place : (n : ℕ) (ws copied sorted : List Float) → length ws ≡ 4 * n → copied ≡ take (3 * n) ws ++ take n ws → sorted ≡ sort lt (midOf (3 * n) (length copied - 3 * n) copied)
+pub sorted-in-place : (n : ℕ) (ws copied sorted : List Float) → length ws ≡ channelWidth * n → copied ≡ take (3 * n) ws ++ take n ws
+    → sorted ≡ sort lt (midOf (3 * n) (length copied - 3 * n) copied)
     → putMid (3 * n) (length copied - 3 * n) copied sorted ≡ take (3 * n) ws ++ sort lt (take n ws)
-sorted-in-place n ws copied sorted len e s = put-back n ws copied len e sorted ∙ ap (λ (l : List Float). take (3 * n) ws ++ l) (s ∙ ap (sort lt) (lent-powers n ws copied len e))
+sorted-in-place n ws copied sorted len e s = put-back n ws copied len e sorted
+    ∙ ap (λ (l : List Float). take (3 * n) ws ++ l) (s ∙ ap (sort lt) (lent-powers n ws copied len e))
 
-pub floor-read : (n : ℕ) (ws final : List Float) → 0 < n → length ws ≡ 4 * n → final ≡ take (3 * n) ws ++ sort lt (take n ws)
+pub floor-read : (n : ℕ) (ws final : List Float) → 0 < n → length ws ≡ channelWidth * n → final ≡ take (3 * n) ws ++ sort lt (take n ws)
     → mul binary64 (add binary64 (getD final (3 * n + (n - 1) / 2) nan) (getD final (3 * n + n / 2) nan)) oneHalf ≡ floorOf (take n ws)
 unfolding floorOf
 floor-read n ws final h len e =

@@ -10,7 +10,8 @@ ghost use lib.Ieee.{nan, lt, binary64, fits};
 ghost use Rattle.ieee.specs.Plain.{signClear, Plain};
 ghost use Rattle.rules.specs.Lists.{allOf, All};
 ghost use Rattle.rules.specs.Sort.{insert, sort};
-ghost use Rattle.rules.specs.Monitor.{floorOf};
+ghost use Rattle.rules.specs.Monitor.{floorOf, channelWidth};
+ghost use Rattle.rules.specs.Constants.{sizeLimit};
 ghost use Rattle.iq_median.specs.Select.{belowOf, aboveOf, Window, Turning, Narrowed, Selected, leastAbove};
 
 // How many words are below one, and how many above.
@@ -56,7 +57,7 @@ pub fn sort_words(part: &mut [f64])
 
 // The powers, over the sorting words.
 fn copy_powers(words: &mut [f64], n: usize)
-    requires { ⌜ length (now words) ≡ 4 * n ⌝ ∗ ⌜ n ≤ 2048 ⌝ }
+    requires { ⌜ length (now words) ≡ channelWidth * n ⌝ ∗ ⌜ n ≤ sizeLimit ⌝ }
     ensures { λ _. ⌜ now (words .exit) ≡ take (3 * n) (now (words .entry)) ++ take n (now (words .entry)) ⌝ }
 {
     let mut k: usize = 0;
@@ -69,7 +70,7 @@ fn copy_powers(words: &mut [f64], n: usize)
 
 // Half the sum of the two powers in the middle, from all of them sorted.
 fn sorted_floor(words: &mut [f64], n: usize) -> f64
-    requires { ⌜ length (now words) ≡ 4 * n ⌝ ∗ ⌜ n ≤ 2048 ⌝ ∗ ⌜ 0 < n ⌝ }
+    requires { ⌜ length (now words) ≡ channelWidth * n ⌝ ∗ ⌜ n ≤ sizeLimit ⌝ ∗ ⌜ 0 < n ⌝ }
     ensures { λ r. ⌜ r ≡ floorOf (take n (now (words .entry))) ⌝ }
 {
     copy_powers(words, n);
@@ -224,7 +225,8 @@ fn search_above(part: &mut [f64], s: Search, p: f64, passed: usize) -> Search
 
 // It is among those equal to p, and so is the next place if that is before passed.
 fn search_equal(part: &mut [f64], s: Search, p: f64, passed: usize) -> Search
-    requires { ⌜ Turning (now part) s p ⌝ ∗ ⌜ passed + length (aboveOf p (take (s .count) (now part))) ≡ s .count ⌝ ∗ ⌜ s .place < passed ⌝ ∗ ⌜ length (belowOf p (take (s .count) (now part))) ≤ s .place ⌝ }
+    requires { ⌜ Turning (now part) s p ⌝ ∗ ⌜ passed + length (aboveOf p (take (s .count) (now part))) ≡ s .count ⌝ ∗ ⌜ s .place < passed ⌝
+        ∗ ⌜ length (belowOf p (take (s .count) (now part))) ≤ s .place ⌝ }
     ensures { λ r. ⌜ Narrowed (now (part .entry)) s (now (part .exit)) r ⌝ }
 {
     part[0] = p;
@@ -319,7 +321,8 @@ fn next_power(powers: &[f64], k: usize, p: f64) -> f64
 
 // The power at the upper of the two places in the middle, where p is that at the lower.
 fn upper_power(words: &[f64], n: usize, s: Search, p: f64) -> f64
-    requires { ⌜ (length (now words) ≡ 4 * n) × (n ≤ 2048) × (0 < n) ⌝ ∗ ⌜ All (Plain binary64) (take n (now words)) ⌝ ∗ ⌜ Selected (take n (now words)) ((n - 1) / 2) (drop (3 * n) (now words)) s ⌝ ∗ ⌜ p ≡ getD (sort lt (take n (now words))) ((n - 1) / 2) nan ⌝ }
+    requires { ⌜ (length (now words) ≡ channelWidth * n) × (n ≤ sizeLimit) × (0 < n) ⌝ ∗ ⌜ All (Plain binary64) (take n (now words)) ⌝
+        ∗ ⌜ Selected (take n (now words)) ((n - 1) / 2) (drop (3 * n) (now words)) s ⌝ ∗ ⌜ p ≡ getD (sort lt (take n (now words))) ((n - 1) / 2) nan ⌝ }
     ensures { λ r. ⌜ r ≡ getD (sort lt (take n (now (words .entry)))) (n / 2) nan ⌝ }
 {
     let low = (n - 1) / 2;
@@ -336,7 +339,7 @@ fn upper_power(words: &[f64], n: usize, s: Search, p: f64) -> f64
 
 // Half the sum of the two powers in the middle, from a selection.
 fn selected_floor(words: &mut [f64], n: usize) -> f64
-    requires { ⌜ length (now words) ≡ 4 * n ⌝ ∗ ⌜ n ≤ 2048 ⌝ ∗ ⌜ 0 < n ⌝ ∗ ⌜ All (Plain binary64) (take n (now words)) ⌝ }
+    requires { ⌜ length (now words) ≡ channelWidth * n ⌝ ∗ ⌜ n ≤ sizeLimit ⌝ ∗ ⌜ 0 < n ⌝ ∗ ⌜ All (Plain binary64) (take n (now words)) ⌝ }
     ensures { λ r. ⌜ r ≡ floorOf (take n (now (words .entry))) ⌝ }
 {
     copy_powers(words, n);
@@ -350,7 +353,7 @@ fn selected_floor(words: &mut [f64], n: usize) -> f64
 
 // The order of powers is total unless there is a NaN or a set sign bit.
 pub fn floor_power(words: &mut [f64], n: usize) -> f64
-    requires { ⌜ length (now words) ≡ 4 * n ⌝ ∗ ⌜ n ≤ 2048 ⌝ ∗ ⌜ 0 < n ⌝ }
+    requires { ⌜ length (now words) ≡ channelWidth * n ⌝ ∗ ⌜ n ≤ sizeLimit ⌝ ∗ ⌜ 0 < n ⌝ }
     ensures { λ r. ⌜ r ≡ floorOf (take n (now (words .entry))) ⌝ }
 {
     if all_plain(&words[..n]) {

@@ -24,7 +24,8 @@ swapped ws i j g h ne =
     ∙ ap (λ (x : Float). set (turned ws j h) i (g x)) (sym (getD-set-other ws j i (h (getD ws j nan)) nan ne))
 
 -- a word that is none of channel k's
-past-terms : (n k i : ℕ) (g : Float → Float) (ws : List Float) (p : Float) (c : Complex) → i ≢ k → i ≢ n + k → i ≢ 2 * n + k → i ≢ 3 * n + k → addedTerms n (turned ws i g) k p c ≡ turned (addedTerms n ws k p c) i g
+past-terms : (n k i : ℕ) (g : Float → Float) (ws : List Float) (p : Float) (c : Complex) → i ≢ k → i ≢ n + k → i ≢ 2 * n + k → i ≢ 3 * n + k
+    → addedTerms n (turned ws i g) k p c ≡ turned (addedTerms n ws k p c) i g
 unfolding addedTerms
 past-terms n k i g ws p c h₀ h₁ h₂ h₃ =
     let f₀ : Float → Float = λ x. add binary64 x p in
@@ -39,7 +40,8 @@ past-terms n k i g ws p c h₀ h₁ h₂ h₃ =
     ∙ ap (λ (l : List Float). turned l (3 * n + k) f₃) (swapped ws₂ i (2 * n + k) g f₂ h₂)
     ∙ swapped ws₃ i (3 * n + k) g f₃ h₃
 
-terms-swapped : (n j k : ℕ) (ws : List Float) (p q : Float) (c d : Complex) → j < k → k < n → addedTerms n (addedTerms n ws j p c) k q d ≡ addedTerms n (addedTerms n ws k q d) j p c
+terms-swapped : (n j k : ℕ) (ws : List Float) (p q : Float) (c d : Complex) → j < k → k < n
+    → addedTerms n (addedTerms n ws j p c) k q d ≡ addedTerms n (addedTerms n ws k q d) j p c
 unfolding addedTerms
 terms-swapped n j k ws p q c d h l =
     let f₀ : Float → Float = λ x. add binary64 x p in
@@ -50,9 +52,12 @@ terms-swapped n j k ws p q c d h l =
     let ws₂ = turned ws₁ (n + j) f₁ in
     let ws₃ = turned ws₂ (2 * n + j) f₂ in
     past-terms n k (3 * n + j) f₃ ws₃ q d (λ e. omega arith) (λ e. omega arith) (λ e. omega arith) (λ e. omega arith)
-    ∙ ap (λ (m : List Float). turned m (3 * n + j) f₃) (past-terms n k (2 * n + j) f₂ ws₂ q d (λ e. omega arith) (λ e. omega arith) (λ e. omega arith) (λ e. omega arith))
-    ∙ ap (λ (m : List Float). turned (turned m (2 * n + j) f₂) (3 * n + j) f₃) (past-terms n k (n + j) f₁ ws₁ q d (λ e. omega arith) (λ e. omega arith) (λ e. omega arith) (λ e. omega arith))
-    ∙ ap (λ (m : List Float). turned (turned (turned m (n + j) f₁) (2 * n + j) f₂) (3 * n + j) f₃) (past-terms n k j f₀ ws q d (λ e. omega arith) (λ e. omega arith) (λ e. omega arith) (λ e. omega arith))
+    ∙ ap (λ (m : List Float). turned m (3 * n + j) f₃)
+    (past-terms n k (2 * n + j) f₂ ws₂ q d (λ e. omega arith) (λ e. omega arith) (λ e. omega arith) (λ e. omega arith))
+    ∙ ap (λ (m : List Float). turned (turned m (2 * n + j) f₂) (3 * n + j) f₃)
+    (past-terms n k (n + j) f₁ ws₁ q d (λ e. omega arith) (λ e. omega arith) (λ e. omega arith) (λ e. omega arith))
+    ∙ ap (λ (m : List Float). turned (turned (turned m (n + j) f₁) (2 * n + j) f₂) (3 * n + j) f₃)
+    (past-terms n k j f₀ ws q d (λ e. omega arith) (λ e. omega arith) (λ e. omega arith) (λ e. omega arith))
 
 -- ---- a run of channels: count of them, from first on
 module _ (xs : List ℕ) where
@@ -63,7 +68,8 @@ module _ (xs : List ℕ) where
   length-run : (ws : List Float) (first count : ℕ) → length (run ws first count) ≡ length ws
   unfolding run
   length-run ws first zero = refl
-  length-run ws first (suc count) = length-terms (length xs) (run ws first count) (first + count) (powerIn xs (first + count)) (productIn xs (first + count)) ∙ length-run ws first count
+  length-run ws first (suc count) = length-terms (length xs) (run ws first count) (first + count) (powerIn xs (first + count)) (productIn xs (first + count))
+      ∙ length-run ws first count
 
   -- the first of them first
   run-first : (ws : List Float) (first count : ℕ) → run ws first (suc count) ≡ run (addedChannel xs ws first) (suc first) count
@@ -72,11 +78,13 @@ module _ (xs : List ℕ) where
   run-first ws first (suc count) = (λ i. addedChannel xs (run-first ws first count i) ((let z : first + suc count ≡ suc first + count = omega arith in z) i))
 
   -- a channel below them goes before or after
-  run-past : (ws : List Float) (first count k : ℕ) → k < first → first + count ≤ length xs → addedChannel xs (run ws first count) k ≡ run (addedChannel xs ws k) first count
+  run-past : (ws : List Float) (first count k : ℕ) → k < first → first + count ≤ length xs
+      → addedChannel xs (run ws first count) k ≡ run (addedChannel xs ws k) first count
   unfolding run
   run-past ws first zero k h l = refl
   run-past ws first (suc count) k h l =
-      sym (terms-swapped (length xs) k (first + count) (run ws first count) (powerIn xs k) (powerIn xs (first + count)) (productIn xs k) (productIn xs (first + count)) (omega arith) (omega arith))
+      sym (terms-swapped (length xs) k (first + count) (run ws first count) (powerIn xs k) (powerIn xs (first + count)) (productIn xs k)
+      (productIn xs (first + count)) (omega arith) (omega arith))
       ∙ ap (λ (m : List Float). addedChannel xs m (first + count)) (run-past ws first count k h (omega arith))
 
   -- a run behind the first channels
@@ -95,7 +103,8 @@ module _ (xs : List ℕ) where
   unfolding paired run
   paired-none ws = refl
 
-  pub paired-next : (ws : List Float) (k : ℕ) → 0 < k → k + k < length xs → addedChannel xs (addedChannel xs (paired ws k) k) (length xs - k) ≡ paired ws (k + 1)
+  pub paired-next : (ws : List Float) (k : ℕ) → 0 < k → k + k < length xs
+      → addedChannel xs (addedChannel xs (paired ws k) k) (length xs - k) ≡ paired ws (k + 1)
   unfolding paired run
   paired-next ws k h l =
       let n = length xs in

@@ -38,10 +38,13 @@ float-product f (fin false m e) (fin true n d) = λ i. round f true (mul-comm (m
 float-product f (fin false m e) (fin false n d) = λ i. round f false (mul-comm (m * up e) (n * up d) i) (mul-comm (down e) (down d) i)
 
 -- a positive b and a negative a
-opposite : (f : Format) (a b c : ℕ) → cond (ltb a b) (round f false (b - a) c) (round f (true && ltb b a) (a - b) c) ≡ cond (ltb b a) (round f true (a - b) c) (round f (false && ltb a b) (b - a) c)
+opposite : (f : Format) (a b c : ℕ)
+    → cond (ltb a b) (round f false (b - a) c) (round f (true && ltb b a) (a - b) c)
+    ≡ cond (ltb b a) (round f true (a - b) c) (round f (false && ltb a b) (b - a) c)
 opposite f a b c = go (ltb a b) (ltb b a) refl refl
   where
-    go : (s t : Bool) → ltb a b ≡ s → ltb b a ≡ t → cond s (round f false (b - a) c) (round f (true && t) (a - b) c) ≡ cond t (round f true (a - b) c) (round f (false && s) (b - a) c)
+    go : (s t : Bool) → ltb a b ≡ s → ltb b a ≡ t
+        → cond s (round f false (b - a) c) (round f (true && t) (a - b) c) ≡ cond t (round f true (a - b) c) (round f (false && s) (b - a) c)
     go true true p q = let x = ltb-true a b p in let y = ltb-true b a q in absurd (omega arith)
     go true false p q = refl
     go false true p q = refl
@@ -67,14 +70,16 @@ float-sum f (inf false) (inf false) = refl
 float-sum f (inf s) (fin t n d) = refl
 float-sum f (fin s m e) nan = refl
 float-sum f (fin s m e) (inf t) = refl
-float-sum f (fin s m e) (fin t n d) = finite-sum f s t (m * up e * down d) (n * up d * down e) (down e * down d) ∙ ap (sum f t (n * up d * down e) s (m * up e * down d)) (mul-comm (down e) (down d))
+float-sum f (fin s m e) (fin t n d) = finite-sum f s t (m * up e * down d) (n * up d * down e) (down e * down d)
+    ∙ ap (sum f t (n * up d * down e) s (m * up e * down d)) (mul-comm (down e) (down d))
 
 product-turned : (f : Format) (a b : Complex) → product f a b ≡ product f b a
 unfolding product
 product-turned f a b = λ i.
     record {
       re = sub f (float-product f (a .re) (b .re) i) (float-product f (a .im) (b .im) i);
-      im = (float-sum f (mul f (a .re) (b .im)) (mul f (a .im) (b .re)) ∙ (λ j. add f (float-product f (a .im) (b .re) j) (float-product f (a .re) (b .im) j))) i;
+      im = (float-sum f (mul f (a .re) (b .im)) (mul f (a .im) (b .re)) ∙ (λ j. add f (float-product f (a .im) (b .re) j) (float-product f (a .re) (b .im) j)))
+          i;
     }
 
 -- the mirror of channel k has the product of k

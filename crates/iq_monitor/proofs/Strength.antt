@@ -46,13 +46,16 @@ module _ (n : ℕ) (P : ℕ → Float) where
 
   pub lower-start : 12 ≤ n → channelAt 3 ≡ strongest n P 4
   unfolding strongest
-  lower-start h = sym (ap (λ (b : Bool). cond b (stronger P (strongest n P 3) 3) (strongest n P 3)) (eligible-by n 3 (omega arith) (omega arith) (omega arith)) ∙ ap (λ (c : Choice). stronger P c 3) (skip 0 3 (λ i a b. not-eligible n i (λ x y z. omega arith))))
+  lower-start h =
+      sym (ap (λ (b : Bool). cond b (stronger P (strongest n P 3) 3) (strongest n P 3)) (eligible-by n 3 (omega arith) (omega arith) (omega arith))
+      ∙ ap (λ (c : Choice). stronger P c 3) (skip 0 3 (λ i a b. not-eligible n i (λ x y z. omega arith))))
 
   pub lower-half : 12 ≤ n → EligibleFrom n 4 (n / 2 - 2)
   lower-half h i a b = eligible-by n i (omega arith) (omega arith) (omega arith)
 
   pub past-middle : 12 ≤ n → strongest n P (n / 2 - 2) ≡ strongest n P (n / 2 + 3)
-  past-middle h = sym (ap (strongest n P) (let q : n / 2 + 3 ≡ n / 2 - 2 + 5 = omega arith in q) ∙ skip (n / 2 - 2) 5 (λ i a b. not-eligible n i (λ x y z. omega arith)))
+  past-middle h =
+      sym (ap (strongest n P) (let q : n / 2 + 3 ≡ n / 2 - 2 + 5 = omega arith in q) ∙ skip (n / 2 - 2) 5 (λ i a b. not-eligible n i (λ x y z. omega arith)))
 
   pub upper-half : 12 ≤ n → EligibleFrom n (n / 2 + 3) (n - 2)
   upper-half h i a b = eligible-by n i (omega arith) (omega arith) (omega arith)
@@ -67,14 +70,17 @@ only-one n P e = sym (ap (λ (m : ℕ). strongest m P m) e)
 
 -- ---- one more channel
 
-pub next-strongest : (ps : List Float) (j k : ℕ) → eligible (length ps) k ≡ true → channelAt j ≡ strongest (length ps) (powerAt ps) k → strongerOf ps (channelAt j) k ≡ strongest (length ps) (powerAt ps) (k + 1)
+pub next-strongest : (ps : List Float) (j k : ℕ) → eligible (length ps) k ≡ true → channelAt j ≡ strongest (length ps) (powerAt ps) k
+    → strongerOf ps (channelAt j) k ≡ strongest (length ps) (powerAt ps) (k + 1)
 unfolding strongest
 next-strongest ps j k e f =
     ap (λ (c : Choice). strongerOf ps c k) f
-    ∙ sym (ap (strongest (length ps) (powerAt ps)) (add-one k) ∙ ap (λ (b : Bool). cond b (strongerOf ps (strongest (length ps) (powerAt ps) k) k) (strongest (length ps) (powerAt ps) k)) e)
+    ∙ sym (ap (strongest (length ps) (powerAt ps)) (add-one k)
+    ∙ ap (λ (b : Bool). cond b (strongerOf ps (strongest (length ps) (powerAt ps) k) k) (strongest (length ps) (powerAt ps) k)) e)
 
 -- the code's test is the definition's
-pub told : (ps : List Float) (j k : ℕ) (t : Bool) → j < length ps → k < length ps → lt (getD ps k nan) (getD ps j nan) ≡ t → cond t (channelAt j) (channelAt k) ≡ strongerOf ps (channelAt j) k
+pub told : (ps : List Float) (j k : ℕ) (t : Bool) → j < length ps → k < length ps → lt (getD ps k nan) (getD ps j nan) ≡ t
+    → cond t (channelAt j) (channelAt k) ≡ strongerOf ps (channelAt j) k
 told ps j k t a b e =
     ap (λ (u : Bool). cond u (channelAt j) (channelAt k)) (sym e)
     ∙ ap (λ (x : Float). cond (lt x (getD ps j nan)) (channelAt j) (channelAt k)) (read-any ps k nan zeroF b)

@@ -24,7 +24,8 @@ pub cleared-next : {A : Type 0} (z : A) (ws₀ ws : List A) (k : ℕ) → k < le
 cleared-next {A = A} z ws₀ ws k h c = (
   omega arith,
   length-set ws k z ∙ c .1,
-  ap (λ (i : ℕ). take i (set ws k z)) (add-one k) ∙ take-suc-set ws k z (omega arith) ∙ ap (λ (l : List A). l ++ (z ∷ [])) (c .2) ∙ replicate-snoc k z ∙ ap (λ (i : ℕ). replicate i z) (sym (add-one k)),
+  ap (λ (i : ℕ). take i (set ws k z)) (add-one k) ∙ take-suc-set ws k z (omega arith) ∙ ap (λ (l : List A). l ++ (z ∷ [])) (c .2) ∙ replicate-snoc k z
+      ∙ ap (λ (i : ℕ). replicate i z) (sym (add-one k)),
 )
 
 pub cleared-all : {A : Type 0} (z : A) (ws₀ ws : List A) (k : ℕ) → length ws ≤ k → Cleared z ws₀ ws k → ws ≡ replicate (length ws₀) z

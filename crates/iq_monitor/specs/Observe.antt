@@ -9,6 +9,7 @@ use lib.Ieee.{Float, nan}
 use Rattle.complex.specs.Complex.{Complex}
 use Rattle.rules.specs.Constants.{zeroF}
 use Rattle.rules.specs.Monitor.{Choice, nobody, channelAt, eligible, stronger, Report, Pair, pairOf, reported, windowLength, Answer, noReport, report}
+use Rattle.rules.specs.Monitor.{channelWidth}
 use Rattle.rules.specs.Answers.{Said, accepted, nothing, refused}
 use Rattle.rules.specs.Refusals.{firstOf, badStart, anyBeyond, firstBeyondFrom}
 use Rattle.amplitude_limit.specs.Limit.{returned}
@@ -36,11 +37,31 @@ Among n Nobody = Unit {0}
 Among n (Channel k) = k < n
 
 abbrev pub evidence : Report → Evidence
-evidence r = record { start = r .start; end = r .end; suspected = r .suspected; coherence = r .coherence; floor = r .floor; strongest = r .strongest; mirror = r .mirror }
+evidence r =
+    record {
+      start = r .start;
+      end = r .end;
+      suspected = r .suspected;
+      coherence = r .coherence;
+      floor = r .floor;
+      strongest = r .strongest;
+      mirror =
+          r .mirror;
+    }
 
 -- and back
 abbrev pub reportFrom : Evidence → Report
-reportFrom e = record { start = e .start; end = e .end; suspected = e .suspected; coherence = e .coherence; floor = e .floor; strongest = e .strongest; mirror = e .mirror }
+reportFrom e =
+    record {
+      start = e .start;
+      end = e .end;
+      suspected = e .suspected;
+      coherence = e .coherence;
+      floor = e .floor;
+      strongest = e .strongest;
+      mirror =
+          e .mirror;
+    }
 
 -- a hop's answer in document 01's words
 abbrev pub said : HopAnswer → Said Answer
@@ -104,7 +125,7 @@ closing m xs start ws =
     let end = endOf xs start in
     record {
       seen = record { monitor = monitorOf Never end; answer = answer.Report (evidence (reportIn n (addedHop xs ws n) (firstOr (m .first) start) end)) };
-      words = replicate (4 * n) zeroF;
+      words = replicate (channelWidth * n) zeroF;
     }
 
 abbrev pub adding : ImageMonitor → List ℕ → ℕ → List Float → Seen

@@ -4,14 +4,15 @@
 ghost use mathlib.Core.Path.{_≡_};
 ghost use Prim.Native.Nat.{_+_, _-_, _*_, _/_, _≤_, _<_, _^_};
 ghost use lib.ListN.{length, replicate};
-ghost use Rattle.rules.specs.Constants.{zeroF};
+ghost use Rattle.rules.specs.Constants.{zeroF, sizeLimit};
 ghost use Rattle.rules.specs.Lists.{allOf};
-ghost use Rattle.rules.specs.Monitor.{channelAt, mirrorOf, strongest, coherenceOf, suspicious, windowLength};
+ghost use Rattle.rules.specs.Monitor.{channelAt, mirrorOf, strongest, coherenceOf, suspicious, windowLength, channelWidth};
 ghost use Rattle.complex.specs.Complex.{sampleOf, NoNan};
 ghost use Rattle.complex.specs.View.{view64};
 ghost use Rattle.rules.specs.Refusals.{firstBeyondFrom};
 ghost use Rattle.iq_monitor.specs.Words.{powerIn, productIn, addedTerms, addedChannel, addedHop, sumFits, wordsFit};
-ghost use Rattle.iq_monitor.specs.Observe.{Among, choice, powerAt, EligibleFrom, strongerOf, pairIn, reportIn, evidence, firstOr, full, fresh, acceptedOf, observed, said, hopSaid};
+ghost use Rattle.iq_monitor.specs.Observe.{Among, choice, powerAt, EligibleFrom, strongerOf, pairIn, reportIn, evidence, firstOr, full, fresh};
+ghost use Rattle.iq_monitor.specs.Observe.{acceptedOf, observed, said, hopSaid};
 use complex::Complex64;
 
 // Evidence from one window. Powers are sums of channel powers, not dB.
@@ -111,7 +112,7 @@ fn terms_of(x: &[u64], k: usize) -> Terms
 
 // Adds to channel k's words, of n channels, and clears its sorting word.
 fn add_terms(words: &mut [f64], n: usize, k: usize, t: Terms)
-    requires { ⌜ k < n ⌝ ∗ ⌜ length (now words) ≡ 4 * n ⌝ ∗ ⌜ n ≤ 2048 ⌝ }
+    requires { ⌜ k < n ⌝ ∗ ⌜ length (now words) ≡ channelWidth * n ⌝ ∗ ⌜ n ≤ sizeLimit ⌝ }
     ensures { λ _. ⌜ now (words .exit) ≡ addedTerms n (now (words .entry)) k (t .power) (view64 (t .product)) ⌝ }
 {
     let re = n + k;
@@ -125,7 +126,8 @@ fn add_terms(words: &mut [f64], n: usize, k: usize, t: Terms)
 }
 
 fn add_channel(words: &mut [f64], x: &[u64], k: usize)
-    requires { ⌜ k < length (now x) ⌝ ∗ ⌜ length (now words) ≡ 4 * length (now x) ⌝ ∗ ⌜ length (now x) ≤ 2048 ⌝ ∗ ⌜ firstBeyondFrom 0 (now x) ≡ length (now x) ⌝ }
+    requires { ⌜ k < length (now x) ⌝ ∗ ⌜ length (now words) ≡ channelWidth * length (now x) ⌝ ∗ ⌜ length (now x) ≤ sizeLimit ⌝
+        ∗ ⌜ firstBeyondFrom 0 (now x) ≡ length (now x) ⌝ }
     ensures { λ _. ⌜ now (words .exit) ≡ addedChannel (now (x .entry)) (now (words .entry)) k ⌝ }
 {
     let t = terms_of(x, k);
@@ -134,7 +136,8 @@ fn add_channel(words: &mut [f64], x: &[u64], k: usize)
 
 // Adds channel k and its mirror, which is another channel and has the same product.
 fn add_pair(words: &mut [f64], x: &[u64], k: usize)
-    requires { ⌜ (0 < k) × (k + k < length (now x)) ⌝ ∗ ⌜ length (now words) ≡ 4 * length (now x) ⌝ ∗ ⌜ length (now x) ≤ 2048 ⌝ ∗ ⌜ firstBeyondFrom 0 (now x) ≡ length (now x) ⌝ }
+    requires { ⌜ (0 < k) × (k + k < length (now x)) ⌝ ∗ ⌜ length (now words) ≡ channelWidth * length (now x) ⌝ ∗ ⌜ length (now x) ≤ sizeLimit ⌝
+        ∗ ⌜ firstBeyondFrom 0 (now x) ≡ length (now x) ⌝ }
     ensures { λ _. ⌜ now (words .exit) ≡ addedChannel (now (x .entry)) (addedChannel (now (x .entry)) (now (words .entry)) k) (length (now (x .entry)) - k) ⌝ }
 {
     let n = x.len();
@@ -149,7 +152,8 @@ fn add_pair(words: &mut [f64], x: &[u64], k: usize)
 
 // Adds a hop's channels: the one that is its own mirror, then pairs, then the middle one, if there is.
 fn add_hop(words: &mut [f64], x: &[u64])
-    requires { ⌜ length (now words) ≡ 4 * length (now x) ⌝ ∗ ⌜ length (now x) ≤ 2048 ⌝ ∗ ⌜ 0 < length (now x) ⌝ ∗ ⌜ firstBeyondFrom 0 (now x) ≡ length (now x) ⌝ }
+    requires { ⌜ length (now words) ≡ channelWidth * length (now x) ⌝ ∗ ⌜ length (now x) ≤ sizeLimit ⌝ ∗ ⌜ 0 < length (now x) ⌝
+        ∗ ⌜ firstBeyondFrom 0 (now x) ≡ length (now x) ⌝ }
     ensures { λ _. ⌜ now (words .exit) ≡ addedHop (now (x .entry)) (now (words .entry)) (length (now (x .entry))) ⌝ }
 {
     add_channel(words, x, 0);
@@ -178,7 +182,8 @@ fn stronger(powers: &[f64], j: usize, k: usize) -> usize
 
 // The strongest of a channel and those from k on, before the end, all of them eligible.
 fn strongest_among(powers: &[f64], first: usize, from: usize, end: usize) -> usize
-    requires { ⌜ first < length (now powers) ⌝ ∗ ⌜ from ≤ end ⌝ ∗ ⌜ end ≤ length (now powers) ⌝ ∗ ⌜ EligibleFrom (length (now powers)) from end ⌝ ∗ ⌜ channelAt first ≡ strongest (length (now powers)) (powerAt (now powers)) from ⌝ }
+    requires { ⌜ first < length (now powers) ⌝ ∗ ⌜ from ≤ end ⌝ ∗ ⌜ end ≤ length (now powers) ⌝ ∗ ⌜ EligibleFrom (length (now powers)) from end ⌝
+        ∗ ⌜ channelAt first ≡ strongest (length (now powers)) (powerAt (now powers)) from ⌝ }
     ensures { λ r. ⌜ (channelAt r ≡ strongest (length (now (powers .entry))) (powerAt (now (powers .entry))) end) × (r < length (now (powers .entry))) ⌝ }
 {
     let mut best = first;
@@ -193,8 +198,10 @@ fn strongest_among(powers: &[f64], first: usize, from: usize, end: usize) -> usi
 // The channels that are eligible are those from 3 on and those from 3 past the middle on; of 11
 // channels it is one, and of fewer none.
 fn strongest_channel(powers: &[f64]) -> Strongest
-    requires { ⌜ length (now powers) ≤ 2048 ⌝ }
-    ensures { λ r. ⌜ (choice r ≡ strongest (length (now (powers .entry))) (powerAt (now (powers .entry))) (length (now (powers .entry)))) × Among (length (now (powers .entry))) r ⌝ }
+    requires { ⌜ length (now powers) ≤ sizeLimit ⌝ }
+    ensures { λ r.
+        ⌜ (choice r ≡ strongest (length (now (powers .entry))) (powerAt (now (powers .entry))) (length (now (powers .entry))))
+        × Among (length (now (powers .entry))) r ⌝ }
 {
     let n = powers.len();
     if n < 11 {
@@ -229,7 +236,7 @@ fn coherence(cross: Complex64, p: f64, q: f64) -> f64
 
 // The pair of channel k and its mirror.
 fn pair_at(words: &[f64], n: usize, k: usize) -> Pair
-    requires { ⌜ length (now words) ≡ 4 * n ⌝ ∗ ⌜ n ≤ 2048 ⌝ ∗ ⌜ k < n ⌝ }
+    requires { ⌜ length (now words) ≡ channelWidth * n ⌝ ∗ ⌜ n ≤ sizeLimit ⌝ ∗ ⌜ k < n ⌝ }
     ensures { λ r. ⌜ r ≡ pairIn n (now (words .entry)) (channelAt k) ⌝ }
 {
     let m = mirror(n, k);
@@ -249,7 +256,7 @@ fn pair_at(words: &[f64], n: usize, k: usize) -> Pair
 }
 
 fn pair_of(words: &[f64], n: usize, best: Strongest) -> Pair
-    requires { ⌜ length (now words) ≡ 4 * n ⌝ ∗ ⌜ n ≤ 2048 ⌝ ∗ ⌜ Among n best ⌝ }
+    requires { ⌜ length (now words) ≡ channelWidth * n ⌝ ∗ ⌜ n ≤ sizeLimit ⌝ ∗ ⌜ Among n best ⌝ }
     ensures { λ r. ⌜ r ≡ pairIn n (now (words .entry)) (choice best) ⌝ }
 {
     let Strongest::Channel(k) = best else {
@@ -282,7 +289,7 @@ fn is_suspicious(floor: f64, p: f64, q: f64) -> bool
 
 // The evidence of a window. The sorting words are not kept.
 fn report(words: &mut [f64], n: usize, first: u64, end: u64) -> Evidence
-    requires { ⌜ length (now words) ≡ 4 * n ⌝ ∗ ⌜ n ≤ 2048 ⌝ ∗ ⌜ 0 < n ⌝ }
+    requires { ⌜ length (now words) ≡ channelWidth * n ⌝ ∗ ⌜ n ≤ sizeLimit ⌝ ∗ ⌜ 0 < n ⌝ }
     ensures { λ r. ⌜ r ≡ evidence (reportIn n (now (words .entry)) first end) ⌝ }
 {
     let best = strongest_channel(&words[..n]);
@@ -355,6 +362,8 @@ fn all_fit(words: &[f64]) -> bool
 }
 
 impl ImageMonitor {
+    // The lent words for each channel: its power, its product's two parts, and one for sorting.
+    pub const CHANNEL_WORDS: usize = 4;
     // How long a window is, in seconds.
     pub const SECONDS: f64 = 5.0;
     // A primary stands so far over the floor, and its mirror so far: 10^0.6.
@@ -396,8 +405,11 @@ impl ImageMonitor {
 
     // A hop that is not refused.
     fn accept(self, fs: f64, x: &[u64], start: u64, words: &mut [f64]) -> Observed
-        requires { ⌜ length (now words) ≡ 4 * length (now x) ⌝ ∗ ⌜ length (now x) ≤ 2048 ⌝ ∗ ⌜ 0 < length (now x) ⌝ ∗ ⌜ start ≤ 2 ^ 48 ⌝ ∗ ⌜ firstBeyondFrom 0 (now x) ≡ length (now x) ⌝ }
-        ensures { λ r. ⌜ (r ≡ acceptedOf self fs (now (x .entry)) start (now (words .entry)) .seen) × (now (words .exit) ≡ acceptedOf self fs (now (x .entry)) start (now (words .entry)) .words) ⌝ }
+        requires { ⌜ length (now words) ≡ channelWidth * length (now x) ⌝ ∗ ⌜ length (now x) ≤ sizeLimit ⌝ ∗ ⌜ 0 < length (now x) ⌝ ∗ ⌜ start ≤ 2 ^ 48 ⌝
+            ∗ ⌜ firstBeyondFrom 0 (now x) ≡ length (now x) ⌝ }
+        ensures { λ r.
+            ⌜ (r ≡ acceptedOf self fs (now (x .entry)) start (now (words .entry)) .seen)
+            × (now (words .exit) ≡ acceptedOf self fs (now (x .entry)) start (now (words .entry)) .words) ⌝ }
     {
         add_hop(words, x);
         let begun = self.first;
@@ -426,8 +438,11 @@ impl ImageMonitor {
 
     // A hop of n channels at this start: nothing, 9, 7, or it is added, and reported when a window is full.
     pub fn observe(self, fs: f64, n: usize, x: &[u64], start: u64, words: &mut [f64]) -> Observed
-        requires { ⌜ length (now words) ≡ 4 * n ⌝ ∗ ⌜ n ≤ 2048 ⌝ }
-        ensures { λ r. ⌜ (r ≡ observed self fs n (now (x .entry)) start (now (words .entry)) .seen) × (now (words .exit) ≡ observed self fs n (now (x .entry)) start (now (words .entry)) .words) × (said (r .answer) ≡ hopSaid self fs n (now (x .entry)) start (now (words .entry))) ⌝ }
+        requires { ⌜ length (now words) ≡ channelWidth * n ⌝ ∗ ⌜ n ≤ sizeLimit ⌝ }
+        ensures { λ r.
+            ⌜ (r ≡ observed self fs n (now (x .entry)) start (now (words .entry)) .seen)
+            × (now (words .exit) ≡ observed self fs n (now (x .entry)) start (now (words .entry)) .words)
+            × (said (r .answer) ≡ hopSaid self fs n (now (x .entry)) start (now (words .entry))) ⌝ }
     {
         if x.len() != n {
             return Observed {

@@ -101,10 +101,13 @@ pub extern "C" fn image_observe(
 ) -> u64
     requires { ⌜ length (now words) ≡ 4 * n ⌝ ∗ ⌜ n ≤ 2048 ⌝ }
     ensures number { λ r. ⌜ r ≡ told (observed (monitorIn (now (state .entry))) fs n (now (x .entry)) start (now (words .entry)) .seen .answer) ⌝ }
-    ensures state { λ _. ⌜ now (state .exit) ≡ kept (now (state .entry)) (observed (monitorIn (now (state .entry))) fs n (now (x .entry)) start (now (words .entry)) .seen .monitor) ⌝ }
+    ensures state { λ _. ⌜ now (state .exit)
+        ≡ kept (now (state .entry)) (observed (monitorIn (now (state .entry))) fs n (now (x .entry)) start (now (words .entry)) .seen .monitor) ⌝ }
     ensures words { λ _. ⌜ now (words .exit) ≡ observed (monitorIn (now (state .entry))) fs n (now (x .entry)) start (now (words .entry)) .words ⌝ }
-    ensures marks { λ _. ⌜ now (marks .exit) ≡ marksAfter (now (marks .entry)) (observed (monitorIn (now (state .entry))) fs n (now (x .entry)) start (now (words .entry)) .seen .answer) ⌝ }
-    ensures values { λ _. ⌜ now (values .exit) ≡ valuesAfter (now (values .entry)) (observed (monitorIn (now (state .entry))) fs n (now (x .entry)) start (now (words .entry)) .seen .answer) ⌝ }
+    ensures marks { λ _. ⌜ now (marks .exit)
+        ≡ marksAfter (now (marks .entry)) (observed (monitorIn (now (state .entry))) fs n (now (x .entry)) start (now (words .entry)) .seen .answer) ⌝ }
+    ensures values { λ _. ⌜ now (values .exit)
+        ≡ valuesAfter (now (values .entry)) (observed (monitorIn (now (state .entry))) fs n (now (x .entry)) start (now (words .entry)) .seen .answer) ⌝ }
 {
     let seen = monitor(state).observe(fs, n, x, start, words);
     let m = seen.monitor;

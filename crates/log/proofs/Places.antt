@@ -21,7 +21,8 @@ pub record Next (width cap : ℕ) (q : Ring) (ws : List ℕ) : Type 0 where
 module _ (width cap : ℕ) (ring q : Ring) (ws : List ℕ) (e : ringIn q ws ≡ roomed cap (ringIn ring ws)) where
   pub next-in : Sound width cap (ringIn ring ws) → Next width cap q ws
   next-in k =
-      let h : HasRoom width cap (ringIn ring ws) (ringIn q ws) = subst (λ (r : rules.Ring). HasRoom width cap (ringIn ring ws) r) (sym e) (roomed-sound width cap (ringIn ring ws) k) in
+      let h : HasRoom width cap (ringIn ring ws) (ringIn q ws) =
+      subst (λ (r : rules.Ring). HasRoom width cap (ringIn ring ws) r) (sym e) (roomed-sound width cap (ringIn ring ws) k) in
       record {
         headIn = h .sound .headIn;
         room = h .room;

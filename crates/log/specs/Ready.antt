@@ -2,7 +2,7 @@
 use mathlib.Core.Path.{_≡_}
 use Prim.Native.Nat.{ℕ, _+_, _*_, _^_, _≤_, _<_}
 use lib.ListN.{length}
-use Rattle.rules.specs.Log.{Ring, Span, Marks, Sound}
+use Rattle.rules.specs.Log.{Ring, Span, Marks, Sound, storeWidth}
 use Rattle.log.specs.View.{Logged, marksAt}
 
 -- one entry more: a sound ring, whose count of dropped entries can rise
@@ -18,14 +18,14 @@ pub record Markable (cap : ℕ) (m : Marks) (s : Span) : Type 0 where
 
 -- a mark in ring number k of the store
 pub record Fits (cap : ℕ) (x : Logged) (k : ℕ) (s : Span) : Type 0 where
-  pub store : length (x .spans) ≡ cap * 24
+  pub store : length (x .spans) ≡ cap * storeWidth
   pub marks : Markable cap (marksAt cap x k) s
 
 -- twelve rings, twelve counts, and a store of twelve parts
 pub record Twelve (cap : ℕ) (x : Logged) : Type 0 where
   pub rings : length (x .log .rings) ≡ 12
   pub counts : length (x .log .counts) ≡ 12
-  pub store : length (x .spans) ≡ cap * 24
+  pub store : length (x .spans) ≡ cap * storeWidth
 
 -- every ring is sound, and its counters are at most b
 pub record Bounded (cap b : ℕ) (x : Logged) : Type 0 where

@@ -11,6 +11,7 @@ use Rattle.log.specs.declared.Mark.the-variants as kind
 use Rattle.log.specs.declared.Ring.{Ring}
 use Rattle.log.specs.declared.Marks.{Marks}
 use Rattle.log.specs.declared.Log.{Log}
+use Rattle.log.specs.declared.Notes.{Notes}
 use Rattle.log.specs.declared.Repair.{Repair}
 
 abbrev pub stageOf : Stage → rules.Stage
@@ -51,6 +52,13 @@ freshRing = record { head = 0; count = 0; dropped = 0 }
 unfoldable pub freshLog : Log
 freshLog = record { rings = replicate 12 freshRing; counts = replicate 12 0 }
 
+abbrev pub freshNotes : Notes
+freshNotes = record { log = freshLog; repairs = freshRing; longruns = 0 }
+
+-- with other rings of spans
+abbrev pub withLog : Notes → Log → Notes
+withLog n l = record { log = l; repairs = n .repairs; longruns = n .longruns }
+
 -- 'Twelve rings, each a part of the one lent span store': part k, of so many words, and the store with another there
 abbrev pub partOf : ℕ → List ℕ → ℕ → List ℕ
 partOf size ws k = take size (drop (k * size) ws)
@@ -83,4 +91,5 @@ joined [] = []
 joined (m ∷ ms) = m .ring .words ++ joined ms
 
 unfoldable pub logOf : List rules.Marks → Logged
-logOf ms = record { log = record { rings = map (λ (m : rules.Marks). bare (m .ring)) ms; counts = map (λ (m : rules.Marks). m .samples) ms }; spans = joined ms }
+logOf ms =
+    record { log = record { rings = map (λ (m : rules.Marks). bare (m .ring)) ms; counts = map (λ (m : rules.Marks). m .samples) ms }; spans = joined ms }

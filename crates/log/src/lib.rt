@@ -6,18 +6,24 @@ ghost use mathlib.Core.Bool.{true};
 ghost use mathlib.Core.List.{List, [], _∷_};
 ghost use Prim.Native.Nat.{ℕ, _+_, _-_, _*_, _%_, _<_, _^_, min};
 ghost use lib.ListN.{length, getD};
-ghost use Rattle.rules.specs.Log.{Sound};
+ghost use Rattle.rules.specs.Log.{Sound, storeWidth};
 ghost use Rattle.rules.specs.Log.{spansOf};
 ghost use Rattle.rules.specs.Log.{ringNumber, stageNumber, markNumber, spanOf, joins, lengthened, roomed, append, mark};
-ghost use Rattle.log.specs.View.{stageOf, markOf, ringIn, marksIn, Logged, freshRing, freshLog, markedAt, wordsOfRepair};
+ghost use Rattle.log.specs.View.{stageOf, markOf, ringIn, marksIn, Logged, freshRing, freshLog, freshNotes, markedAt, wordsOfRepair};
 ghost use Rattle.log.specs.Ready.{Open, Markable, Fits};
 ghost use Rattle.log.specs.Check.{endFits, ringFits, logFits, endsFit, droppedInAll};
 
 // The words of a repair.
 pub const REPAIR_WORDS: usize = 6;
 
-// The words of the span store for each span that a ring holds: two, in each of twelve rings.
-pub const STORE_WORDS: usize = 24;
+// The words of a span.
+pub const SPAN_WORDS: usize = 2;
+
+// The rings of spans.
+pub const RINGS: usize = 12;
+
+// The words of the span store for each span that a ring holds.
+pub const STORE_WORDS: usize = RINGS * SPAN_WORDS;
 
 // 2^48: the most samples in all, and the last start of a hop or a repair.
 pub const TOTAL_LIMIT: u64 = 0x1_0000_0000_0000;
@@ -80,8 +86,15 @@ pub struct Marks {
 }
 
 pub struct Log {
-    pub rings: [Ring; 12],
-    pub counts: [u64; 12],
+    pub rings: [Ring; RINGS],
+    pub counts: [u64; RINGS],
+}
+
+// All that the log is told: the rings of spans, the ring of repairs, and how many runs were too long.
+pub struct Notes {
+    pub log: Log,
+    pub repairs: Ring,
+    pub longruns: u64,
 }
 
 // A span, as a ring holds it.
@@ -170,7 +183,7 @@ fn joins_newest(ring: Ring, words: &[u64], capacity: usize, start: u64) -> bool
     if held == 0 {
         return false;
     }
-    let place = ring.newest_place(capacity) * 2;
+    let place = ring.newest_place(capacity) * SPAN_WORDS;
     let s = words[place];
     let l = words[place + 1];
     if start < s {
@@ -186,7 +199,7 @@ fn lengthen(ring: Ring, words: &mut [u64], capacity: usize, start: u64, len: u64
     requires { ⌜ start + len < 2 ^ 64 ⌝ }
     ensures { λ r. ⌜ ringIn ring (now (words .exit)) ≡ lengthened capacity (ringIn ring (now (words .entry))) len ⌝ }
 {
-    let place = ring.newest_place(capacity) * 2 + 1;
+    let place = ring.newest_place(capacity) * SPAN_WORDS + 1;
     words[place] = words[place] + len;
 }
 
@@ -196,7 +209,7 @@ fn enter_span(ring: Ring, words: &mut [u64], capacity: usize, start: u64, len: u
     ensures { λ r. ⌜ ringIn r (now (words .exit)) ≡ append capacity (ringIn ring (now (words .entry))) (start ∷ len ∷ []) ⌝ }
 {
     let q = ring.with_room(capacity);
-    let place = q.next_place(capacity) * 2;
+    let place = q.next_place(capacity) * SPAN_WORDS;
     words[place] = start;
     words[place + 1] = len;
     q.with_one_more()
@@ -223,14 +236,28 @@ pub fn mark_ring(m: Marks, words: &mut [u64], capacity: usize, start: u64, len: 
     }
 }
 
+impl Notes {
+    pub fn fresh() -> Notes
+        ensures { λ r. ⌜ r ≡ freshNotes ⌝ }
+    {
+        let log = Log::fresh();
+        let repairs = Ring::fresh();
+        Notes {
+            log,
+            repairs,
+            longruns: 0,
+        }
+    }
+}
+
 impl Log {
     pub fn fresh() -> Log
         ensures { λ r. ⌜ r ≡ freshLog ⌝ }
     {
         let empty = Ring::fresh();
         Log {
-            rings: [empty; 12],
-            counts: [0; 12],
+            rings: [empty; RINGS],
+            counts: [0; RINGS],
         }
     }
 
@@ -238,10 +265,12 @@ impl Log {
     fn mark_at(self, spans: &mut [u64], capacity: usize, which: usize, start: u64, len: u64) -> Log
         requires { ⌜ which < 12 ⌝ }
         requires { ⌜ Fits capacity (record { log = self; spans = now spans }) which (spanOf start len) ⌝ }
-        ensures { λ r. ⌜ _≡_ {A = Logged} (record { log = r; spans = now (spans .exit) }) (markedAt capacity (record { log = self; spans = now (spans .entry) }) which (spanOf start len)) ⌝ }
+        ensures { λ r.
+            ⌜ _≡_ {A = Logged} (record { log = r; spans = now (spans .exit) })
+            (markedAt capacity (record { log = self; spans = now (spans .entry) }) which (spanOf start len)) ⌝ }
     {
-        let a = which * (capacity * 2);
-        let e = a + capacity * 2;
+        let a = which * (capacity * SPAN_WORDS);
+        let e = a + capacity * SPAN_WORDS;
         let ring = self.rings[which];
         let samples = self.counts[which];
         let m = mark_ring(
@@ -269,7 +298,9 @@ impl Log {
         len: u64,
     ) -> Log
         requires { ⌜ Fits capacity (record { log = self; spans = now spans }) (ringNumber (stageOf stage) (markOf kind)) (spanOf start len) ⌝ }
-        ensures { λ r. ⌜ _≡_ {A = Logged} (record { log = r; spans = now (spans .exit) }) (markedAt capacity (record { log = self; spans = now (spans .entry) }) (ringNumber (stageOf stage) (markOf kind)) (spanOf start len)) ⌝ }
+        ensures { λ r.
+            ⌜ _≡_ {A = Logged} (record { log = r; spans = now (spans .exit) })
+            (markedAt capacity (record { log = self; spans = now (spans .entry) }) (ringNumber (stageOf stage) (markOf kind)) (spanOf start len)) ⌝ }
     {
         let which = ring_number(stage, kind);
         self.mark_at(spans, capacity, which, start, len)
@@ -301,7 +332,7 @@ pub fn span_at(ring: Ring, words: &[u64], capacity: usize, i: usize) -> Span
     ensures { λ s. ⌜ spanOf (s .start) (s .len) ≡ getD (spansOf capacity (ringIn ring (now (words .entry)))) i (spanOf 0 0) ⌝ }
 {
     let head = ring.head;
-    let place = (head + i) % capacity * 2;
+    let place = (head + i) % capacity * SPAN_WORDS;
     let start = words[place];
     let len = words[place + 1];
     Span { start, len }
@@ -315,7 +346,7 @@ fn end_fits(ring: Ring, words: &[u64], capacity: usize) -> bool
     if ring.count == 0 {
         return true;
     }
-    let place = ring.newest_place(capacity) * 2;
+    let place = ring.newest_place(capacity) * SPAN_WORDS;
     let s = words[place];
     let l = words[place + 1];
     if SUM_LIMIT < s {
@@ -355,7 +386,7 @@ impl Log {
     pub fn fits(self, capacity: usize) -> bool
         ensures { λ r. ⌜ r ≡ logFits capacity self ⌝ }
     {
-        for k in 0..12 {
+        for k in 0..RINGS {
             let ring = self.rings[k];
             let count = self.counts[k];
             if !ring_fits(ring, count, capacity) {
@@ -367,12 +398,12 @@ impl Log {
 
     // Whether every ring's newest span ends in range.
     pub fn ends_fit(self, spans: &[u64], capacity: usize) -> bool
-        requires { ⌜ (logFits capacity self ≡ true) × (length (now spans) ≡ capacity * 24) ⌝ }
+        requires { ⌜ (logFits capacity self ≡ true) × (length (now spans) ≡ capacity * storeWidth) ⌝ }
         ensures { λ r. ⌜ r ≡ endsFit capacity (record { log = self; spans = now (spans .entry) }) ⌝ }
     {
-        for k in 0..12 {
-            let a = k * (capacity * 2);
-            let e = a + capacity * 2;
+        for k in 0..RINGS {
+            let a = k * (capacity * SPAN_WORDS);
+            let e = a + capacity * SPAN_WORDS;
             let ring = self.rings[k];
             if !end_fits(ring, &spans[a..e], capacity) {
                 return false;
@@ -386,7 +417,7 @@ impl Log {
         ensures { λ r. ⌜ r ≡ droppedInAll self ⌝ }
     {
         let mut sum: u64 = 0;
-        for k in 0..12 {
+        for k in 0..RINGS {
             let ring = self.rings[k];
             sum = capped_sum(sum, ring.dropped);
         }

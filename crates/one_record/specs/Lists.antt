@@ -1,13 +1,14 @@
--- Document 01, 'Lists of calls': sample calls and hops handed to a chain one after another, what they leave, and demand 3 as a record with a part for each of its sentences. Definitions only.
+-- Document 01, 'Lists of calls': sample calls and hops handed to a chain one after another, what they leave, and demand 3 as a record with a part for each of
+-- its sentences. Definitions only.
 use mathlib.Core.Path.{_≡_}
 use mathlib.Core.Bool.{Bool, true, false}
 use mathlib.Core.List.{List, [], _∷_, _++_}
 use Prim.Native.Nat.{ℕ, _+_, _*_, _^_, _≤_}
 use lib.ListN.{length, take, drop}
 use lib.Ieee.{Float}
-use Rattle.rules.specs.Constants.{zeroF}
+use Rattle.rules.specs.Constants.{zeroF, totalLimit}
 use Rattle.rules.specs.Mode.{off, apply}
-use Rattle.rules.specs.Log.{Stage, Mark, ringNumber, repairsOf}
+use Rattle.rules.specs.Log.{Stage, Mark, ringNumber, repairsOf, repairWidth, storeWidth}
 use Rattle.rules.specs.Monitor.{Hop, Answer}
 use Rattle.rules.specs.Answers.{Said, accepted, nothing, refused, isAccepted}
 use Rattle.rules.specs.Chain.{released, heldOf, ringOf, impulseEvents, repairRing, longRunsOf, dcLevel, settledBy, evidence, lastWords}
@@ -199,16 +200,18 @@ pub record ByRules (g : ConditioningConfig) (y : Chain) : Type 0 where
   -- 'joined released samples, bits included'
   pub released : y .released ≡ released (configOf g) (y .brought)
   -- 'Log, as the last state and stores hold it: these three' (released, seen, held)
-  pub seen : y .machine .state .seen ≡ length (y .brought)
-  pub count : y .machine .state .released ≡ length (y .released)
-  pub held : y .machine .state .held ≡ heldOf (configOf g) (y .brought)
+  pub seen : y .machine .state .counts .seen ≡ length (y .brought)
+  pub count : y .machine .state .counts .released ≡ length (y .released)
+  pub held : y .machine .state .counts .held ≡ heldOf (configOf g) (y .brought)
   -- 'every count and ring head, all span .. words': the twelve rings are the whole store
-  pub span-words : length (y .machine .spans) ≡ 24 * g .spans
-  pub rings : (st : Stage) (m : Mark) → marksAt (g .spans) (record { log = y .machine .state .log; spans = y .machine .spans }) (ringNumber st m) ≡ ringOf (configOf g) (y .brought) (y .hops) st m
+  pub span-words : length (y .machine .spans) ≡ storeWidth * g .spans
+  pub rings : (st : Stage) (m : Mark)
+      → marksAt (g .spans) (record { log = y .machine .state .notes .log; spans = y .machine .spans }) (ringNumber st m)
+      ≡ ringOf (configOf g) (y .brought) (y .hops) st m
   -- 'and repair words'
-  pub repair-words : length (y .machine .repairs) ≡ 6 * g .repairs
-  pub repairs : ringIn (y .machine .state .repairs) (y .machine .repairs) ≡ repairRing (configOf g) (y .brought)
-  pub longruns : y .machine .state .longruns ≡ longRunsOf (configOf g) (y .brought)
+  pub repair-words : length (y .machine .repairs) ≡ repairWidth * g .repairs
+  pub repairs : ringIn (y .machine .state .notes .repairs) (y .machine .repairs) ≡ repairRing (configOf g) (y .brought)
+  pub longruns : y .machine .state .notes .longruns ≡ longRunsOf (configOf g) (y .brought)
   -- 'DC level, what IQ settled'
   pub level : stateLevel (y .machine .state) ≡ dcLevel (configOf g) (y .brought)
   pub settled : settledOf (y .machine .state .settings .iq) ≡ settledBy (configOf g)
@@ -252,8 +255,9 @@ pub record OneRecord (g : ConditioningConfig) (y z : Chain) (os ps : List Operat
   pub alike : run y os ≡ run z ps
   -- 'All these are as demand 2's rules give them for the whole input.'
   pub ruled : ByRules g (run y os)
-  -- 'On a fresh chain one call with all the samples is accepted': behind any list, so behind none and behind hops too, any words in the held places and any usable samples, up to 2^48 in all
-  pub takes : (front xs : List ℕ) → length front ≡ heldOf (configOf g) (run y os .brought) → Usable xs → length (run y os .brought) + length xs ≤ 2 ^ 48
+  -- 'On a fresh chain one call with all the samples is accepted': behind any list, so behind none and behind hops too, any words in the held places and any
+  -- usable samples, up to 2^48 in all
+  pub takes : (front xs : List ℕ) → length front ≡ heldOf (configOf g) (run y os .brought) → Usable xs → length (run y os .brought) + length xs ≤ totalLimit
       → Accepted (run y os) (ownly (call (front ++ xs)))
   -- 'with those hops, at any points, it is such a list too.' So is any cutting
   pub once : (front : ℕ → List ℕ) → ((k : ℕ) → length (front k) ≡ k) → (sizes : List ℕ) (turns : List Bool)
@@ -262,8 +266,11 @@ pub record OneRecord (g : ConditioningConfig) (y z : Chain) (os ps : List Operat
   -- 'No operation handed the state and stores that such a list leaves meets number 5.'
   pub no-five : NoFive (run y os)
   -- 'After each list seen = released + held, held at most 21.'
-  pub sum : run y os .machine .state .seen ≡ run y os .machine .state .released + run y os .machine .state .held
-  pub few : run y os .machine .state .held ≤ 21
-  -- 'Where impulse repair alone applies, the other stages are off and no repair was dropped, undoing repairs on the joined released samples, from sample 0, gives each its input bits again.'
-  pub undone : modeOf (g .impulse) ≡ apply → modeOf (g .dc) ≡ off → modeOf (g .iq) ≡ off → length (repairsOf (impulseEvents (configOf g) (run y os .brought))) ≤ g .repairs
-      → undoOf (run y os .machine .state) (run y os .machine .repairs) (run y os .released) 0 ≡ record { said = accepted tt; samples = take (length (run y os .released)) (run y os .brought) }
+  pub sum : run y os .machine .state .counts .seen ≡ run y os .machine .state .counts .released + run y os .machine .state .counts .held
+  pub few : run y os .machine .state .counts .held ≤ 21
+  -- 'Where impulse repair alone applies, the other stages are off and no repair was dropped, undoing repairs on the joined released samples, from sample 0,
+  -- gives each its input bits again.'
+  pub undone : modeOf (g .impulse) ≡ apply → modeOf (g .dc) ≡ off → modeOf (g .iq) ≡ off
+      → length (repairsOf (impulseEvents (configOf g) (run y os .brought))) ≤ g .repairs
+      → undoOf (run y os .machine .state) (run y os .machine .repairs) (run y os .released) 0
+      ≡ record { said = accepted tt; samples = take (length (run y os .released)) (run y os .brought) }

@@ -42,4 +42,5 @@ markIf cap goes r m = cond goes (mark cap r m) r
 unfoldable pub ringAfter : ℕ → InputConditioner → List ℕ → ℕ → rules.Marks → rules.Marks
 ringAfter cap c new k r =
     let m = releasedSpan c new in
-    markIf cap (iqMarks (settledOf (c .settings .iq)) k) (markIf cap (dcMarks (modeOf (c .settings .dc)) k) (foldl (mark cap) r (marksFor k (impulseTold c new))) m) m
+    markIf cap (iqMarks (settledOf (c .settings .iq)) k)
+    (markIf cap (dcMarks (modeOf (c .settings .dc)) k) (foldl (mark cap) r (marksFor k (impulseTold c new))) m) m

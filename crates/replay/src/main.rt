@@ -3,11 +3,16 @@
 // error.
 
 ghost use mathlib.Core.Path.{_≡_};
-ghost use Prim.Native.Nat.{_≤_};
+ghost use Prim.Native.Nat.{_+_, _*_, _≤_};
 ghost use lib.ListN.{length};
+ghost use Rattle.rules.specs.Impulse.{lookaheadSize};
+ghost use Rattle.rules.specs.Log.{repairWidth, storeWidth};
+ghost use Rattle.rules.specs.Monitor.{channelWidth};
 ghost use Rattle.io.specs.Counts.{Counts};
 use chain_make::MakingAnswer;
 use chain_state::InputConditioner;
+use impulse::ImpulseSuppressor;
+use iq_monitor::ImageMonitor;
 use libc::STDIN_FILENO;
 use libc::STDOUT_FILENO;
 use replay_start::StartAnswer;
@@ -35,31 +40,36 @@ struct Played {
 // ---- stores
 
 // The samples of a block, behind as many as are held.
-fn sample_store() -> [u64; 8213]
-    ensures { λ r. ⌜ 8213 ≡ length r ⌝ }
+const SAMPLES: usize = 8192 + ImpulseSuppressor::LOOKAHEAD;
+
+const SPAN_STORE: usize = log::STORE_WORDS * replay_format::SPANS;
+
+const REPAIR_STORE: usize = log::REPAIR_WORDS * replay_format::REPAIRS;
+
+const MONITOR_STORE: usize = ImageMonitor::CHANNEL_WORDS * replay_format::CHANNELS;
+
+fn sample_store() -> [u64; SAMPLES]
+    ensures { λ r. ⌜ 8192 + lookaheadSize ≡ length r ⌝ }
 {
-    [0u64; 8213]
+    [0u64; SAMPLES]
 }
 
-// 24 words for each of 256 spans.
-fn span_store() -> [u64; 6144]
-    ensures { λ r. ⌜ 6144 ≡ length r ⌝ }
+fn span_store() -> [u64; SPAN_STORE]
+    ensures { λ r. ⌜ storeWidth * 256 ≡ length r ⌝ }
 {
-    [0u64; 6144]
+    [0u64; SPAN_STORE]
 }
 
-// 6 words for each of 1,024 repairs.
-fn repair_store() -> [u64; 6144]
-    ensures { λ r. ⌜ 6144 ≡ length r ⌝ }
+fn repair_store() -> [u64; REPAIR_STORE]
+    ensures { λ r. ⌜ repairWidth * 1024 ≡ length r ⌝ }
 {
-    [0u64; 6144]
+    [0u64; REPAIR_STORE]
 }
 
-// 4 words for each of 8 channels.
-fn monitor_store() -> [f64; 32]
-    ensures { λ r. ⌜ 32 ≡ length r ⌝ }
+fn monitor_store() -> [f64; MONITOR_STORE]
+    ensures { λ r. ⌜ channelWidth * 8 ≡ length r ⌝ }
 {
-    [0.0f64; 32]
+    [0.0f64; MONITOR_STORE]
 }
 
 fn text_store() -> [u8; 262144]

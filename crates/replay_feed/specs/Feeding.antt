@@ -13,7 +13,7 @@ use Rattle.replay_format.specs.Format.{wordsIn}
 
 -- the held places in a store of samples
 abbrev pub heldIn : InputConditioner → List ℕ → ℕ
-heldIn c samples = min (c .held) (length samples)
+heldIn c samples = min (c .counts .held) (length samples)
 
 -- as many samples as the block has, and as the store has room for behind the held places
 abbrev pub newMany : InputConditioner → List ℕ → List ℕ → ℕ

@@ -45,13 +45,17 @@ pub fn feed(
     spans: &mut [u64],
     repairs: &mut [u64],
 ) -> Fed
-    ensures answer { λ r. ⌜ said (r .answer) ≡ fed (machineOf state (now (spans .entry)) (now (repairs .entry))) (now (bytes .entry)) (now (samples .entry)) .said ⌝ }
-    ensures chain { λ r. ⌜ machineOf (r .state) (now (spans .exit)) (now (repairs .exit)) ≡ fed (machineOf state (now (spans .entry)) (now (repairs .entry))) (now (bytes .entry)) (now (samples .entry)) .machine ⌝ }
-    ensures written { λ r. ⌜ now (samples .exit) ≡ fed (machineOf state (now (spans .entry)) (now (repairs .entry))) (now (bytes .entry)) (now (samples .entry)) .samples ⌝ }
-    ensures replaced { λ r. ⌜ r .replaced ≡ fed (machineOf state (now (spans .entry)) (now (repairs .entry))) (now (bytes .entry)) (now (samples .entry)) .replaced ⌝ }
+    ensures answer { λ r. ⌜ said (r .answer)
+        ≡ fed (machineOf state (now (spans .entry)) (now (repairs .entry))) (now (bytes .entry)) (now (samples .entry)) .said ⌝ }
+    ensures chain { λ r. ⌜ machineOf (r .state) (now (spans .exit)) (now (repairs .exit))
+        ≡ fed (machineOf state (now (spans .entry)) (now (repairs .entry))) (now (bytes .entry)) (now (samples .entry)) .machine ⌝ }
+    ensures written { λ r. ⌜ now (samples .exit)
+        ≡ fed (machineOf state (now (spans .entry)) (now (repairs .entry))) (now (bytes .entry)) (now (samples .entry)) .samples ⌝ }
+    ensures replaced { λ r. ⌜ r .replaced
+        ≡ fed (machineOf state (now (spans .entry)) (now (repairs .entry))) (now (bytes .entry)) (now (samples .entry)) .replaced ⌝ }
     ensures taken { λ r. ⌜ r .taken ≡ fed (machineOf state (now (spans .entry)) (now (repairs .entry))) (now (bytes .entry)) (now (samples .entry)) .taken ⌝ }
 {
-    let held = least(state.held, samples.len());
+    let held = least(state.counts.held, samples.len());
     let new = least(bytes.len() / 8, samples.len() - held);
     let end = held + new;
     let unread = chain_call::refusal(state, end, spans, repairs);

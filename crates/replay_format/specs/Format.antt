@@ -24,7 +24,8 @@ wordAt bytes k = littleEndian (take 8 (drop k bytes))
 abbrev pub headerSize : ℕ
 headerSize = 49
 
--- ---- the header: 'mark CND, u16 version 1, mode bytes impulse, DC, IQ (0 off, 1 observe, 2 apply), calibration present (0 or 1), then f64 fs, centre, gain, phase, calibrated centre'
+-- ---- the header: 'mark CND, u16 version 1, mode bytes impulse, DC, IQ (0 off, 1 observe, 2 apply), calibration present (0 or 1), then f64 fs, centre, gain,
+-- phase, calibrated centre'
 
 -- 'mark CND, u16 version 1'
 abbrev pub markFits : List ℕ → Bool

@@ -8,7 +8,10 @@ ghost use Rattle.stage_mode.specs.View.{modeOf};
 ghost use Rattle.chain_config.specs.Config.{configOf};
 ghost use Rattle.replay_format.specs.Format.{markFits, modesFit, modeBy, realAt, calibrationIn, configIn};
 ghost use Rattle.replay_format.specs.Header.{saidHeader, headerSaid};
+use crate::CHANNELS;
 use crate::HeaderRead;
+use crate::REPAIRS;
+use crate::SPANS;
 use crate::words;
 use chain_config::ConditioningConfig;
 use iq::Calibration;
@@ -16,13 +19,6 @@ use iq::IqCalibration;
 use stage_mode::StageMode;
 
 const HEADER_SIZE: usize = 49;
-
-// The channels of a hop, and the spans and the repairs that the log holds.
-const CHANNELS: usize = 8;
-
-const SPANS: usize = 256;
-
-const REPAIRS: usize = 1024;
 
 // Mark CND, and version 1.
 fn mark_fits(bytes: &[u8]) -> bool

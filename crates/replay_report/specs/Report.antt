@@ -55,7 +55,8 @@ spanLines rs = each ringSpans rs
 unfoldable pub reportText : Report → List ℕ
 reportText r =
     sampleLines (r .replaced) (r .seen) (r .final) (r .held)
-    ++ (countLines (r .rings) ++ (spanLines (r .rings) ++ (droppedLine (r .droppedSpans) (r .droppedRepairs) ++ (levelLine (r .level) ++ settledLine (r .settled)))))
+    ++ (countLines (r .rings)
+    ++ (spanLines (r .rings) ++ (droppedLine (r .droppedSpans) (r .droppedRepairs) ++ (levelLine (r .level) ++ settledLine (r .settled)))))
 
 -- ---- by the rules, for the whole input
 
@@ -91,7 +92,8 @@ textUnless n text = unlessRefused n text refusedText
 
 -- making, with stores of 24·256, 6·1,024 and 4·8 words: 'all off answers nothing, before 1, 2, 3, 4'; and then the calls: 'total above 2^48'
 abbrev pub playedText : Config → List ℕ → List ℕ
-playedText c raw = cond (allOff c) offText (textUnless (refusal c 6144 6144 32) (textUnless (firstOf (tooMany 0 (length raw) ∷ [])) (reportText (reportBy c raw))))
+playedText c raw =
+    cond (allOff c) offText (textUnless (refusal c 6144 6144 32) (textUnless (firstOf (tooMany 0 (length raw) ∷ [])) (reportText (reportBy c raw))))
 
 -- all that is printed
 unfoldable pub printed : List ℕ → List ℕ

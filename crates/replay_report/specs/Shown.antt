@@ -15,22 +15,22 @@ use Rattle.replay_report.specs.Report.{Ring, Report, marks, ringsOf, spa
 
 -- the spans of ring number k, the oldest first; none where the store or the ring cannot be read
 unfoldable pub shownSpans : InputConditioner → List ℕ → ℕ → List Span
-shownSpans c ws k = let cap = c .settings .spans in cond (storeFits cap (length ws) && readable cap (ringOf (c .log) k)) (spansIn c ws k) []
+shownSpans c ws k = let cap = c .settings .spans in cond (storeFits cap (length ws) && readable cap (ringOf (c .notes .log) k)) (spansIn c ws k) []
 
 abbrev pub shownRing : InputConditioner → List ℕ → Stage → Mark → Ring
-shownRing c ws s m = record { stage = s; mark = m; count = countOf (c .log) (ringNumber s m); spans = shownSpans c ws (ringNumber s m) }
+shownRing c ws s m = record { stage = s; mark = m; count = countOf (c .notes .log) (ringNumber s m); spans = shownSpans c ws (ringNumber s m) }
 
 -- after so many samples were replaced
 unfoldable pub reportIn : InputConditioner → List ℕ → ℕ → Report
 reportIn c ws replaced =
     record {
       replaced = replaced;
-      seen = c .seen;
-      final = c .released;
-      held = c .held;
+      seen = c .counts .seen;
+      final = c .counts .released;
+      held = c .counts .held;
       rings = ringsOf (shownRing c ws);
-      droppedSpans = droppedInAll (c .log);
-      droppedRepairs = c .repairs .dropped;
+      droppedSpans = droppedInAll (c .notes .log);
+      droppedRepairs = c .notes .repairs .dropped;
       level = stateLevel c;
       settled = settledOf (c .settings .iq);
     }
@@ -53,4 +53,4 @@ allLines c ws = each (shownLines c ws impulse) marks ++ (each (shownLines c ws d
 
 -- what follows the rings
 abbrev pub shownRest : InputConditioner → List ℕ
-shownRest c = droppedLine (droppedInAll (c .log)) (c .repairs .dropped) ++ (levelLine (stateLevel c) ++ settledLine (settledOf (c .settings .iq)))
+shownRest c = droppedLine (droppedInAll (c .notes .log)) (c .notes .repairs .dropped) ++ (levelLine (stateLevel c) ++ settledLine (settledOf (c .settings .iq)))

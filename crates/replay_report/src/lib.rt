@@ -111,7 +111,7 @@ fn put_rest(text: &mut [u8], place: usize, state: InputConditioner) -> usize
     ensures { λ r. ⌜ Written (now (text .entry)) place (shownRest state) (now (text .exit)) r ⌝ }
 {
     let log = chain_log::log(state);
-    let repairs = log.repairs;
+    let repairs = log.notes.repairs;
     let level = log.dclevel;
     let iq = log.iq;
     let a = lines::put_dropped(text, place, log.dropped, repairs.dropped);
@@ -126,14 +126,15 @@ pub fn write_report(state: InputConditioner, spans: &[u64], replaced: u64, text:
     ensures text { λ r. ⌜ now (text .exit) ≡ put (now (text .entry)) 0 (reportText (reportIn state (now (spans .entry)) replaced)) ⌝ }
     ensures length { λ r. ⌜ r ≡ min (length (now (text .entry))) (length (reportText (reportIn state (now (spans .entry)) replaced))) ⌝ }
 {
-    let log = state.log;
+    let counts = state.counts;
+    let log = state.notes.log;
     let a = lines::put_samples(
         text,
         0,
         replaced,
-        state.seen,
-        state.released,
-        state.held as u64,
+        counts.seen,
+        counts.released,
+        counts.held as u64,
     );
     let b = put_counts(text, a, log);
     let c = put_spans(text, b, state, spans);

@@ -65,11 +65,21 @@ pub fn start(
     repairs: &mut [u64],
     words: &mut [f64],
 ) -> Started
-    ensures answer { λ r. ⌜ saidStart (r .answer) ≡ startSaid (now (head .entry)) (now (block .entry)) (length (now (spans .entry))) (length (now (repairs .entry))) (length (now (words .entry))) ⌝ }
+    ensures answer { λ r. ⌜ saidStart (r .answer)
+        ≡ startSaid (now (head .entry)) (now (block .entry)) (length (now (spans .entry))) (length (now (repairs .entry))) (length (now (words .entry))) ⌝ }
     ensures state { λ r. ⌜ r .state ≡ startState (now (head .entry)) (now (block .entry)) ⌝ }
-    ensures spans { λ r. ⌜ now (spans .exit) ≡ madeWords 0 (startSaid (now (head .entry)) (now (block .entry)) (length (now (spans .entry))) (length (now (repairs .entry))) (length (now (words .entry)))) (now (spans .entry)) ⌝ }
-    ensures repairs { λ r. ⌜ now (repairs .exit) ≡ madeWords 0 (startSaid (now (head .entry)) (now (block .entry)) (length (now (spans .entry))) (length (now (repairs .entry))) (length (now (words .entry)))) (now (repairs .entry)) ⌝ }
-    ensures words { λ r. ⌜ now (words .exit) ≡ madeWords zeroF (startSaid (now (head .entry)) (now (block .entry)) (length (now (spans .entry))) (length (now (repairs .entry))) (length (now (words .entry)))) (now (words .entry)) ⌝ }
+    ensures spans { λ r. ⌜ now (spans .exit)
+        ≡ madeWords 0
+        (startSaid (now (head .entry)) (now (block .entry)) (length (now (spans .entry))) (length (now (repairs .entry))) (length (now (words .entry))))
+        (now (spans .entry)) ⌝ }
+    ensures repairs { λ r. ⌜ now (repairs .exit)
+        ≡ madeWords 0
+        (startSaid (now (head .entry)) (now (block .entry)) (length (now (spans .entry))) (length (now (repairs .entry))) (length (now (words .entry))))
+        (now (repairs .entry)) ⌝ }
+    ensures words { λ r. ⌜ now (words .exit)
+        ≡ madeWords zeroF
+        (startSaid (now (head .entry)) (now (block .entry)) (length (now (spans .entry))) (length (now (repairs .entry))) (length (now (words .entry))))
+        (now (words .entry)) ⌝ }
 {
     let read = replay_format::header::header(head);
     let HeaderRead::Config(config) = read else {

@@ -13,9 +13,13 @@ isAccepted (accepted v) = true
 isAccepted nothing = false
 isAccepted (refused r) = false
 
+-- the number in what the table returns, which comes first, and 0 where it returns nothing
+abbrev pub numberIn : List ℕ → ℕ
+numberIn [] = 0
+numberIn (n ∷ r) = n
+
 -- the number of a refusal, and 0 where there is none
 abbrev pub numberOf : {A : Type 0} → Said A → ℕ
 numberOf (accepted v) = 0
 numberOf nothing = 0
-numberOf (refused []) = 0
-numberOf (refused (n ∷ r)) = n
+numberOf (refused r) = numberIn r

@@ -9,7 +9,8 @@ use Rattle.rules.specs.Impulse.{Setting, standard, blockLength, Event, h
 use Rattle.rules.specs.Dc.{corner, firstLevel, levelAfter, blockedAll}
 use Rattle.rules.specs.Iq.{Calibrated, Settled, Off, Observing, Withheld, Correcting, settled, correctedBy}
 use Rattle.rules.specs.Mode.{Mode, isApply, runs}
-use Rattle.rules.specs.Log.{Ring, Span, spanOf, Marks, marked, repaired, Stage, impulse, dc, iq, Mark, Repaired, Flagged, Corrected, Uncertain, marksOf, repairsOf, longRuns}
+use Rattle.rules.specs.Log.{Ring, Span, spanOf, Marks, marked, repaired, Stage, impulse, dc, iq, Mark, Repaired, Flagged, Corrected, Uncertain, marksOf}
+use Rattle.rules.specs.Log.{repairsOf, longRuns}
 use Rattle.rules.specs.Monitor.{Hop, Answer, windowLength, answers, openWindow, monitorWords, suspectedSpans}
 
 pub record Config : Type 0 where

@@ -1,5 +1,5 @@
 -- Document 01, 'Impulse': the stage's rules for a whole input, as functions of an index. Samples are words and numbered from 0. No state. Definitions only.
-use mathlib.Core.Bool.{Bool, false, cond, not, _&&_, _||_}
+use mathlib.Core.Bool.{Bool, true, false, cond, not, _&&_, _||_}
 use mathlib.Core.List.{List, [], _∷_, _++_, map, foldl}
 use Prim.Native.Nat.{ℕ, zero, suc, _+_, _*_, _-_, _/_, _≤_, _<_, min}
 use mathlib.Core.Path.{_≡_}
@@ -22,15 +22,31 @@ pub record Setting : Type 0 where
   pub block : ℕ
   pub apply : Bool
 
--- 'half window 16, window 33, trim 8, longest run 4, lookahead 21'
-abbrev pub standard : ℕ → Bool → Setting
-standard block apply = record { half = 16; run = 4; trim = 8; block = block; apply = apply }
-
 abbrev pub width : Setting → ℕ
 width s = s .half + s .half + 1
 
 abbrev pub lookahead : Setting → ℕ
 lookahead s = s .half + s .run + 1
+
+-- 'half window 16, window 33, trim 8, longest run 4, lookahead 21': the standard setting's numbers, whatever its block length and mode
+
+abbrev pub halfWindow : ℕ
+halfWindow = 16
+
+abbrev pub trimSize : ℕ
+trimSize = 8
+
+abbrev pub longestRun : ℕ
+longestRun = 4
+
+abbrev pub standard : ℕ → Bool → Setting
+standard block apply = record { half = halfWindow; run = longestRun; trim = trimSize; block = block; apply = apply }
+
+abbrev pub windowSize : ℕ
+windowSize = width (standard 0 true)
+
+abbrev pub lookaheadSize : ℕ
+lookaheadSize = lookahead (standard 0 true)
 
 -- the settings that what follows is shown for
 pub record Offered (s : Setting) : Type 0 where
@@ -46,6 +62,10 @@ pub record Offered (s : Setting) : Type 0 where
 -- 'Sample j is judged when j+16 arrives.' Of n samples so many are.
 abbrev pub judged : Setting → ℕ → ℕ
 judged s n = n - s .half
+
+-- the next to be judged by the standard setting, of so many received
+abbrev pub nextJudged : ℕ → ℕ
+nextJudged received = judged (standard 0 true) received
 
 -- 'powers are f32'
 unfoldable pub powerOf : ℕ → Float

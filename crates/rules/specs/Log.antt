@@ -62,18 +62,21 @@ pub record Marks : Type 0 where
   pub samples : ℕ
   pub ring : Ring
 
+abbrev pub spanWidth : ℕ
+spanWidth = 2
+
 abbrev pub noMarks : ℕ → Marks
-noMarks cap = record { samples = 0; ring = emptyRing (2 * cap) }
+noMarks cap = record { samples = 0; ring = emptyRing (spanWidth * cap) }
 
 -- the place of the newest span, where there is one
 abbrev pub newestPlace : ℕ → Ring → ℕ
 newestPlace cap r = (r .head + (r .count - 1)) % cap
 
 abbrev pub startAt : Ring → ℕ → ℕ
-startAt r i = at (r .words) (i * 2)
+startAt r i = at (r .words) (i * spanWidth)
 
 abbrev pub lenAt : Ring → ℕ → ℕ
-lenAt r i = at (r .words) (i * 2 + 1)
+lenAt r i = at (r .words) (i * spanWidth + 1)
 
 -- where the newest span ends
 abbrev pub newestEnd : ℕ → Ring → ℕ
@@ -90,10 +93,11 @@ lengthened cap r n =
       head = r .head;
       count = r .count;
       dropped = r .dropped;
-      words = set (r .words) (newestPlace cap r * 2 + 1) (lenAt r (newestPlace cap r) + n);
+      words = set (r .words) (newestPlace cap r * spanWidth + 1) (lenAt r (newestPlace cap r) + n);
     }
 
--- 'A mark of length 0 does nothing. Another adds its length to its count; starting where the ring's newest span ends, it lengthens that span; else' it is a new one
+-- 'A mark of length 0 does nothing. Another adds its length to its count; starting where the ring's newest span ends, it lengthens that span; else' it is a new
+-- one
 unfoldable pub mark : ℕ → Marks → Span → Marks
 mark cap r m =
     cond (eqb (m .len) 0) r
@@ -122,6 +126,13 @@ repaired cap rs = foldl (append cap) (emptyRing (repairWidth * cap)) rs
 
 pub data Stage : Type 0 where
   impulse dc iq : Stage
+
+abbrev pub ringCount : ℕ
+ringCount = 12
+
+-- the words of the store for each span that a ring can hold: '24·spans'
+abbrev pub storeWidth : ℕ
+storeWidth = ringCount * spanWidth
 
 pub data Mark : Type 0 where
   Repaired Flagged Corrected Uncertain : Mark

@@ -166,6 +166,10 @@ unfoldable pub openWindow : ℕ → ℕ → List Hop → List Hop → List Hop
 openWindow n enough w [] = w
 openWindow n enough w (h ∷ hs) = openWindow n enough (nextWindow n enough w h) hs
 
+-- the words for each channel: '4·n'
+abbrev pub channelWidth : ℕ
+channelWidth = 4
+
 -- 'Its lent f64 words are n powers, n real and n imaginary product sums, and n for sorting that an accepted hop leaves 0; a report leaves all 0.'
 unfoldable pub monitorWords : ℕ → List Hop → List Float
 monitorWords n w = upTo (powerSum w) n ++ (upTo (realSum n w) n ++ (upTo (imagSum n w) n ++ replicate n zeroF))

@@ -28,6 +28,8 @@ use Rattle.complex.specs.Complex.{Complex, sampleOf}
 use Rattle.rules.specs.Constants.{one, rateLimit, partLimit, sizeLimit, spanLimit, repairLimit, totalLimit}
 use Rattle.rules.specs.Guard.{magnitude, firstUnusableFrom}
 use Rattle.rules.specs.Iq.{Calibration, gainFits, phaseFits, centreFits, accepted, ranged}
+use Rattle.rules.specs.Log.{repairWidth, storeWidth}
+use Rattle.rules.specs.Monitor.{channelWidth}
 
 -- a cause and its number
 pub record Cause : Type 0 where
@@ -120,7 +122,7 @@ makingRefusal fs n spans repairs lentSpans lentRepairs lentWords =
     (badRate fs
     ∷ badSize n
     ∷ badCapacity spans repairs
-    ∷ badLength (6 * repairs) lentRepairs
-    ∷ badLength (24 * spans) lentSpans
-    ∷ badLength (4 * n) lentWords
+    ∷ badLength (repairWidth * repairs) lentRepairs
+    ∷ badLength (storeWidth * spans) lentSpans
+    ∷ badLength (channelWidth * n) lentWords
     ∷ [])

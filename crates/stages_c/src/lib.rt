@@ -151,8 +151,11 @@ pub extern "C" fn iq_settle(
     receiver: f64,
     rho: &mut [f64; 2],
 ) -> u64
-    ensures answer { λ r. ⌜ r ≡ settledNumber (settled (modeFrom mode) (calibratedFrom present (record { gain = gain; phase = phase; centre = centre })) receiver) ⌝ }
-    ensures coefficient { λ r. ⌜ now (rho .exit) ≡ settledRho (now (rho .entry)) (settled (modeFrom mode) (calibratedFrom present (record { gain = gain; phase = phase; centre = centre })) receiver) ⌝ }
+    ensures answer { λ r. ⌜ r
+        ≡ settledNumber (settled (modeFrom mode) (calibratedFrom present (record { gain = gain; phase = phase; centre = centre })) receiver) ⌝ }
+    ensures coefficient { λ r. ⌜ now (rho .exit)
+        ≡ settledRho (now (rho .entry))
+        (settled (modeFrom mode) (calibratedFrom present (record { gain = gain; phase = phase; centre = centre })) receiver) ⌝ }
 {
     let c = IqCalibration {
         gain,

@@ -8,20 +8,24 @@ use chain_call::Conditioned;
 use chain_config::ConditioningConfig;
 use chain_hop::HopSaid;
 use chain_make::MakingAnswer;
+use chain_state::Counts;
 use chain_state::InputConditioner;
 use chain_state::Settings;
-use chain_undo::Undone;
 use complex::Complex64;
 use dc::DcBlocker;
+use impulse::Block;
 use impulse::Gate;
+use impulse::GateSettings;
 use impulse::ImpulseSuppressor;
 use impulse::Left;
+use impulse::Mending;
 use impulse::Open;
 use impulse::Run;
 use iq::Iq;
 use iq_monitor::Begun;
 use iq_monitor::ImageMonitor;
 use log::Log;
+use log::Notes;
 use log::Ring;
 use stage_mode::StageMode;
 
@@ -143,25 +147,17 @@ fn told_call(answer: Conditioned) -> Told {
 }
 
 pub fn told_hop(answer: HopSaid) -> Told {
+    let number = chain_hop::number(answer);
     match answer {
         HopSaid::Nothing => plain(NOTHING),
-        HopSaid::NoReport => plain(ACCEPTED),
         HopSaid::Report(_) => plain(REPORTED),
-        HopSaid::BadLength => plain(4),
-        HopSaid::BadState => plain(5),
         HopSaid::Beyond(place) => Told {
-            number: 7,
+            number,
             value: place as u64,
         },
-        HopSaid::Early => plain(9),
-    }
-}
-
-fn told_undone(answer: Undone) -> Told {
-    match answer {
-        Undone::Restored => plain(ACCEPTED),
-        Undone::BadState => plain(5),
-        Undone::BadLength => plain(4),
+        HopSaid::NoReport | HopSaid::BadLength | HopSaid::BadState | HopSaid::Early => {
+            plain(number)
+        }
     }
 }
 
@@ -267,12 +263,13 @@ fn neighbour(left: Left) -> u64 {
 }
 
 fn gate_words(g: Gate) -> [u64; 12] {
-    let run = g.run;
-    let left = g.left;
+    let mending = g.mending;
+    let run = mending.run;
+    let left = mending.left;
     let r = run_of(run);
     [
-        g.apply as u64,
-        g.blocklen,
+        g.settings.apply as u64,
+        g.settings.blocklen,
         g.received,
         is_running(run) as u64,
         r.start,
@@ -280,9 +277,9 @@ fn gate_words(g: Gate) -> [u64; 12] {
         r.paused as u64,
         is_there(left) as u64,
         neighbour(left),
-        g.block,
-        g.flagged,
-        g.paused as u64,
+        g.block.number,
+        g.block.flagged,
+        g.block.paused as u64,
     ]
 }
 
@@ -331,13 +328,8 @@ fn write_levels(b: DcBlocker, m: ImageMonitor, words: &mut [u64; WORDS]) {
     put(&list, words, FACTOR);
 }
 
-fn write_counts(state: InputConditioner, words: &mut [u64; WORDS]) {
-    let list = [
-        state.seen,
-        state.released,
-        state.held as u64,
-        state.longruns,
-    ];
+fn write_counts(counts: Counts, words: &mut [u64; WORDS]) {
+    let list = [counts.seen, counts.released, counts.held as u64];
     put(&list, words, SEEN);
 }
 
@@ -354,13 +346,18 @@ fn write_log(log: Log, words: &mut [u64; WORDS]) {
     }
 }
 
+fn write_notes(notes: Notes, words: &mut [u64; WORDS]) {
+    write_log(notes.log, words);
+    write_ring(notes.repairs, words, REPAIR_RING);
+    set(words, LONG_RUNS, notes.longruns);
+}
+
 pub fn write_state(state: InputConditioner, words: &mut [u64; WORDS]) {
     write_settings(state.settings, words);
     write_suppressor(state.suppressor, words);
     write_levels(state.blocker, state.monitor, words);
-    write_counts(state, words);
-    write_log(state.log, words);
-    write_ring(state.repairs, words, REPAIR_RING);
+    write_counts(state.counts, words);
+    write_notes(state.notes, words);
 }
 
 // ---- reading
@@ -423,14 +420,20 @@ fn read_left(words: &[u64]) -> Left {
 
 fn read_gate(words: &[u64]) -> Gate {
     Gate {
-        apply: word(words, APPLY) != 0,
-        blocklen: word(words, BLOCK_LENGTH),
+        settings: GateSettings {
+            apply: word(words, APPLY) != 0,
+            blocklen: word(words, BLOCK_LENGTH),
+        },
         received: word(words, RECEIVED),
-        run: read_run(words),
-        left: read_left(words),
-        block: word(words, BLOCK),
-        flagged: word(words, FLAGGED),
-        paused: word(words, PAUSED) != 0,
+        mending: Mending {
+            run: read_run(words),
+            left: read_left(words),
+        },
+        block: Block {
+            number: word(words, BLOCK),
+            flagged: word(words, FLAGGED),
+            paused: word(words, PAUSED) != 0,
+        },
     }
 }
 
@@ -511,18 +514,30 @@ fn read_log(words: &[u64]) -> Log {
     log
 }
 
-pub fn read_state(words: &[u64]) -> InputConditioner {
-    InputConditioner {
-        settings: read_settings(words),
+fn read_counts(words: &[u64]) -> Counts {
+    Counts {
         seen: word(words, SEEN),
         released: word(words, RELEASED),
         held: word(words, HELD) as usize,
-        suppressor: read_suppressor(words),
-        blocker: read_blocker(words),
-        monitor: read_monitor(words),
+    }
+}
+
+fn read_notes(words: &[u64]) -> Notes {
+    Notes {
         log: read_log(words),
         repairs: read_ring(words, REPAIR_RING),
         longruns: word(words, LONG_RUNS),
+    }
+}
+
+pub fn read_state(words: &[u64]) -> InputConditioner {
+    InputConditioner {
+        settings: read_settings(words),
+        counts: read_counts(words),
+        suppressor: read_suppressor(words),
+        blocker: read_blocker(words),
+        monitor: read_monitor(words),
+        notes: read_notes(words),
     }
 }
 
@@ -650,5 +665,5 @@ pub fn undo_repairs(
 ) -> Told {
     let r = part(repairs, length);
     let answer = chain_undo::revert_repairs(read_state(words), &repairs[..r], samples, first);
-    told_undone(answer)
+    plain(chain_undo::number(answer))
 }

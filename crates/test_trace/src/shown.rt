@@ -29,9 +29,10 @@ fn write_ring(samples: u64, ring: Ring) {
 }
 
 fn write_rings(log: ConditioningLog) {
+    let marks = log.notes.log;
     for k in 0..12 {
-        let samples = log.counts[k];
-        let ring = log.rings[k];
+        let samples = marks.counts[k];
+        let ring = marks.rings[k];
         write_ring(samples, ring);
     }
 }
@@ -49,19 +50,21 @@ fn write_level(level: DcLevel) {
 }
 
 fn write_counts(log: ConditioningLog) {
-    let ring = log.repairs;
+    let notes = log.notes;
+    let ring = notes.repairs;
     let words = [
         log.dropped,
         ring.head as u64,
         ring.count as u64,
         ring.dropped,
-        log.longruns,
+        notes.longruns,
     ];
     write_words(&words);
 }
 
 fn write_log(log: ConditioningLog) {
-    let samples = [log.seen, log.released, log.held as u64];
+    let counts = log.counts;
+    let samples = [counts.seen, counts.released, counts.held as u64];
     let level = log.dclevel;
     let iq = log.iq;
     write_words(&samples);

@@ -12,13 +12,6 @@ use test_state_words::WORDS;
 use test_state_words::part;
 use test_state_words::plain;
 
-fn beyond(place: usize) -> Told {
-    Told {
-        number: 7,
-        value: place as u64,
-    }
-}
-
 // ---- repairs
 
 pub fn repairs(state: &[u64; WORDS], head: Head, input: &mut [u64], repairs: &[u64]) {
@@ -29,11 +22,13 @@ pub fn repairs(state: &[u64; WORDS], head: Head, input: &mut [u64], repairs: &[u
 // ---- DC
 
 fn told_dc(answer: dc::Reverted) -> Told {
+    let number = dc::number(answer);
     match answer {
-        dc::Reverted::Restored => plain(0),
-        dc::Reverted::BadRate => plain(1),
-        dc::Reverted::BadLength => plain(4),
-        dc::Reverted::Beyond(place) => beyond(place),
+        dc::Reverted::Beyond(place) => Told {
+            number,
+            value: place as u64,
+        },
+        _ => plain(number),
     }
 }
 
@@ -52,10 +47,13 @@ pub fn level(head: Head, input: &[u64]) {
 // ---- IQ
 
 fn told_iq(answer: iq_correction::Reverted) -> Told {
+    let number = iq_correction::number(answer);
     match answer {
-        iq_correction::Reverted::Restored => plain(0),
-        iq_correction::Reverted::Unfit => plain(10),
-        iq_correction::Reverted::Beyond(place) => beyond(place),
+        iq_correction::Reverted::Beyond(place) => Told {
+            number,
+            value: place as u64,
+        },
+        _ => plain(number),
     }
 }
 

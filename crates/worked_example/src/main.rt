@@ -54,9 +54,10 @@ fn released(answer: Conditioned) -> u64 {
 // What the log says: the samples seen, released and held, and where the click was.
 fn print_log(state: InputConditioner, spans: &[u64]) {
     let log = chain_log::log(state);
-    print_line(b"seen ", log.seen);
-    print_line(b"released ", log.released);
-    print_line(b"held ", log.held as u64);
+    let counts = log.counts;
+    print_line(b"seen ", counts.seen);
+    print_line(b"released ", counts.released);
+    print_line(b"held ", counts.held as u64);
     let read = chain_log::span(state, spans, Stage::Impulse, Mark::Repaired, 0);
     let SpanRead::Held(span) = read else {
         return;

@@ -41,8 +41,11 @@ loop-again c =
     let l = c .before .before .before .before .before .args .samples .now in
     let limit = c .before .before .before .before .before .args .limit in
     let v = c .before .before .before .loop in
-    let b = c .raised in
-    (omega arith, ap (λ (t : Bool). t && allOf (under limit) (drop (v .k + 1) l)) (or-clear (v .bits) (b .result)) ∙ good-next (under limit) 0 l (v .k) (halvesClear (v .bits)) (halvesClear (b .result)) (c .before .before .loop-test .taken) (b .ensures) (v .inv .1))
+    let b = c .raised in (
+      omega arith,
+      ap (λ (t : Bool). t && allOf (under limit) (drop (v .k + 1) l)) (or-clear (v .bits) (b .result))
+          ∙ good-next (under limit) 0 l (v .k) (halvesClear (v .bits)) (halvesClear (b .result)) (c .before .before .loop-test .taken) (b .ensures) (v .inv .1),
+    )
 
 halves-clear-requires : tie.Need-halves-clear-requires Inv-loop μ-loop
 halves-clear-requires c κs = omega arith
@@ -50,7 +53,9 @@ halves-clear-requires c κs = omega arith
 returns : tie.Need-returns Inv-loop μ-loop
 returns c =
     let v = c .before .before .loop in
-    c .halves-clear .ensures ∙ good-done (under (c .before .before .before .before .args .limit)) (c .before .before .before .before .args .samples .now) (v .k) (halvesClear (v .bits)) (c .before .loop-test .left) (v .inv .1)
+    c .halves-clear .ensures
+    ∙ good-done (under (c .before .before .before .before .args .limit)) (c .before .before .before .before .args .samples .now) (v .k)
+    (halvesClear (v .bits)) (c .before .loop-test .left) (v .inv .1)
 
 pub all-under-spec : {M : Type 1} → statement M
 all-under-spec =

@@ -13,7 +13,8 @@ all-under-requires : tie.Need-all-under-requires
 all-under-requires c κs = search needs
 
 returns : tie.Need-returns
-returns c = let x = c .before .before .before .args .samples .now in let z : length x ≡ 0 + length x = omega arith in z ∙ sym (all-within 0 x (subst T (sym (c .if1 .taken) ∙ c .before .all-under .ensures) tt))
+returns c = let x = c .before .before .before .args .samples .now in let z : length x ≡ 0 + length x = omega arith in
+    z ∙ sym (all-within 0 x (subst T (sym (c .if1 .taken) ∙ c .before .all-under .ensures) tt))
 
 scan-requires : tie.Need-scan-requires
 scan-requires c κs = search needs

@@ -34,7 +34,8 @@ loop-less : tie.Need-loop-less Inv-loop μ-loop
 loop-less c = search needs
 
 -- what is left at k, by the answer t of the test
-here : (c : tie.After-within Inv-loop μ-loop) (t : Bool) → c .within .result ≡ t → let xs = c .before .before .before .before .before .args .samples .now in let k = c .before .before .before .loop .k in firstBeyondFrom k (drop k xs) ≡ cond t (firstBeyondFrom (k + 1) (drop (k + 1) xs)) k
+here : (c : tie.After-within Inv-loop μ-loop) (t : Bool) → c .within .result ≡ t → let xs = c .before .before .before .before .before .args .samples .now in
+    let k = c .before .before .before .loop .k in firstBeyondFrom k (drop k xs) ≡ cond t (firstBeyondFrom (k + 1) (drop (k + 1) xs)) k
 here c t e =
     let xs = c .before .before .before .before .before .args .samples .now in
     let k = c .before .before .before .loop .k in

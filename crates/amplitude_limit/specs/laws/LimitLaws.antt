@@ -31,9 +31,11 @@ parts-under limit w t =
 
 -- ---- a scan that has come to k
 
-pub scan-here : (xs : List ℕ) (k : ℕ) → k < length xs → firstBeyondFrom k (drop k xs) ≡ cond (withinLimit (getD xs k 0)) (firstBeyondFrom (k + 1) (drop (k + 1) xs)) k
+pub scan-here : (xs : List ℕ) (k : ℕ) → k < length xs
+    → firstBeyondFrom k (drop k xs) ≡ cond (withinLimit (getD xs k 0)) (firstBeyondFrom (k + 1) (drop (k + 1) xs)) k
 unfolding firstBeyondFrom
-scan-here xs k h = ap (firstBeyondFrom k) (left xs k h) ∙ ap (λ (n : ℕ). cond (withinLimit (getD xs k 0)) (firstBeyondFrom n (drop (k + 1) xs)) k) (sym (add-one k))
+scan-here xs k h = ap (firstBeyondFrom k) (left xs k h)
+    ∙ ap (λ (n : ℕ). cond (withinLimit (getD xs k 0)) (firstBeyondFrom n (drop (k + 1) xs)) k) (sym (add-one k))
 
 pub scan-end : (xs : List ℕ) (k : ℕ) → length xs ≤ k → firstBeyondFrom k (drop k xs) ≡ k
 unfolding firstBeyondFrom
@@ -46,7 +48,8 @@ unfolding firstBeyondFrom
 from-shift k [] = sym (add-zero k)
 from-shift k (w ∷ ws) = go (withinLimit w) (from-shift (suc k) ws) (from-shift 1 ws)
   where
-    go : (t : Bool) → firstBeyondFrom (suc k) ws ≡ suc k + firstBeyondFrom 0 ws → firstBeyondFrom 1 ws ≡ 1 + firstBeyondFrom 0 ws → cond t (firstBeyondFrom (suc k) ws) k ≡ k + cond t (firstBeyondFrom 1 ws) 0
+    go : (t : Bool) → firstBeyondFrom (suc k) ws ≡ suc k + firstBeyondFrom 0 ws → firstBeyondFrom 1 ws ≡ 1 + firstBeyondFrom 0 ws
+        → cond t (firstBeyondFrom (suc k) ws) k ≡ k + cond t (firstBeyondFrom 1 ws) 0
     go true a b = omega arith
     go false a b = sym (add-zero k)
 

@@ -2,7 +2,8 @@
 -- such input. Assumes nothing.
 --
 -- The contracts cite definitions of their own, and these give the rules by theorems, for any input:
---   of the whole chain   `one-record`, crates/one_record/specs/laws/OneRecord.antt: its part `ruled` is `ByRules`, by `released`, `ringOf` and the others of rules/Chain
+-- of the whole chain `one-record`, crates/one_record/specs/laws/OneRecord.antt: its part `ruled` is `ByRules`, by `released`, `ringOf` and the others of
+-- rules/Chain
 --   impulse              `stage`, crates/impulse/specs/laws/Stage.antt: pushed one by one, samples give `handedOn` and `happened`
 --   DC                   `any-cutting`, crates/dc/specs/laws/Cutting.antt: call by call, samples give `blockedAll` and `levelAfter`
 --   IQ                   none is needed: the contract of `settle`, crates/iq/src/lib.rt, cites `settled`
@@ -86,7 +87,8 @@ rate = ofBits binary64 0x40e7_7000_0000_0000
 
 -- gain 1.1, phase 3, centre 100 MHz
 abbrev pub calibrated : Calibration
-calibrated = record { gain = ofBits binary64 0x3ff1_9999_9999_999a; phase = ofBits binary64 0x4008_0000_0000_0000; centre = ofBits binary64 0x4197_d784_0000_0000 }
+calibrated =
+    record { gain = ofBits binary64 0x3ff1_9999_9999_999a; phase = ofBits binary64 0x4008_0000_0000_0000; centre = ofBits binary64 0x4197_d784_0000_0000 }
 
 pub record BenchMarks : Type 0 where
   -- 'among ones, (12,0) unflagged, (13,0) flagged; all zeros but one: unflagged'
@@ -108,7 +110,8 @@ pub record BenchMarks : Type 0 where
   pub bridge : handedOn usual (among (times 3 n100 ++ times 1 n5)) ≡ times 20 n1 ++ (n2 ∷ n3 ∷ n4 ∷ n5 ∷ times 1 n1)
   -- 'block 1000: one flagged goes on, two pause'
   pub goes-on : happened byThousand oneFlagged ≡ mended 500 1 (n100 ∷ []) ∷ mended 1100 1 (n100 ∷ []) ∷ []
-  pub pauses : happened byThousand twoFlagged ≡ mended 300 1 (n100 ∷ []) ∷ mended 500 1 (n100 ∷ []) ∷ (upTo (λ i. uncertain (1000 + i)) 102 ++ (kept 1100 1 false ∷ upTo (λ i. uncertain (1102 + i)) 4))
+  pub pauses : happened byThousand twoFlagged
+      ≡ mended 300 1 (n100 ∷ []) ∷ mended 500 1 (n100 ∷ []) ∷ (upTo (λ i. uncertain (1000 + i)) 102 ++ (kept 1100 1 false ∷ upTo (λ i. uncertain (1102 + i)) 4))
   -- '16 samples judge none'
   pub sixteen : (xs : List ℕ) → length xs ≡ 16 → happened usual xs ≡ []
   -- 'fs 48000, DC first (2,0) gives level (1,0); (0.5,0) twice gives 0.5, 0'
@@ -191,7 +194,8 @@ one-events : events byThousand oneAt oneFlagged 1106 ≡ mended 500 1 (n100 ∷ 
 unfolding floats impulseRules
 one-events = refl
 
-two-events : events byThousand twoAt twoFlagged 1106 ≡ mended 300 1 (n100 ∷ []) ∷ mended 500 1 (n100 ∷ []) ∷ (upTo (λ i. uncertain (1000 + i)) 102 ++ (kept 1100 1 false ∷ upTo (λ i. uncertain (1102 + i)) 4))
+two-events : events byThousand twoAt twoFlagged 1106
+    ≡ mended 300 1 (n100 ∷ []) ∷ mended 500 1 (n100 ∷ []) ∷ (upTo (λ i. uncertain (1000 + i)) 102 ++ (kept 1100 1 false ∷ upTo (λ i. uncertain (1102 + i)) 4))
 unfolding floats impulseRules
 two-events = refl
 

@@ -11,6 +11,8 @@ use Rattle.rules.specs.Guard.{usable, firstUnusableFrom, Usable}
 use Rattle.rules.specs.Answers.{Said, refused, numberOf}
 use Rattle.rules.specs.Refusals.{Cause, firstOf, tooMany, unusableAt, anyUnusable}
 use Rattle.rules.specs.Lists.{All}
+use Rattle.rules.specs.Log.{repairWidth, storeWidth}
+use Rattle.rules.specs.Constants.{totalLimit}
 use Rattle.amplitude_limit.specs.Limit.{returned}
 use Rattle.log.specs.Check.{endsFit}
 use Rattle.sample_guard.specs.declared.Found.{Found}
@@ -75,11 +77,11 @@ told-number n k s e q = go n ∙ sym (q ∙ ap numberOf e)
 module _ (c : InputConditioner) (len : ℕ) (spans repairs : List ℕ) where
   pub unread-by : (f r s e h t : Bool)
       → stateFits c ≡ f
-      → eqb (length repairs) (6 * c .settings .repairs) ≡ r
-      → eqb (length spans) (24 * c .settings .spans) ≡ s
-      → endsFit (c .settings .spans) (record { log = c .log; spans = spans }) ≡ e
-      → ltb len (c .held) ≡ h
-      → tooMany (c .seen) (len - c .held) .holds ≡ t
+      → eqb (length repairs) (repairWidth * c .settings .repairs) ≡ r
+      → eqb (length spans) (storeWidth * c .settings .spans) ≡ s
+      → endsFit (c .settings .spans) (record { log = c .notes .log; spans = spans }) ≡ e
+      → ltb len (c .counts .held) ≡ h
+      → tooMany (c .counts .seen) (len - c .counts .held) .holds ≡ t
       → unreadRefusal c len spans repairs ≡ callNumber f r s e h t false
   unfolding unreadRefusal firstOf
   unread-by f r s e h t a1 a2 a3 a4 a5 a6 = λ i. callNumber (a1 i) (a2 i) (a3 i) (a4 i) (a5 i) (a6 i) false
@@ -87,11 +89,11 @@ module _ (c : InputConditioner) (len : ℕ) (spans repairs : List ℕ) where
   -- what is not refused unread has passed all its tests
   pub record Passes : Type 0 where
     pub fits : stateFits c ≡ true
-    pub repairs-long : length repairs ≡ 6 * c .settings .repairs
-    pub spans-long : length spans ≡ 24 * c .settings .spans
-    pub ends : endsFit (c .settings .spans) (record { log = c .log; spans = spans }) ≡ true
-    pub held-in : c .held ≤ len
-    pub few : len - c .held ≤ 2 ^ 48 - c .seen
+    pub repairs-long : length repairs ≡ repairWidth * c .settings .repairs
+    pub spans-long : length spans ≡ storeWidth * c .settings .spans
+    pub ends : endsFit (c .settings .spans) (record { log = c .notes .log; spans = spans }) ≡ true
+    pub held-in : c .counts .held ≤ len
+    pub few : len - c .counts .held ≤ totalLimit - c .counts .seen
 
   numbered : Numbered (unreadCauses c len spans repairs)
   numbered = (refl, (refl, (refl, (refl, (refl, (refl, tt))))))
@@ -100,8 +102,8 @@ module _ (c : InputConditioner) (len : ℕ) (spans repairs : List ℕ) where
   unfolding unreadRefusal
   passes z =
       let a = none-holds (unreadCauses c len spans repairs) numbered z in
-      let long = ltb-false len (c .held) (a .1 .1 .1 .1 .0) in
-      let few = ltb-false (2 ^ 48) (c .seen + (len - c .held)) (a .1 .1 .1 .1 .1 .0) in
+      let long = ltb-false len (c .counts .held) (a .1 .1 .1 .1 .0) in
+      let few = ltb-false totalLimit (c .counts .seen + (len - c .counts .held)) (a .1 .1 .1 .1 .1 .0) in
       record {
         fits = not-false _ (a .0);
         repairs-long = eqb-true _ _ (not-false _ (a .1 .0));
@@ -119,28 +121,32 @@ module _ (c : InputConditioner) (len : ℕ) (spans repairs : List ℕ) where
 module _ (c : InputConditioner) (samples spans repairs : List ℕ) where
   pub refusal-by : (f r s e h t u : Bool)
       → stateFits c ≡ f
-      → eqb (length repairs) (6 * c .settings .repairs) ≡ r
-      → eqb (length spans) (24 * c .settings .spans) ≡ s
-      → endsFit (c .settings .spans) (record { log = c .log; spans = spans }) ≡ e
-      → ltb (length samples) (c .held) ≡ h
-      → tooMany (c .seen) (length samples - c .held) .holds ≡ t
-      → anyUnusable (c .held) (newPart c samples) .holds ≡ u
+      → eqb (length repairs) (repairWidth * c .settings .repairs) ≡ r
+      → eqb (length spans) (storeWidth * c .settings .spans) ≡ s
+      → endsFit (c .settings .spans) (record { log = c .notes .log; spans = spans }) ≡ e
+      → ltb (length samples) (c .counts .held) ≡ h
+      → tooMany (c .counts .seen) (length samples - c .counts .held) .holds ≡ t
+      → anyUnusable (c .counts .held) (newPart c samples) .holds ≡ u
       → callRefusal c samples spans repairs ≡ callNumber f r s e h t u
   unfolding callRefusal firstOf
   refusal-by f r s e h t u a1 a2 a3 a4 a5 a6 a7 = λ i. callNumber (a1 i) (a2 i) (a3 i) (a4 i) (a5 i) (a6 i) (a7 i)
 
   -- a refusal, by its number
   pub declined-by : (n : ℕ) → callRefusal c samples spans repairs ≡ n → eqb n 0 ≡ false
-      → called (machineOf c spans repairs) samples ≡ declined (machineOf c spans repairs) samples (returned n (unusableAt (c .held) (newPart c samples)))
+      → called (machineOf c spans repairs) samples
+      ≡ declined (machineOf c spans repairs) samples (returned n (unusableAt (c .counts .held) (newPart c samples)))
   unfolding called
   declined-by n e z =
-      ap (λ (k : ℕ). cond (eqb k 0) (taken (machineOf c spans repairs) samples) (declined (machineOf c spans repairs) samples (returned k (unusableAt (c .held) (newPart c samples))))) e
-      ∙ ap (λ (b : Bool). cond b (taken (machineOf c spans repairs) samples) (declined (machineOf c spans repairs) samples (returned n (unusableAt (c .held) (newPart c samples))))) z
+      ap (λ (k : ℕ). cond (eqb k 0) (taken (machineOf c spans repairs) samples)
+      (declined (machineOf c spans repairs) samples (returned k (unusableAt (c .counts .held) (newPart c samples))))) e
+      ∙ ap (λ (b : Bool). cond b (taken (machineOf c spans repairs) samples)
+      (declined (machineOf c spans repairs) samples (returned n (unusableAt (c .counts .held) (newPart c samples))))) z
 
   pub taken-by : callRefusal c samples spans repairs ≡ 0 → called (machineOf c spans repairs) samples ≡ taken (machineOf c spans repairs) samples
   unfolding called
   taken-by e =
-      ap (λ (k : ℕ). cond (eqb k 0) (taken (machineOf c spans repairs) samples) (declined (machineOf c spans repairs) samples (returned k (unusableAt (c .held) (newPart c samples))))) e
+      ap (λ (k : ℕ). cond (eqb k 0) (taken (machineOf c spans repairs) samples)
+      (declined (machineOf c spans repairs) samples (returned k (unusableAt (c .counts .held) (newPart c samples))))) e
 
 -- ---- the first unusable place, counted from another place on
 
@@ -198,12 +204,14 @@ ltb-shift k a b = go (ltb a b) refl
 module _ (held : ℕ) (samples : List ℕ) (part : List ℕ) (is : part ≡ drop held samples) where
   -- the scan of the new part, in the table's words
   shifted : unusableAt held (drop held samples) ≡ held + firstUnusableFrom 0 part
-  shifted = ap (λ (n : ℕ). firstUnusableFrom n (drop held samples)) (let q : held ≡ held + 0 = omega arith in q) ∙ first-shift held 0 (drop held samples) ∙ ap (λ (l : List ℕ). held + firstUnusableFrom 0 l) (sym is)
+  shifted = ap (λ (n : ℕ). firstUnusableFrom n (drop held samples)) (let q : held ≡ held + 0 = omega arith in q) ∙ first-shift held 0 (drop held samples)
+      ∙ ap (λ (l : List ℕ). held + firstUnusableFrom 0 l) (sym is)
 
   tested : (b : Bool) → ltb (firstUnusableFrom 0 part) (length part) ≡ b → anyUnusable held (drop held samples) .holds ≡ b
   tested b e = (λ i. ltb (shifted i) (held + length (sym is i))) ∙ ltb-shift held (firstUnusableFrom 0 part) (length part) ∙ e
 
-  pub scan-at : (k : ℕ) → At k ≡ found (length part) (firstUnusableFrom 0 part) → (anyUnusable held (drop held samples) .holds ≡ true) × (unusableAt held (drop held samples) ≡ held + k)
+  pub scan-at : (k : ℕ) → At k ≡ found (length part) (firstUnusableFrom 0 part)
+      → (anyUnusable held (drop held samples) .holds ≡ true) × (unusableAt held (drop held samples) ≡ held + k)
   scan-at k e = let f = at-found (length part) (firstUnusableFrom 0 part) k e in (tested true (f .0), shifted ∙ ap (λ (n : ℕ). held + n) (sym (f .1)))
 
   pub scan-fine : Nothing ≡ found (length part) (firstUnusableFrom 0 part) → anyUnusable held (drop held samples) .holds ≡ false
@@ -219,20 +227,23 @@ is-by : (o : Outcome) (s : Said ℕ) (m : Machine) (samples : List ℕ) → o �
 is-by o s m samples e = (sym (ap (λ (p : Outcome). p .said) e), (sym (ap (λ (p : Outcome). p .machine) e), sym (ap (λ (p : Outcome). p .samples) e)))
 
 module _ (c : InputConditioner) (samples spans repairs : List ℕ) where
-  by-number : (n : ℕ) → callRefusal c samples spans repairs ≡ n → eqb n 0 ≡ false → eqb n 7 ≡ false → Is (called (machineOf c spans repairs) samples) (refused (n ∷ [])) (machineOf c spans repairs) samples
+  by-number : (n : ℕ) → callRefusal c samples spans repairs ≡ n → eqb n 0 ≡ false → eqb n 7 ≡ false
+      → Is (called (machineOf c spans repairs) samples) (refused (n ∷ [])) (machineOf c spans repairs) samples
   unfolding returned
   by-number n e z p =
       is-by (called (machineOf c spans repairs) samples) (refused (n ∷ [])) (machineOf c spans repairs) samples
       (declined-by c samples spans repairs n e z
-      ∙ ap (λ (b : Bool). declined (machineOf c spans repairs) samples (cond b [] (cond (eqb n 7) (n ∷ unusableAt (c .held) (newPart c samples) ∷ []) (n ∷ [])))) z
-      ∙ ap (λ (b : Bool). declined (machineOf c spans repairs) samples (cond b (n ∷ unusableAt (c .held) (newPart c samples) ∷ []) (n ∷ []))) p)
+      ∙ ap (λ (b : Bool). declined (machineOf c spans repairs) samples
+      (cond b [] (cond (eqb n 7) (n ∷ unusableAt (c .counts .held) (newPart c samples) ∷ []) (n ∷ [])))) z
+      ∙ ap (λ (b : Bool). declined (machineOf c spans repairs) samples (cond b (n ∷ unusableAt (c .counts .held) (newPart c samples) ∷ []) (n ∷ []))) p)
 
   -- 7 is told last
-  by-order : (n : ℕ) (u : Bool) → unreadRefusal c (length samples) spans repairs ≡ n → anyUnusable (c .held) (newPart c samples) .holds ≡ u
+  by-order : (n : ℕ) (u : Bool) → unreadRefusal c (length samples) spans repairs ≡ n → anyUnusable (c .counts .held) (newPart c samples) .holds ≡ u
       → callRefusal c samples spans repairs ≡ cond (eqb n 0) (cond u 7 0) n
   unfolding callRefusal unreadRefusal firstOf
   by-order n u e q =
-      first-append (unreadCauses c (length samples) spans repairs) (anyUnusable (c .held) (newPart c samples) ∷ []) (numbered c (length samples) spans repairs)
+      first-append (unreadCauses c (length samples) spans repairs) (anyUnusable (c .counts .held) (newPart c samples) ∷ [])
+      (numbered c (length samples) spans repairs)
       ∙ (λ i. cond (eqb (e i) 0) (cond (q i) 7 0) (e i))
 
   -- what is refused unread leaves all
@@ -240,22 +251,31 @@ module _ (c : InputConditioner) (samples spans repairs : List ℕ) where
       → Is (called (machineOf c spans repairs) samples) (toldUnread n) (machineOf c spans repairs) samples
   unread-declined zero e z = absurd (false≢true (sym z))
   unread-declined (suc k) e z =
-      let u = anyUnusable (c .held) (newPart c samples) .holds in
-      by-number (suc k) (by-order (suc k) u e refl ∙ ap (λ (b : Bool). cond b (cond u 7 0) (suc k)) z) z (ap (λ (m : ℕ). eqb m 7) (sym e) ∙ no-seven c (length samples) spans repairs)
+      let u = anyUnusable (c .counts .held) (newPart c samples) .holds in
+      by-number (suc k) (by-order (suc k) u e refl ∙ ap (λ (b : Bool). cond b (cond u 7 0) (suc k)) z) z
+      (ap (λ (m : ℕ). eqb m 7) (sym e) ∙ no-seven c (length samples) spans repairs)
 
   module _ (z : unreadRefusal c (length samples) spans repairs ≡ 0) where
-    pub unusable-sample : (k : ℕ) → (anyUnusable (c .held) (newPart c samples) .holds ≡ true) × (unusableAt (c .held) (newPart c samples) ≡ c .held + k)
-        → Is (called (machineOf c spans repairs) samples) (refused (7 ∷ (c .held + k) ∷ [])) (machineOf c spans repairs) samples
+    pub unusable-sample : (k : ℕ)
+        → (anyUnusable (c .counts .held) (newPart c samples) .holds ≡ true) × (unusableAt (c .counts .held) (newPart c samples) ≡ c .counts .held + k)
+        → Is (called (machineOf c spans repairs) samples) (refused (7 ∷ (c .counts .held + k) ∷ [])) (machineOf c spans repairs) samples
     unfolding returned
     unusable-sample k u =
-        is-by (called (machineOf c spans repairs) samples) (refused (7 ∷ (c .held + k) ∷ [])) (machineOf c spans repairs) samples
+        is-by (called (machineOf c spans repairs) samples) (refused (7 ∷ (c .counts .held + k) ∷ [])) (machineOf c spans repairs) samples
         (declined-by c samples spans repairs 7 (by-order 0 true z (u .0)) refl
         ∙ ap (λ (n : ℕ). declined (machineOf c spans repairs) samples (7 ∷ n ∷ [])) (u .1))
 
-    pub accepted-call : anyUnusable (c .held) (newPart c samples) .holds ≡ false → called (machineOf c spans repairs) samples ≡ taken (machineOf c spans repairs) samples
+    pub accepted-call : anyUnusable (c .counts .held) (newPart c samples) .holds ≡ false
+        → called (machineOf c spans repairs) samples ≡ taken (machineOf c spans repairs) samples
     accepted-call u = taken-by c samples spans repairs (by-order 0 false z u)
 
-    pub acceptable : length (c .log .rings) ≡ 12 → length (c .log .counts) ≡ 12 → Acceptable c samples spans repairs
+    pub acceptable : length (c .notes .log .rings) ≡ 12 → length (c .notes .log .counts) ≡ 12 → Acceptable c samples spans repairs
     acceptable rings counts =
         let p = passes c (length samples) spans repairs z in
-        record { stored = record { fits = p .fits; rings = rings; counts = counts; repairs-long = p .repairs-long; spans-long = p .spans-long; ends = p .ends }; held-in = p .held-in; few = p .few }
+        record {
+          stored =
+              record { fits = p .fits; rings = rings; counts = counts; repairs-long = p .repairs-long; spans-long = p .spans-long; ends = p .ends };
+          held-in =
+              p .held-in;
+          few = p .few;
+        }

@@ -10,8 +10,9 @@ use Rattle.rules.specs.Impulse.{Event}
 use Rattle.rules.specs.laws.ListLaws.{length-map}
 use Rattle.rules.specs.Iq.{correctedBy}
 use Rattle.rules.specs.Log.{Span, spanOf}
+use Rattle.rules.specs.Constants.{totalLimit}
 use Rattle.log.specs.declared.Log.{Log}
-use Rattle.log.specs.View.{Logged, bare}
+use Rattle.log.specs.View.{Logged, withLog}
 use Rattle.log.specs.Ready.{Bounded}
 use Rattle.impulse.specs.declared.ImpulseSuppressor.{ImpulseSuppressor}
 use Rattle.impulse_slice.specs.declared.Ran.{Ran}
@@ -21,8 +22,11 @@ use Rattle.impulse_slice.specs.laws.StageLaws.{handed-most, roomy-run}
 use Rattle.dc.specs.declared.DcBlocker.{DcBlocker}
 use Rattle.iq.specs.View.{settledOf}
 use Rattle.stage_mode.specs.View.{modeOf}
+use Rattle.chain_state.specs.declared.Counts.{Counts}
 use Rattle.chain_state.specs.declared.InputConditioner.{InputConditioner}
-use Rattle.chain.specs.Stages.{settingIn, newPart, machineOf, notesIn, impulseAfter, impulseOut, impulseTold, blockerAfterBy, blockedBy, notedDc, notedIq, handsOn, notesAfter, loggedAfter, process, Acceptable}
+use Rattle.chain_state.specs.Changed.{afterCall}
+use Rattle.chain.specs.Stages.{settingIn, newPart, machineOf, notesIn, impulseAfter, impulseOut, impulseTold, blockerAfterBy, blockedBy, notedDc, notedIq}
+use Rattle.chain.specs.Stages.{handsOn, notesAfter, loggedAfter, countsAfter, machineAfter, process, Acceptable}
 use Rattle.chain.specs.laws.SliceLaws.{call-roomy, call-room, new-length, new-few, off-told, on-told, blocked-by-length}
 
 -- ---- how many samples are handed on
@@ -42,7 +46,7 @@ unfolding handsOn
 hands-length c new = simp (length-map, blocked-by-length)
 
 module _ (c : InputConditioner) (samples spans repairs : List ℕ) (a : Acceptable c samples spans repairs) where
-  pub ready-few : (ready : ℕ) → ready ≡ length (impulseOut c (newPart c samples)) → ready ≤ 2 ^ 48
+  pub ready-few : (ready : ℕ) → ready ≡ length (impulseOut c (newPart c samples)) → ready ≤ totalLimit
   ready-few ready e = omega (arith, out-most c (newPart c samples), new-few c samples spans repairs a)
 
   pub ready-inside : (ready : ℕ) → ready ≡ length (impulseOut c (newPart c samples)) → ready ≤ length samples
@@ -59,12 +63,14 @@ module _ (c : InputConditioner) (samples spans repairs : List ℕ) (a : Acceptab
       go : (b : Bool) → c .settings .impulse ≡ b → Roomy (c .settings .spans) (c .settings .repairs) (2 ^ 53) (notesFrom (impulseTold c (newPart c samples)))
       go true on =
           subst (λ (es : List Event). Roomy (c .settings .spans) (c .settings .repairs) (2 ^ 53) (notesFrom es)) (on-told c samples spans repairs a on)
-          (roomy-run (c .settings .spans) (c .settings .repairs) (notesIn (machineOf c spans repairs)) (settingIn c) (c .suppressor) (c .held) samples
+          (roomy-run (c .settings .spans) (c .settings .repairs) (notesIn (machineOf c spans repairs)) (settingIn c) (c .suppressor) (c .counts .held) samples
           (call-room c samples spans repairs a on) (call-roomy c samples spans repairs a))
       go false off =
           subst (λ (es : List Event). Roomy (c .settings .spans) (c .settings .repairs) (2 ^ 53) (notesFrom es)) (off-told c samples spans repairs a off)
-          (subst (Roomy (c .settings .spans) (c .settings .repairs) (2 ^ 53)) (sym (note-none (c .settings .spans) (c .settings .repairs) (notesIn (machineOf c spans repairs))))
-          (roomy-up (c .settings .spans) (c .settings .repairs) (2 ^ 52) (2 ^ 53) (notesIn (machineOf c spans repairs)) (omega arith) (call-roomy c samples spans repairs a)))
+          (subst (Roomy (c .settings .spans) (c .settings .repairs) (2 ^ 53))
+          (sym (note-none (c .settings .spans) (c .settings .repairs) (notesIn (machineOf c spans repairs))))
+          (roomy-up (c .settings .spans) (c .settings .repairs) (2 ^ 52) (2 ^ 53) (notesIn (machineOf c spans repairs)) (omega arith)
+          (call-roomy c samples spans repairs a)))
 
   -- ---- the impulse stage has run
 
@@ -93,14 +99,18 @@ module _ (c : InputConditioner) (samples spans repairs : List ℕ) (a : Acceptab
     ran-length =
         let out = impulseOut c (newPart c samples) in
         ap length written ∙ length-append out (drop (length out) samples)
-        ∙ (let d = length-drop (length out) samples in let i = ready-inside (length out) refl in let q : length out + length (drop (length out) samples) ≡ length samples = omega arith in q)
+        ∙ (let d = length-drop (length out) samples in let i = ready-inside (length out) refl in
+        let q : length out + length (drop (length out) samples) ≡ length samples = omega arith in q)
 
     -- ---- and the others
 
     pub ready-count : ran .ready ≡ length (handsOn c (newPart c samples))
     ready-count = count ∙ sym (hands-length c (newPart c samples))
 
-    pub processed-written : (samples₂ : List ℕ) → samples₂ ≡ map (correctedBy (settledOf (c .settings .iq))) (blockedBy (modeOf (c .settings .dc)) (c .blocker) (take (ran .ready) samples₁)) ++ drop (ran .ready) samples₁
+    pub processed-written : (samples₂ : List ℕ)
+        → samples₂
+        ≡ map (correctedBy (settledOf (c .settings .iq))) (blockedBy (modeOf (c .settings .dc)) (c .blocker) (take (ran .ready) samples₁))
+        ++ drop (ran .ready) samples₁
         → samples₂ ≡ over (handsOn c (newPart c samples)) samples
     unfolding handsOn
     processed-written samples₂ e =
@@ -108,28 +118,19 @@ module _ (c : InputConditioner) (samples spans repairs : List ℕ) (a : Acceptab
         ∙ (λ i. map (correctedBy (settledOf (c .settings .iq))) (blockedBy (modeOf (c .settings .dc)) (c .blocker) (front i)) ++ rest i)
         ∙ ap (λ (n : ℕ). handsOn c (newPart c samples) ++ drop n samples) (sym (hands-length c (newPart c samples)))
 
+    -- the counts by the length of the slice and how many of it are released
+    abbrev countsBy : ℕ → ℕ → Counts
+    countsBy len ready =
+        record { seen = c .counts .seen + (len - c .counts .held); released = c .counts .released + ready; held = len - ready }
+
     pub processed-chain : (suppressor : ImpulseSuppressor) → suppressor ≡ impulseAfter c (newPart c samples)
         → (blocker : DcBlocker) → blocker ≡ blockerAfterBy (modeOf (c .settings .dc)) (c .blocker) (take (ran .ready) samples₁)
         → (log : Log) (spans₂ : List ℕ)
         → _≡_ {A = Logged} (record { log = log; spans = spans₂ })
         (notedIq (c .settings .spans) (settledOf (c .settings .iq))
-        (notedDc (c .settings .spans) (modeOf (c .settings .dc)) (record { log = ran .notes .log; spans = spans₁ }) (spanOf (c .released) (ran .ready)))
-        (spanOf (c .released) (ran .ready)))
-        → machineOf
-        (record {
-          settings = c .settings;
-          seen = c .seen + (length samples - c .held);
-          released = c .released + ran .ready;
-          held = length samples - ran .ready;
-          suppressor = suppressor;
-          blocker = blocker;
-          monitor = c .monitor;
-          log = log;
-          repairs = ran .notes .repairs;
-          longruns = ran .notes .longruns;
-        })
-        spans₂
-        repairs₁
+        (notedDc (c .settings .spans) (modeOf (c .settings .dc)) (record { log = ran .notes .log; spans = spans₁ }) (spanOf (c .counts .released) (ran .ready)))
+        (spanOf (c .counts .released) (ran .ready)))
+        → machineOf (afterCall c (countsBy (length samples) (ran .ready)) suppressor blocker (withLog (ran .notes) log)) spans₂ repairs₁
         ≡ process (machineOf c spans repairs) (newPart c samples)
     unfolding process notesAfter loggedAfter
     processed-chain suppressor after blocker level log spans₂ logged =
@@ -137,22 +138,10 @@ module _ (c : InputConditioner) (samples spans repairs : List ℕ) (a : Acceptab
         let marks : Logged → Span → Logged = λ x m. notedIq cap (settledOf (c .settings .iq)) (notedDc cap (modeOf (c .settings .dc)) x m) m in
         let n = new-length c samples spans repairs a in
         let h = a .held-in in
-        let kept : length samples - ran .ready ≡ c .held + length (newPart c samples) - length (impulseOut c (newPart c samples)) = omega (arith, count) in
+        let kept : length samples - ran .ready ≡ c .counts .held + length (newPart c samples) - length (impulseOut c (newPart c samples)) =
+        omega (arith, count) in
         let b = level ∙ ap (blockerAfterBy (modeOf (c .settings .dc)) (c .blocker)) front in
-        let l = logged ∙ (λ i. marks (noted i .logged) (spanOf (c .released) (count i))) in
-        λ i.
-        machineOf
-        (record {
-          settings = c .settings;
-          seen = c .seen + sym n i;
-          released = c .released + count i;
-          held = kept i;
-          suppressor = after i;
-          blocker = b i;
-          monitor = c .monitor;
-          log = l i .log;
-          repairs = bare (noted i .repairs);
-          longruns = noted i .longruns;
-        })
-        (l i .spans)
-        (noted i .repairs .words)
+        let l = logged ∙ (λ i. marks (noted i .logged) (spanOf (c .counts .released) (count i))) in
+        let counts : countsBy (length samples) (ran .ready) ≡ countsAfter c (length (newPart c samples)) (length (impulseOut c (newPart c samples)))
+        = λ i. record { seen = c .counts .seen + sym n i; released = c .counts .released + count i; held = kept i } in
+        λ i. machineAfter c (counts i) (after i) (b i) (l i) (noted i .repairs) (noted i .longruns)

@@ -9,6 +9,7 @@ use lib.Seq.{take-at, drop-at}
 use lib.Dec.{lit<}
 use Rattle.rules.specs.Mode.{Mode, off, observe, apply}
 use Rattle.rules.specs.Log.{Span}
+use Rattle.rules.specs.Constants.{totalLimit}
 use Rattle.log.specs.View.{Logged, marksAt, markedAt}
 use Rattle.log.specs.Check.{logFits}
 use Rattle.log.specs.Ready.{Twelve, Bounded}
@@ -41,14 +42,14 @@ module _ (c : InputConditioner) (samples spans repairs : List ℕ) (a : Acceptab
   fit : Fit c
   fit = state-fit c (a .stored .fits)
 
-  pub call-twelve : Twelve (c .settings .spans) (record { log = c .log; spans = spans })
+  pub call-twelve : Twelve (c .settings .spans) (record { log = c .notes .log; spans = spans })
   call-twelve = record { rings = a .stored .rings; counts = a .stored .counts; store = omega (arith, a .stored .spans-long) }
 
   pub call-roomy : Roomy (c .settings .spans) (c .settings .repairs) (2 ^ 52) (notesIn (machineOf c spans repairs))
   call-roomy =
-      let r = ring-range (c .settings .repairs) (c .repairs) (c .longruns) (fit .repairs) in
+      let r = ring-range (c .settings .repairs) (c .notes .repairs) (c .notes .longruns) (fit .repairs) in
       record {
-        spans = fits-bounded (c .settings .spans) (record { log = c .log; spans = spans }) call-twelve (fit .log);
+        spans = fits-bounded (c .settings .spans) (record { log = c .notes .log; spans = spans }) call-twelve (fit .log);
         repairs = record { some = fit .settings .some-repairs; long = a .stored .repairs-long; headIn = r .headIn; countIn = r .countIn };
         dropped = r .dropped;
         longruns = r .count;
@@ -56,14 +57,15 @@ module _ (c : InputConditioner) (samples spans repairs : List ℕ) (a : Acceptab
 
   -- ---- new samples
 
-  pub new-length : length (newPart c samples) ≡ length samples - c .held
-  new-length = length-drop (c .held) samples
+  pub new-length : length (newPart c samples) ≡ length samples - c .counts .held
+  new-length = length-drop (c .counts .held) samples
 
-  pub new-few : length (newPart c samples) ≤ 2 ^ 48
+  pub new-few : length (newPart c samples) ≤ totalLimit
   new-few = omega (arith, new-length, a .few)
 
   -- where there are some, the stage has room for them
-  pub call-room : c .settings .impulse ≡ true → c .held < length samples → Room (c .suppressor .gate) × (c .suppressor .gate .received + (length samples - c .held) ≤ 2 ^ 50)
+  pub call-room : c .settings .impulse ≡ true → c .counts .held < length samples
+      → Room (c .suppressor .gate) × (c .suppressor .gate .received + (length samples - c .counts .held) ≤ 2 ^ 50)
   call-room on some =
       let n = fit .runs on in
       let few = a .few in
@@ -73,8 +75,8 @@ module _ (c : InputConditioner) (samples spans repairs : List ℕ) (a : Acceptab
   -- ---- the impulse stage, off: nothing is held, and all is handed on
 
   module _ (off : c .settings .impulse ≡ false) where
-    none-held : c .held ≡ 0
-    none-held = fit .held ∙ ap (λ (t : Bool). heldBy (t && c .suppressor .gate .apply) (c .seen)) off
+    none-held : c .counts .held ≡ 0
+    none-held = fit .held ∙ ap (λ (t : Bool). heldBy (t && c .suppressor .gate .settings .apply) (c .counts .seen)) off
 
     pub off-after : c .suppressor ≡ impulseAfter c (newPart c samples)
     unfolding impulseAfter

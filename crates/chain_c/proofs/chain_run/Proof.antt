@@ -37,12 +37,17 @@ same-length-4 c = search needs
 
 returns : tie.Need-returns
 returns c =
-    let a = c .before .before .before .before .before .before .before .before .before .before .before .before .before .before .before .before .before .before .before .before .before .before .before .before .before .before .before .args in
-    let g = c .before .before .before .before .before .before .before .before .before .before .before .before .before .before .before .before .before .before .before .before .before .before .applied-chain in
-    let w = c .before .before .before .before .before .before .before .before .before .before .before .before .before .before .before .before .before .before .with-geometry in
+    let a = c .before .before .before .before .before .before .before .before .before .before .before .before .before .before .before .before .before .before
+    .before .before .before .before .before .before .before .before .before .args in
+    let g = c .before .before .before .before .before .before .before .before .before .before .before .before .before .before .before .before .before .before
+    .before .before .before .before .applied-chain in
+    let w = c .before .before .before .before .before .before .before .before .before .before .before .before .before .before .before .before .before .before
+    .with-geometry in
     let n = c .before .before .before .before .before .before .before .before .before .before .made-number in
     let s = c .before .before .before .before .before .before .stream .ensures in
-    let e = run-is (g .result) _ (g .ensures) (now (a .spans)) (now (a .repairs)) (now (a .words)) (w .result .state) (w .last .1 .0) (w .ensures .1 .0) (w .ensures .1 .1 .0) (n .result) (n .ensures ∙ ap madeNumber (w .ensures .0)) (w .last .1 .1 .0) (w .ensures .1 .1 .1 .0) (a .block) (now (a .samples)) in (
+    let e = run-is (g .result) _ (g .ensures) (now (a .spans)) (now (a .repairs)) (now (a .words)) (w .result .state) (w .last .1 .0) (w .ensures .1 .0)
+    (w .ensures .1 .1 .0) (n .result) (n .ensures ∙ ap madeNumber (w .ensures .0)) (w .last .1 .1 .0) (w .ensures .1 .1 .1 .0) (a .block)
+    (now (a .samples)) in (
       s .1 .0 ∙ ap (λ (x : Stream). x .number) e,
       (
         s .0 ∙ ap (λ (x : Stream). x .at) e,
@@ -52,7 +57,9 @@ returns c =
             s .1 .1 .1 .0 ∙ ap (λ (x : Stream). x .machine .spans) e,
             (
               s .1 .1 .1 .1 ∙ ap (λ (x : Stream). x .machine .repairs) e,
-              w .ensures .1 .1 .1 .1 ∙ ap (λ (x : ConditioningConfig). madeWords zeroF (saidOf x (now (a .spans)) (now (a .repairs)) (now (a .words))) (now (a .words))) (g .ensures),
+              w .ensures .1 .1 .1 .1
+                  ∙ ap (λ (x : ConditioningConfig). madeWords zeroF (saidOf x (now (a .spans)) (now (a .repairs)) (now (a .words))) (now (a .words)))
+                  (g .ensures),
             ),
           ),
         ),

@@ -36,8 +36,10 @@ same-length-3 c = search needs
 
 returns : tie.Need-returns
 returns c =
-    let a = c .before .before .before .before .before .before .before .before .before .before .before .before .before .before .before .before .before .before .before .before .before .before .before .before .before .args in
-    let g = c .before .before .before .before .before .before .before .before .before .before .before .before .before .before .before .before .before .before .before .before .watching-chain in
+    let a = c .before .before .before .before .before .before .before .before .before .before .before .before .before .before .before .before .before .before
+    .before .before .before .before .before .before .before .args in
+    let g = c .before .before .before .before .before .before .before .before .before .before .before .before .before .before .before .before .before .before
+    .before .before .watching-chain in
     let w = c .before .before .before .before .before .before .before .before .before .before .before .before .before .before .before .before .with-geometry in
     let n = c .before .before .before .before .before .before .before .before .made-number in
     let s = c .before .before .before .before .watch .ensures in
@@ -45,7 +47,9 @@ returns c =
     let repairs = now (a .repairs) in
     let words = now (a .words) in
     let number = n .ensures ∙ ap madeNumber (w .ensures .0) in
-    let e = watch-is (g .result) _ (g .ensures) spans repairs words (w .result .state) (w .last .1 .0) (w .ensures .1 .0) (w .ensures .1 .1 .0) (n .result) number (w .last .1 .1 .1 .0) (w .ensures .1 .1 .1 .1) (a .hops) _ (now (a .x)) (c .before .before .before .before .before .hops-for .ensures) in (
+    let e = watch-is (g .result) _ (g .ensures) spans repairs words (w .result .state) (w .last .1 .0) (w .ensures .1 .0) (w .ensures .1 .1 .0)
+    (n .result) number (w .last .1 .1 .1 .0) (w .ensures .1 .1 .1 .1) (a .hops) _ (now (a .x))
+    (c .before .before .before .before .before .hops-for .ensures) in (
       said-is (g .result) _ (g .ensures) spans repairs words (w .result .state) (w .last .1 .0) (w .ensures .1 .0) (w .ensures .1 .1 .0) (n .result) number,
       (
         s .0 ∙ ap (λ (x : Watch). x .reports) e,

@@ -34,7 +34,7 @@ loop-holds : tie.Need-loop-holds Inv-loop μ-loop
 loop-holds c =
     let a = c .before .before .before .before .args in
     let q : length (a .samples .now) ≡ length (a .samples .now) - 0 = omega arith in
-    (going-first _ _ refl, (c .call-length .ensures ∙ ap (λ (n : ℕ). callLength n (a .first .held) (a .block)) q, (refl, refl)))
+    (going-first _ _ refl, (c .call-length .ensures ∙ ap (λ (n : ℕ). callLength n (a .first .counts .held) (a .block)) q, (refl, refl)))
 
 -- src/lib.rt:143:11
 is-more-requires : tie.Need-is-more-requires Inv-loop μ-loop
@@ -55,13 +55,21 @@ ready-in-requires c κs = search needs
 -- src/lib.rt:147:14
 add-at : tie.Need-add-at Inv-loop μ-loop
 add-at c =
-    let a = c .before .before .before .before .before .before .before .before .before .before .before .before .before .before .before .before .before .before .before .args in
+    let a = c .before .before .before .before .before .before .before .before .before .before .before .before .before .before .before .before .before .before
+    .before .args in
     let l = c .before .before .before .before .before .before .before .before .before .before .before .before .before .before .loop in
     let s = streamOf (l .state) (l .spans) (l .repairs) (l .samples) (l .at) (l .told) in
-    let m = ap (isMore (l .told) (l .state .held)) (sym (l .inv .1 .0)) ∙ sym (c .before .before .before .before .before .before .before .before .before .before .before .before .before .is-more .ensures) ∙ c .before .before .before .before .before .before .before .before .before .before .before .before .if1 .taken in
+    let m = ap (isMore (l .told) (l .state .counts .held)) (sym (l .inv .1 .0))
+    ∙ sym (c .before .before .before .before .before .before .before .before .before .before .before .before .before .is-more .ensures)
+    ∙ c .before .before .before .before .before .before .before .before .before .before .before .before .if1 .taken in
     let t = c .before .before .before .before .before .before .before .before .turn in
     let r = ready-inside (a .block) s (l .inv .0 .inside) m (l .len) _ (l .inv .1 .0) (c .ready-in .ensures ∙ ap readyIn (t .ensures .0)) in
-    omega (arith, l .inv .0 .same, c .before .before .before .before .before .before .before .before .before .before .before .before .before .before .before .before .before .before .before .good .1 .0)
+    omega (
+      arith,
+      l .inv .0 .same,
+      c .before .before .before .before .before .before .before .before .before .before .before .before .before .before .before .before .before .before
+          .before .good .1 .0,
+    )
 
 -- src/lib.rt:148:9
 number-in-requires : tie.Need-number-in-requires Inv-loop μ-loop
@@ -70,10 +78,13 @@ number-in-requires c κs = search needs
 -- src/lib.rt:149:27
 sub-call-length : tie.Need-sub-call-length Inv-loop μ-loop
 sub-call-length c =
-    let a = c .before .before .before .before .before .before .before .before .before .before .before .before .before .before .before .before .before .before .before .before .args in
+    let a = c .before .before .before .before .before .before .before .before .before .before .before .before .before .before .before .before .before .before
+    .before .before .args in
     let l = c .before .before .before .before .before .before .before .before .before .before .before .before .before .before .before .loop in
     let s = streamOf (l .state) (l .spans) (l .repairs) (l .samples) (l .at) (l .told) in
-    let m = ap (isMore (l .told) (l .state .held)) (sym (l .inv .1 .0)) ∙ sym (c .before .before .before .before .before .before .before .before .before .before .before .before .before .before .is-more .ensures) ∙ c .before .before .before .before .before .before .before .before .before .before .before .before .before .if1 .taken in
+    let m = ap (isMore (l .told) (l .state .counts .held)) (sym (l .inv .1 .0))
+    ∙ sym (c .before .before .before .before .before .before .before .before .before .before .before .before .before .before .is-more .ensures)
+    ∙ c .before .before .before .before .before .before .before .before .before .before .before .before .before .if1 .taken in
     let t = c .before .before .before .before .before .before .before .before .before .turn in
     let r = ready-inside (a .block) s (l .inv .0 .inside) m (l .len) _ (l .inv .1 .0) (c .before .ready-in .ensures ∙ ap readyIn (t .ensures .0)) in
     omega (arith, t .kept .1 .0)
@@ -85,13 +96,17 @@ call-length-requires-2 c κs = search needs
 -- src/lib.rt:143:5
 loop-less : tie.Need-loop-less Inv-loop μ-loop
 loop-less c =
-    let a = c .before .before .before .before .before .before .before .before .before .before .before .before .before .before .before .before .before .before .before .before .before .args in
+    let a = c .before .before .before .before .before .before .before .before .before .before .before .before .before .before .before .before .before .before
+    .before .before .before .args in
     let l = c .before .before .before .before .before .before .before .before .before .before .before .before .before .before .before .before .loop in
     let s = streamOf (l .state) (l .spans) (l .repairs) (l .samples) (l .at) (l .told) in
-    let m = ap (isMore (l .told) (l .state .held)) (sym (l .inv .1 .0)) ∙ sym (c .before .before .before .before .before .before .before .before .before .before .before .before .before .before .before .is-more .ensures) ∙ c .before .before .before .before .before .before .before .before .before .before .before .before .before .before .if1 .taken in
+    let m = ap (isMore (l .told) (l .state .counts .held)) (sym (l .inv .1 .0))
+    ∙ sym (c .before .before .before .before .before .before .before .before .before .before .before .before .before .before .before .is-more .ensures)
+    ∙ c .before .before .before .before .before .before .before .before .before .before .before .before .before .before .if1 .taken in
     let t = c .before .before .before .before .before .before .before .before .before .before .turn in
     let is =
-    turn-is (a .block) s (l .len) (t .result .state) (t .last .1 .1 .0) (t .last .1 .1 .1 .0) (t .last .1 .0) (l .at + c .before .before .ready-in .result) (c .before .number-in .result) (l .inv .1 .0) (t .ensures .1 .0) (t .ensures .1 .1)
+    turn-is (a .block) s (l .len) (t .result .state) (t .last .1 .1 .0) (t .last .1 .1 .1 .0) (t .last .1 .0) (l .at + c .before .before .ready-in .result)
+    (c .before .number-in .result) (l .inv .1 .0) (t .ensures .1 .0) (t .ensures .1 .1)
     (ap (λ (k : ℕ). l .at + k) (c .before .before .ready-in .ensures ∙ ap readyIn (t .ensures .0)))
     (c .before .number-in .ensures ∙ ap numberIn (t .ensures .0))
     in
@@ -100,17 +115,24 @@ loop-less c =
 -- src/lib.rt:143:5
 loop-again : tie.Need-loop-again Inv-loop μ-loop
 loop-again c =
-    let a = c .before .before .before .before .before .before .before .before .before .before .before .before .before .before .before .before .before .before .before .before .before .args in
+    let a = c .before .before .before .before .before .before .before .before .before .before .before .before .before .before .before .before .before .before
+    .before .before .before .args in
     let l = c .before .before .before .before .before .before .before .before .before .before .before .before .before .before .before .before .loop in
     let s = streamOf (l .state) (l .spans) (l .repairs) (l .samples) (l .at) (l .told) in
-    let m = ap (isMore (l .told) (l .state .held)) (sym (l .inv .1 .0)) ∙ sym (c .before .before .before .before .before .before .before .before .before .before .before .before .before .before .before .is-more .ensures) ∙ c .before .before .before .before .before .before .before .before .before .before .before .before .before .before .if1 .taken in
+    let m = ap (isMore (l .told) (l .state .counts .held)) (sym (l .inv .1 .0))
+    ∙ sym (c .before .before .before .before .before .before .before .before .before .before .before .before .before .before .before .is-more .ensures)
+    ∙ c .before .before .before .before .before .before .before .before .before .before .before .before .before .before .if1 .taken in
     let t = c .before .before .before .before .before .before .before .before .before .before .turn in
     let is =
-    turn-is (a .block) s (l .len) (t .result .state) (t .last .1 .1 .0) (t .last .1 .1 .1 .0) (t .last .1 .0) (l .at + c .before .before .ready-in .result) (c .before .number-in .result) (l .inv .1 .0) (t .ensures .1 .0) (t .ensures .1 .1)
+    turn-is (a .block) s (l .len) (t .result .state) (t .last .1 .1 .0) (t .last .1 .1 .1 .0) (t .last .1 .0) (l .at + c .before .before .ready-in .result)
+    (c .before .number-in .result) (l .inv .1 .0) (t .ensures .1 .0) (t .ensures .1 .1)
     (ap (λ (k : ℕ). l .at + k) (c .before .before .ready-in .ensures ∙ ap readyIn (t .ensures .0)))
     (c .before .number-in .ensures ∙ ap numberIn (t .ensures .0))
-    in
-    (subst (Going (a .block) (streamOf (a .first) (a .spans .now) (a .repairs .now) (a .samples .now) 0 (a .number))) (sym is) (going-next (a .block) _ s (l .inv .0) m), (c .call-length2 .ensures, (t .kept .1 .1 .0 ∙ l .inv .1 .1 .0, t .kept .1 .1 .1 .0 ∙ l .inv .1 .1 .1)))
+    in (
+      subst (Going (a .block) (streamOf (a .first) (a .spans .now) (a .repairs .now) (a .samples .now) 0 (a .number))) (sym is)
+          (going-next (a .block) _ s (l .inv .0) m),
+      (c .call-length2 .ensures, (t .kept .1 .1 .0 ∙ l .inv .1 .1 .0, t .kept .1 .1 .1 .0 ∙ l .inv .1 .1 .1)),
+    )
 
 -- src/lib.rt:126:1
 same-length : tie.Need-same-length Inv-loop μ-loop
@@ -129,7 +151,7 @@ returns : tie.Need-returns Inv-loop μ-loop
 returns c =
     let l = c .before .before .loop in
     let s = streamOf (l .state) (l .spans) (l .repairs) (l .samples) (l .at) (l .told) in
-    let m = ap (isMore (l .told) (l .state .held)) (sym (l .inv .1 .0)) ∙ sym (c .before .is-more .ensures) ∙ c .if1 .left in
+    let m = ap (isMore (l .told) (l .state .counts .held)) (sym (l .inv .1 .0)) ∙ sym (c .before .is-more .ensures) ∙ c .if1 .left in
     let e = going-last _ _ s (l .inv .0) m in (
       ap (λ (w : Stream). w .at) e,
       (

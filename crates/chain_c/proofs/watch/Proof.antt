@@ -27,7 +27,13 @@ reports-in-requires : tie.Need-reports-in-requires Inv-loop μ-loop
 reports-in-requires c κs = search needs
 
 add-reports : tie.Need-add-reports Inv-loop μ-loop
-add-reports c = omega (arith, c .reports-in .ensures, few-reports (c .before .before .before .before .before .before .observe-hop .result .answer), c .before .before .before .before .before .before .before .before .before .before .before .loop .inv .1 .0)
+add-reports c =
+    omega (
+      arith,
+      c .reports-in .ensures,
+      few-reports (c .before .before .before .before .before .before .observe-hop .result .answer),
+      c .before .before .before .before .before .before .before .before .before .before .before .loop .inv .1 .0,
+    )
 
 sub-left : tie.Need-sub-left Inv-loop μ-loop
 sub-left c = omega arith
@@ -41,8 +47,12 @@ loop-again c =
     let l = c .before .before .before .before .before .before .before .before .before .before .before .loop in
     let some = c .before .before .before .before .before .before .before .before .before .before .loop-test .taken in
     let t = c .before .before .before .before .before .before .observe-hop in (
-      watch-next (l .left) (a .x .now) (watchOf (l .state) (l .spans) (l .words) (l .reports)) (t .result) _ _ _ some (t .ensures .0) (t .ensures .1 .0) (t .ensures .1 .1 .0) (c .reports-in .ensures) ∙ l .inv .0,
-      (omega (arith, some, c .reports-in .ensures, few-reports (t .result .answer), l .inv .1 .0), (t .kept .1 .1 .1 .0 ∙ l .inv .1 .1 .0, t .kept .1 .1 .1 .1 .0 ∙ l .inv .1 .1 .1)),
+      watch-next (l .left) (a .x .now) (watchOf (l .state) (l .spans) (l .words) (l .reports)) (t .result) _ _ _ some (t .ensures .0) (t .ensures .1 .0)
+          (t .ensures .1 .1 .0) (c .reports-in .ensures) ∙ l .inv .0,
+      (
+        omega (arith, some, c .reports-in .ensures, few-reports (t .result .answer), l .inv .1 .0),
+        (t .kept .1 .1 .1 .0 ∙ l .inv .1 .1 .0, t .kept .1 .1 .1 .1 .0 ∙ l .inv .1 .1 .1),
+      ),
     )
 
 same-length : tie.Need-same-length Inv-loop μ-loop

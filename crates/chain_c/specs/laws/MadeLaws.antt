@@ -28,7 +28,8 @@ module _ (h g : ConditioningConfig) (is : h ≡ g) (spans repairs : List ℕ) (w
       → (block : ℕ) (samples : List ℕ) → streamedAll block (streamOf c spans₁ repairs₁ samples 0 number) ≡ chainRun g block samples spans repairs words
   unfolding chainRun begun
   run-is repairs₁ e block samples =
-      ap (streamedAll block) ((λ i. streamOf (fresh i) (cleared i) (e i) samples 0 (said i)) ∙ ap (λ (x : ConditioningConfig). begun x samples spans repairs words) is)
+      ap (streamedAll block)
+      ((λ i. streamOf (fresh i) (cleared i) (e i) samples 0 (said i)) ∙ ap (λ (x : ConditioningConfig). begun x samples spans repairs words) is)
 
   pub watch-is : (words₁ : List Float) → words₁ ≡ madeWords zeroF (saidOf h spans repairs words) words
       → (hops many : ℕ) (xs : List ℕ) → many ≡ hopsFor number hops → watched many xs (watchOf c spans₁ words₁ 0) ≡ hopsRun g hops xs spans repairs words

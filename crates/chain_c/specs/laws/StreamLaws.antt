@@ -22,21 +22,22 @@ use Rattle.chain_c.specs.Streams.{partAt, withPartAt, readyIn, numberIn,
 pub record Moves (slice : List ℕ) (o : Outcome) : Type 0 where
   pub inside : readyIn (o .said) ≤ length slice
   pub long : length (o .samples) ≡ length slice
-  pub rest : numberIn (o .said) ≡ 0 → readyIn (o .said) + o .machine .state .held ≡ length slice
+  pub rest : numberIn (o .said) ≡ 0 → readyIn (o .said) + o .machine .state .counts .held ≡ length slice
 
 module _ (m : Machine) (slice : List ℕ) where
-  taken-moves : m .state .held ≤ length slice → Moves slice (taken m slice)
+  taken-moves : m .state .counts .held ≤ length slice → Moves slice (taken m slice)
   unfolding process
   taken-moves h =
       let c = m .state in
       let new = newPart c slice in
       let ys = handsOn c new in
-      let n = length-drop (c .held) slice in
+      let n = length-drop (c .counts .held) slice in
       let most = out-most c new in
       let same = hands-length c new in
       record {
         inside = omega arith;
-        long = length-append ys (drop (length ys) slice) ∙ (let d = length-drop (length ys) slice in let q : length ys + length (drop (length ys) slice) ≡ length slice = omega arith in q);
+        long = length-append ys (drop (length ys) slice)
+            ∙ (let d = length-drop (length ys) slice in let q : length ys + length (drop (length ys) slice) ≡ length slice = omega arith in q);
         rest = λ _. omega arith;
       }
 
@@ -49,7 +50,7 @@ module _ (m : Machine) (slice : List ℕ) where
       go false true f = record { inside = omega arith; long = refl; rest = λ z. absurd (eqb-false n 0 e z) }
       go false false f = record { inside = omega arith; long = refl; rest = λ z. absurd (eqb-false n 0 e z) }
 
-  pub called-moves : m .state .held ≤ length slice → Moves slice (called m slice)
+  pub called-moves : m .state .counts .held ≤ length slice → Moves slice (called m slice)
   unfolding called
   called-moves h = go (eqb n 0) refl
     where
@@ -57,7 +58,7 @@ module _ (m : Machine) (slice : List ℕ) where
       n = callRefusal (m .state) slice (m .spans) (m .repairs)
 
       place : ℕ
-      place = unusableAt (m .state .held) (newPart (m .state) slice)
+      place = unusableAt (m .state .counts .held) (newPart (m .state) slice)
 
       go : (b : Bool) → eqb n 0 ≡ b → Moves slice (cond b (taken m slice) (declined m slice (returned n place)))
       go true e = taken-moves h
@@ -67,10 +68,10 @@ module _ (m : Machine) (slice : List ℕ) where
 
 -- the samples that are still to be brought
 abbrev pub left : Stream → ℕ
-left s = cond (eqb (s .number) 0) (length (s .samples) - s .at - s .machine .state .held) 0
+left s = cond (eqb (s .number) 0) (length (s .samples) - s .at - s .machine .state .counts .held) 0
 
-left-by : (s : Stream) (t : Bool) → eqb (s .number) 0 ≡ t → left s ≡ cond t (length (s .samples) - s .at - s .machine .state .held) 0
-left-by s t e = ap (λ (b : Bool). cond b (length (s .samples) - s .at - s .machine .state .held) 0) e
+left-by : (s : Stream) (t : Bool) → eqb (s .number) 0 ≡ t → left s ≡ cond t (length (s .samples) - s .at - s .machine .state .counts .held) 0
+left-by s t e = ap (λ (b : Bool). cond b (length (s .samples) - s .at - s .machine .state .counts .held) 0) e
 
 part-long : (at n : ℕ) (xs : List ℕ) → at + n ≤ length xs → length (partAt at n xs) ≡ n
 part-long at n xs h = length-take-le n (drop at xs) (let d = length-drop at xs in omega arith)
@@ -98,8 +99,8 @@ module _ (block : ℕ) (s : Stream) (inside : s .at ≤ length (s .samples)) whe
   slice-long = part-long (s .at) n (s .samples) slice-inside
 
   module _ (m : more block s ≡ true) where
-    some : s .machine .state .held < n
-    some = ltb-true (s .machine .state .held) n (both (eqb (s .number) 0) (ltb (s .machine .state .held) n) m .1)
+    some : s .machine .state .counts .held < n
+    some = ltb-true (s .machine .state .counts .held) n (both (eqb (s .number) 0) (ltb (s .machine .state .counts .held) n) m .1)
 
     moves : Moves slice (called (s .machine) slice)
     moves = called-moves (s .machine) slice (let l = slice-long in let h = some in omega arith)
@@ -114,15 +115,16 @@ module _ (block : ℕ) (s : Stream) (inside : s .at ≤ length (s .samples)) whe
 
     -- the released samples lie inside
     pub ready-inside : (len k : ℕ) → len ≡ n → k ≡ readyIn (called (s .machine) (partAt (s .at) len (s .samples)) .said) → s .at + k ≤ length (s .samples)
-    ready-inside len k e r = let q = r ∙ ap (λ (i : ℕ). readyIn (called (s .machine) (partAt (s .at) i (s .samples)) .said)) e in omega (arith, moves .inside, slice-long, slice-inside)
+    ready-inside len k e r = let q = r ∙ ap (λ (i : ℕ). readyIn (called (s .machine) (partAt (s .at) i (s .samples)) .said)) e in
+        omega (arith, moves .inside, slice-long, slice-inside)
 
     -- a new sample was brought, or the call was refused
     pub next-left : left (next block s) < left s
     unfolding next
     next-left = go (eqb (next block s .number) 0) refl
       where
-        before : left s ≡ length (s .samples) - s .at - s .machine .state .held
-        before = left-by s true (both (eqb (s .number) 0) (ltb (s .machine .state .held) n) m .0)
+        before : left s ≡ length (s .samples) - s .at - s .machine .state .counts .held
+        before = left-by s true (both (eqb (s .number) 0) (ltb (s .machine .state .counts .held) n) m .0)
 
         go : (t : Bool) → eqb (next block s .number) 0 ≡ t → left (next block s) < left s
         go true e =
@@ -144,7 +146,7 @@ pub record Going (block : ℕ) (s₀ s : Stream) : Type 0 where
 pub going-first : (block : ℕ) (s : Stream) → s .at ≡ 0 → Going block s s
 going-first block s e = record { inside = omega arith; same = refl; calls = length (s .samples); enough = go (eqb (s .number) 0); ends = refl }
   where
-    go : (t : Bool) → cond t (length (s .samples) - s .at - s .machine .state .held) 0 ≤ length (s .samples)
+    go : (t : Bool) → cond t (length (s .samples) - s .at - s .machine .state .counts .held) 0 ≤ length (s .samples)
     go true = omega arith
     go false = omega arith
 

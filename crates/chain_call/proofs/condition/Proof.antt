@@ -16,11 +16,13 @@ use Rattle.chain_call.proofs.condition.Statement.{statement}
 use Rattle.chain_call.proofs.condition.Tie as tie
 
 -- nothing is refused unread
-none : (c : tie.Else1) → let a = c .before .before .before .before .before .before .before .before .args in unreadRefusal (a .state) (length (now (a .samples))) (now (a .spans)) (now (a .repairs)) ≡ 0
+none : (c : tie.Else1) → let a = c .before .before .before .before .before .before .before .before .args in
+    unreadRefusal (a .state) (length (now (a .samples))) (now (a .spans)) (now (a .repairs)) ≡ 0
 none c = told-number _ _ _ (c .before .before .refusal .ensures) (c .before .number .ensures) ∙ c .if1 .left
 
-long : (c : tie.Else1) → let a = c .before .before .before .before .before .before .before .before .args in a .state .held ≤ length (now (a .samples))
-long c = let a = c .before .before .before .before .before .before .before .before .args in passes (a .state) (length (now (a .samples))) (now (a .spans)) (now (a .repairs)) (none c) .held-in
+long : (c : tie.Else1) → let a = c .before .before .before .before .before .before .before .before .args in a .state .counts .held ≤ length (now (a .samples))
+long c = let a = c .before .before .before .before .before .before .before .before .args in
+    passes (a .state) (length (now (a .samples))) (now (a .spans)) (now (a .repairs)) (none c) .held-in
 
 -- the part that is scanned is the slice behind the held samples
 part : (held : ℕ) (xs : List ℕ) → take (length xs - held) (drop held xs) ≡ drop held xs
@@ -69,8 +71,17 @@ add-t20 : tie.Need-add-t20
 add-t20 c =
     let s = c .before .before .before .before .before .before .before .before .before .before .before .before .before .before in
     let a = s .args in
-    let u = scan-at (a .state .held) (now (a .samples)) _ (part (a .state .held) (now (a .samples))) _ (sym (c .before .found .given .1) ∙ c .before .before .before .first-unusable .ensures) in
-    omega (arith, u .1, ltb-true (unusableAt (a .state .held) (drop (a .state .held) (now (a .samples)))) (a .state .held + length (drop (a .state .held) (now (a .samples)))) (u .0), length-drop (a .state .held) (now (a .samples)), long (c .before .before .before .before .before .before), s .good .1 .0)
+    let u = scan-at (a .state .counts .held) (now (a .samples)) _ (part (a .state .counts .held) (now (a .samples))) _
+    (sym (c .before .found .given .1) ∙ c .before .before .before .first-unusable .ensures) in
+    omega (
+      arith,
+      u .1,
+      ltb-true (unusableAt (a .state .counts .held) (drop (a .state .counts .held) (now (a .samples))))
+          (a .state .counts .held + length (drop (a .state .counts .held) (now (a .samples)))) (u .0),
+      length-drop (a .state .counts .held) (now (a .samples)),
+      long (c .before .before .before .before .before .before),
+      s .good .1 .0,
+    )
 
 same-length-3 : tie.Need-same-length-3
 same-length-3 c = search needs
@@ -85,7 +96,8 @@ returns-2 : tie.Need-returns-2
 returns-2 c =
     let a = c .before .before .before .before .before .before .before .before .before .before .before .before .before .before .args in
     unusable-sample (a .state) (now (a .samples)) (now (a .spans)) (now (a .repairs)) (none (c .before .before .before .before .before .before)) _
-    (scan-at (a .state .held) (now (a .samples)) _ (part (a .state .held) (now (a .samples))) _ (sym (c .before .found .given .1) ∙ c .before .before .before .first-unusable .ensures))
+    (scan-at (a .state .counts .held) (now (a .samples)) _ (part (a .state .counts .held) (now (a .samples))) _
+    (sym (c .before .found .given .1) ∙ c .before .before .before .first-unusable .ensures))
 
 enum-told : tie.Need-enum-told
 enum-told c = search needs
@@ -104,10 +116,15 @@ same-length-8 c = search needs
 
 returns-3 : tie.Need-returns-3
 returns-3 c =
-    let a = c .before .before .before .before .before .before .before .before .before .before .before .before .before .before .before .before .before .before .before .before .before .before .before .args in
+    let a = c .before .before .before .before .before .before .before .before .before .before .before .before .before .before .before .before .before .before
+    .before .before .before .before .before .args in
     let r = c .before .before .before .before .before .before .accept .ensures in
-    let fine = scan-fine (a .state .held) (now (a .samples)) _ (part (a .state .held) (now (a .samples))) (sym (c .before .before .before .before .before .before .before .before .before .before .enum-told .given .1) ∙ c .before .before .before .before .before .before .before .before .before .before .before .before .first-unusable .ensures) in
-    let e = accepted-call (a .state) (now (a .samples)) (now (a .spans)) (now (a .repairs)) (none (c .before .before .before .before .before .before .before .before .before .before .before .before .before .before .before)) fine in
+    let fine =
+    scan-fine (a .state .counts .held) (now (a .samples)) _ (part (a .state .counts .held) (now (a .samples)))
+    (sym (c .before .before .before .before .before .before .before .before .before .before .enum-told .given .1)
+    ∙ c .before .before .before .before .before .before .before .before .before .before .before .before .first-unusable .ensures) in
+    let e = accepted-call (a .state) (now (a .samples)) (now (a .spans)) (now (a .repairs))
+    (none (c .before .before .before .before .before .before .before .before .before .before .before .before .before .before .before)) fine in
     (r .0 ∙ sym (ap (λ (o : Outcome). o .said) e), (r .1 .0 ∙ sym (ap (λ (o : Outcome). o .machine) e), r .1 .1 ∙ sym (ap (λ (o : Outcome). o .samples) e)))
 
 pub condition-spec : {M : Type 1} → statement M

@@ -23,7 +23,8 @@ mark-iq-requires c κs =
     let a = s .args in
     let short = s .pre .1 .1 in (
       subst (Bounded (a .capacity) (2 ^ 55)) (sym (c .before .before .before .mark-dc .ensures))
-          (noted-dc-bounded (a .capacity) (2 ^ 54) (2 ^ 55) (modeOf (a .mode)) (record { log = a .log; spans = now (a .spans) }) (spanOf (a .start) (a .ready)) (s .pre .0) (omega arith)),
+          (noted-dc-bounded (a .capacity) (2 ^ 54) (2 ^ 55) (modeOf (a .mode)) (record { log = a .log; spans = now (a .spans) }) (spanOf (a .start) (a .ready))
+          (s .pre .0) (omega arith)),
       s .pre .1,
     )
 
@@ -33,7 +34,9 @@ same-length c = search needs
 returns : tie.Need-returns
 returns c =
     let a = c .before .before .before .before .before .before .before .before .before .args in
-    c .before .before .mark-iq .ensures ∙ ap (λ (x : Logged). notedIq (a .capacity) (settledOf (a .iq)) x (spanOf (a .start) (a .ready))) (c .before .before .before .before .before .before .mark-dc .ensures)
+    c .before .before .mark-iq .ensures
+    ∙ ap (λ (x : Logged). notedIq (a .capacity) (settledOf (a .iq)) x (spanOf (a .start) (a .ready)))
+    (c .before .before .before .before .before .before .mark-dc .ensures)
 
 pub mark-released-spec : {M : Type 1} → statement M
 mark-released-spec = tie.close (tie.spec mark-dc-requires mark-iq-requires same-length returns)

@@ -25,15 +25,16 @@ fit c = state-fit _ (fits c)
 -- so are the stores: the slice's length decides
 by-length : (c : tie.Else4) (h t : Bool)
     → let a = c .before .before .before .before .before .before .before .before .before .before .before .before .args in
-    ltb (a .len) (a .state .held) ≡ h
-    → tooMany (a .state .seen) (a .len - a .state .held) .holds ≡ t
+    ltb (a .len) (a .state .counts .held) ≡ h
+    → tooMany (a .state .counts .seen) (a .len - a .state .counts .held) .holds ≡ t
     → toldUnread (callNumber true true true true h t false) ≡ toldUnread (unreadRefusal (a .state) (a .len) (now (a .spans)) (now (a .repairs)))
 by-length c h t short many =
     let a = c .before .before .before .before .before .before .before .before .before .before .before .before .args in
     sym
     (ap toldUnread
     (unread-by (a .state) (a .len) (now (a .spans)) (now (a .repairs)) true true true true h t
-    (fits (c .before .before .before .before .before .before)) (eq-eqb _ _ (c .before .before .before .before .if2 .left)) (eq-eqb _ _ (c .before .before .if3 .left)) (sym (c .before .ends-fit .ensures) ∙ not-false _ (c .if4 .left)) short many))
+    (fits (c .before .before .before .before .before .before)) (eq-eqb _ _ (c .before .before .before .before .if2 .left))
+    (eq-eqb _ _ (c .before .before .if3 .left)) (sym (c .before .ends-fit .ensures) ∙ not-false _ (c .if4 .left)) short many))
 
 fits-requires : tie.Need-fits-requires
 fits-requires c κs = search needs
@@ -41,7 +42,9 @@ fits-requires c κs = search needs
 returns : tie.Need-returns
 returns c =
     let a = c .before .before .before .before .before .before .args in
-    sym (ap toldUnread (unread-by (a .state) (a .len) (now (a .spans)) (now (a .repairs)) false _ _ _ _ _ (sym (c .before .fits2 .ensures) ∙ not-true _ (c .if1 .taken)) refl refl refl refl refl))
+    sym (ap toldUnread
+    (unread-by (a .state) (a .len) (now (a .spans)) (now (a .repairs)) false _ _ _ _ _
+    (sym (c .before .fits2 .ensures) ∙ not-true _ (c .if1 .taken)) refl refl refl refl refl))
 
 mul-if2 : tie.Need-mul-if2
 mul-if2 c = let f = fit (c .before) .settings .few-repairs in omega arith
@@ -49,7 +52,9 @@ mul-if2 c = let f = fit (c .before) .settings .few-repairs in omega arith
 returns-2 : tie.Need-returns-2
 returns-2 c =
     let a = c .before .before .before .before .before .before .before .before .args in
-    sym (ap toldUnread (unread-by (a .state) (a .len) (now (a .spans)) (now (a .repairs)) true false _ _ _ _ (fits (c .before .before)) (ne-eqb _ _ (c .if2 .taken)) refl refl refl refl))
+    sym (ap toldUnread
+    (unread-by (a .state) (a .len) (now (a .spans)) (now (a .repairs)) true false _ _ _ _ (fits (c .before .before))
+    (ne-eqb _ _ (c .if2 .taken)) refl refl refl refl))
 
 mul-if3 : tie.Need-mul-if3
 mul-if3 c = let f = fit (c .before .before .before) .settings .few-spans in omega arith
@@ -59,7 +64,8 @@ returns-3 c =
     let a = c .before .before .before .before .before .before .before .before .before .before .args in
     sym
     (ap toldUnread
-    (unread-by (a .state) (a .len) (now (a .spans)) (now (a .repairs)) true true false _ _ _ (fits (c .before .before .before .before)) (eq-eqb _ _ (c .before .before .if2 .left)) (ne-eqb _ _ (c .if3 .taken)) refl refl refl))
+    (unread-by (a .state) (a .len) (now (a .spans)) (now (a .repairs)) true true false _ _ _ (fits (c .before .before .before .before))
+    (eq-eqb _ _ (c .before .before .if2 .left)) (ne-eqb _ _ (c .if3 .taken)) refl refl refl))
 
 ends-fit-requires : tie.Need-ends-fit-requires
 ends-fit-requires c κs = let l = c .if3 .left in (fit (c .before .before .before .before) .log, omega arith)
@@ -70,7 +76,8 @@ returns-4 c =
     sym
     (ap toldUnread
     (unread-by (a .state) (a .len) (now (a .spans)) (now (a .repairs)) true true true false _ _
-    (fits (c .before .before .before .before .before .before)) (eq-eqb _ _ (c .before .before .before .before .if2 .left)) (eq-eqb _ _ (c .before .before .if3 .left)) (sym (c .before .ends-fit .ensures) ∙ not-true _ (c .if4 .taken)) refl refl))
+    (fits (c .before .before .before .before .before .before)) (eq-eqb _ _ (c .before .before .before .before .if2 .left))
+    (eq-eqb _ _ (c .before .before .if3 .left)) (sym (c .before .ends-fit .ensures) ∙ not-true _ (c .if4 .taken)) refl refl))
 
 returns-5 : tie.Need-returns-5
 returns-5 c = by-length (c .before) true _ (lt-ltb _ _ (c .if5 .taken)) refl

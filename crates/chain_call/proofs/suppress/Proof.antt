@@ -16,10 +16,12 @@ use Rattle.chain_call.proofs.suppress.Tie as tie
 returns : tie.Need-returns
 unfolding noteAll
 returns c =
-    let s = c .before .before .before .before .before .before .before .before .before in
+    let s = c .before .before .before .before .before .before .before .before in
     let a = s .args in
     let off = not-true _ (c .if1 .taken) in
-    let told : _ ≡ _ = ap (noteAll (a .state .settings .spans) (a .state .settings .repairs) (notesIn (machineOf (a .state) (now (a .spans)) (now (a .repairs))))) (off-told (a .state) (now (a .samples)) (now (a .spans)) (now (a .repairs)) (s .pre .0) off) in (
+    let told : _ ≡ _ =
+    ap (noteAll (a .state .settings .spans) (a .state .settings .repairs) (notesIn (machineOf (a .state) (now (a .spans)) (now (a .repairs)))))
+    (off-told (a .state) (now (a .samples)) (now (a .spans)) (now (a .repairs)) (s .pre .0) off) in (
       s .pre .1 .0 ∙ off-after (a .state) (now (a .samples)) (now (a .spans)) (now (a .repairs)) (s .pre .0) off,
       (
         told,
@@ -32,10 +34,15 @@ returns c =
 
 run-requires : tie.Need-run-requires
 run-requires c κs =
-    let s = c .before .before .before .before .before .before .before .before .before .before .before .before .before .before .before in
+    let s = c .before .before .before .before .before .before .before .before .before .before .before .before .before .before in
     let a = s .args in
-    let on = not-false _ (c .before .before .before .before .before .before .if1 .left) in
-    (s .pre .0 .held-in, (call-room (a .state) (now (a .samples)) (now (a .spans)) (now (a .repairs)) (s .pre .0) on, (s .pre .1 .1, call-roomy (a .state) (now (a .samples)) (now (a .spans)) (now (a .repairs)) (s .pre .0))))
+    let on = not-false _ (c .before .before .before .before .before .before .if1 .left) in (
+      s .pre .0 .held-in,
+      (
+        call-room (a .state) (now (a .samples)) (now (a .spans)) (now (a .repairs)) (s .pre .0) on,
+        (s .pre .1 .1, call-roomy (a .state) (now (a .samples)) (now (a .spans)) (now (a .repairs)) (s .pre .0)),
+      ),
+    )
 
 same-length : tie.Need-same-length
 same-length c = search needs
@@ -48,7 +55,8 @@ same-length-3 c = search needs
 
 returns-2 : tie.Need-returns-2
 returns-2 c =
-    let s = c .before .before .before .before .before .before .before .before .before .before .before .before .before .before .before .before .before .before .before .before .before .before in
+    let s = c .before .before .before .before .before .before .before .before .before .before .before .before .before .before .before .before .before .before
+    .before .before .before in
     let a = s .args in
     let on = not-false _ (c .before .before .before .before .before .before .before .before .before .before .before .before .before .if1 .left) in
     let r = c .before .before .before .before .before .before .run .ensures in
@@ -57,10 +65,13 @@ returns-2 c =
     let note = noteAll (a .state .settings .spans) (a .state .settings .repairs) (notesIn (machineOf (a .state) (now (a .spans)) (now (a .repairs)))) in
     -- the lent arrays are the suppressor's
     let lent = s .pre .1 .0 in
-    let out = ap (λ (m : ImpulseSuppressor). handed set m new) lent ∙ on-out (a .state) (now (a .samples)) (now (a .spans)) (now (a .repairs)) (s .pre .0) on in (
-      r .0 ∙ ap (λ (m : ImpulseSuppressor). stateAfter set m new) lent ∙ on-after (a .state) (now (a .samples)) (now (a .spans)) (now (a .repairs)) (s .pre .0) on,
+    let out = ap (λ (m : ImpulseSuppressor). handed set m new) lent
+    ∙ on-out (a .state) (now (a .samples)) (now (a .spans)) (now (a .repairs)) (s .pre .0) on in (
+      r .0 ∙ ap (λ (m : ImpulseSuppressor). stateAfter set m new) lent
+          ∙ on-after (a .state) (now (a .samples)) (now (a .spans)) (now (a .repairs)) (s .pre .0) on,
       (
-        r .1 .0 ∙ ap note (ap (λ (m : ImpulseSuppressor). told set m new) lent ∙ on-told (a .state) (now (a .samples)) (now (a .spans)) (now (a .repairs)) (s .pre .0) on),
+        r .1 .0 ∙ ap note
+            (ap (λ (m : ImpulseSuppressor). told set m new) lent ∙ on-told (a .state) (now (a .samples)) (now (a .spans)) (now (a .repairs)) (s .pre .0) on),
         (
           r .1 .1 .0 ∙ ap length out,
           r .1 .1 .1 ∙ ap (λ (l : List ℕ). over l (now (a .samples))) out,

@@ -11,6 +11,8 @@ use Rattle.rules.specs.Constants.{one, rateLimit}
 use Rattle.rules.specs.Iq.{ranged}
 use Rattle.rules.specs.Chain.{Config}
 use Rattle.rules.specs.Refusals.{firstOf, badSize, badCapacity, badLength, makingRefusal}
+use Rattle.rules.specs.Log.{repairWidth, storeWidth}
+use Rattle.rules.specs.Monitor.{channelWidth}
 use Rattle.chain_config.specs.Config.{settingRefusal, refusal}
 
 -- a number by the answers of three tests, or another
@@ -21,7 +23,9 @@ byThree rate size capacity other = cond (not rate) 1 (cond size 2 (cond capacity
 abbrev pub settingNumber : Bool → Bool → Bool → Bool → Bool → Bool → ℕ
 settingNumber rate size noSpans manySpans noRepairs manyRepairs = byThree rate size (noSpans || manySpans || noRepairs || manyRepairs) 0
 
-pub setting-by : (fs : Float) (n spans repairs : ℕ) (rate size noSpans manySpans noRepairs manyRepairs : Bool) → ranged one rateLimit fs ≡ rate → ltb 2048 n ≡ size → eqb spans 0 ≡ noSpans → ltb 256 spans ≡ manySpans → eqb repairs 0 ≡ noRepairs → ltb 4096 repairs ≡ manyRepairs → settingNumber rate size noSpans manySpans noRepairs manyRepairs ≡ settingRefusal fs n spans repairs
+pub setting-by : (fs : Float) (n spans repairs : ℕ) (rate size noSpans manySpans noRepairs manyRepairs : Bool) → ranged one rateLimit fs ≡ rate
+    → ltb 2048 n ≡ size → eqb spans 0 ≡ noSpans → ltb 256 spans ≡ manySpans → eqb repairs 0 ≡ noRepairs → ltb 4096 repairs ≡ manyRepairs
+    → settingNumber rate size noSpans manySpans noRepairs manyRepairs ≡ settingRefusal fs n spans repairs
 unfolding settingRefusal firstOf
 setting-by fs n spans repairs rate size noSpans manySpans noRepairs manyRepairs h1 h2 h3 h4 h5 h6 =
     sym
@@ -37,7 +41,8 @@ abbrev pub lengthNumber : Bool → Bool → Bool → ℕ
 lengthNumber repairs spans words = cond (not repairs) 4 (cond (not spans) 4 (cond (not words) 4 0))
 
 unfoldable pub lengthRefusal : Config → ℕ → ℕ → ℕ → ℕ
-lengthRefusal c spans repairs words = firstOf (badLength (6 * c .repairs) repairs ∷ badLength (24 * c .spans) spans ∷ badLength (4 * c .n) words ∷ [])
+lengthRefusal c spans repairs words =
+    firstOf (badLength (repairWidth * c .repairs) repairs ∷ badLength (storeWidth * c .spans) spans ∷ badLength (channelWidth * c .n) words ∷ [])
 
 abbrev settingOf : Config → ℕ
 settingOf c = settingRefusal (c .fs) (c .n) (c .spans) (c .repairs)
@@ -50,7 +55,8 @@ split true false true k = refl
 split true false false k = refl
 
 -- making asks for the settings, then for the lengths
-making-split : (c : Config) (spans repairs words : ℕ) → cond (eqb (settingOf c) 0) (lengthRefusal c spans repairs words) (settingOf c) ≡ refusal c spans repairs words
+making-split : (c : Config) (spans repairs words : ℕ)
+    → cond (eqb (settingOf c) 0) (lengthRefusal c spans repairs words) (settingOf c) ≡ refusal c spans repairs words
 unfolding settingRefusal lengthRefusal makingRefusal firstOf
 making-split c spans repairs words =
     split (ranged one rateLimit (c .fs)) (badSize (c .n) .holds) (badCapacity (c .spans) (c .repairs) .holds) (lengthRefusal c spans repairs words)
@@ -61,12 +67,13 @@ unfit-setting c spans repairs words h =
     sym (ap (λ (t : Bool). cond t (lengthRefusal c spans repairs words) (settingOf c)) h) ∙ making-split c spans repairs words
 
 -- fit settings, and the answers of the tests of the lengths
-pub length-by : (c : Config) (spans repairs words : ℕ) (s t u : Bool) → eqb (settingOf c) 0 ≡ true → eqb repairs (6 * c .repairs) ≡ s → eqb spans (24 * c .spans) ≡ t → eqb words (4 * c .n) ≡ u → lengthNumber s t u ≡ refusal c spans repairs words
+pub length-by : (c : Config) (spans repairs words : ℕ) (s t u : Bool) → eqb (settingOf c) 0 ≡ true → eqb repairs (repairWidth * c .repairs) ≡ s
+    → eqb spans (storeWidth * c .spans) ≡ t → eqb words (channelWidth * c .n) ≡ u → lengthNumber s t u ≡ refusal c spans repairs words
 unfolding lengthRefusal firstOf
 length-by c spans repairs words s r u h h1 h2 h3 =
     sym
-    (ap (λ (t : Bool). lengthNumber t (eqb spans (24 * c .spans)) (eqb words (4 * c .n))) h1
-    ∙ ap (λ (t : Bool). lengthNumber s t (eqb words (4 * c .n))) h2
+    (ap (λ (t : Bool). lengthNumber t (eqb spans (storeWidth * c .spans)) (eqb words (channelWidth * c .n))) h1
+    ∙ ap (λ (t : Bool). lengthNumber s t (eqb words (channelWidth * c .n))) h2
     ∙ ap (λ (t : Bool). lengthNumber s r t) h3)
     ∙ sym (ap (λ (t : Bool). cond t (lengthRefusal c spans repairs words) (settingOf c)) h)
     ∙ making-split c spans repairs words
@@ -84,9 +91,19 @@ not-zero : (k : ℕ) → eqb k 0 ≡ false → 0 < k
 not-zero zero e = absurd (false≢true (sym e))
 not-zero (suc k) e = omega arith
 
-by-tests : (fs : Float) (n spans repairs : ℕ) (rate size noSpans manySpans noRepairs manyRepairs : Bool) → ranged one rateLimit fs ≡ rate → ltb 2048 n ≡ size → eqb spans 0 ≡ noSpans → ltb 256 spans ≡ manySpans → eqb repairs 0 ≡ noRepairs → ltb 4096 repairs ≡ manyRepairs → eqb (settingNumber rate size noSpans manySpans noRepairs manyRepairs) 0 ≡ true → Limits fs n spans repairs
+by-tests : (fs : Float) (n spans repairs : ℕ) (rate size noSpans manySpans noRepairs manyRepairs : Bool) → ranged one rateLimit fs ≡ rate → ltb 2048 n ≡ size
+    → eqb spans 0 ≡ noSpans → ltb 256 spans ≡ manySpans → eqb repairs 0 ≡ noRepairs → ltb 4096 repairs ≡ manyRepairs
+    → eqb (settingNumber rate size noSpans manySpans noRepairs manyRepairs) 0 ≡ true → Limits fs n spans repairs
 by-tests fs n spans repairs true false false false false false a b c d f g e =
-    record { rate = a; size = ltb-false _ _ b; some-spans = not-zero spans c; few-spans = ltb-false _ _ d; some-repairs = not-zero repairs f; few-repairs = ltb-false _ _ g }
+    record {
+      rate = a;
+      size = ltb-false _ _ b;
+      some-spans = not-zero spans c;
+      few-spans = ltb-false _ _ d;
+      some-repairs = not-zero repairs f;
+      few-repairs =
+          ltb-false _ _ g;
+    }
 by-tests fs n spans repairs true false false false false true a b c d f g e = absurd (false≢true e)
 by-tests fs n spans repairs true false false false true m a b c d f g e = absurd (false≢true e)
 by-tests fs n spans repairs true false false true z m a b c d f g e = absurd (false≢true e)
@@ -96,4 +113,5 @@ by-tests fs n spans repairs false x y m z p a b c d f g e = absurd (false≢true
 
 pub setting-limits : (fs : Float) (n spans repairs : ℕ) → eqb (settingRefusal fs n spans repairs) 0 ≡ true → Limits fs n spans repairs
 setting-limits fs n spans repairs e =
-    by-tests fs n spans repairs _ _ _ _ _ _ refl refl refl refl refl refl (ap (λ (k : ℕ). eqb k 0) (setting-by fs n spans repairs _ _ _ _ _ _ refl refl refl refl refl refl) ∙ e)
+    by-tests fs n spans repairs _ _ _ _ _ _ refl refl refl refl refl refl
+    (ap (λ (k : ℕ). eqb k 0) (setting-by fs n spans repairs _ _ _ _ _ _ refl refl refl refl refl refl) ∙ e)

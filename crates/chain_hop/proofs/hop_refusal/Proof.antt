@@ -6,6 +6,7 @@ use native.Mathlib.Omega.{arith}
 use borrow.Author.Tests.{eq-eqb, ne-eqb, not-true, not-false}
 use denote.Ref.{now}
 use lib.ListN.{length}
+use Rattle.rules.specs.Log.{storeWidth}
 use Rattle.chain_state.specs.Fits.{stateFits}
 use Rattle.chain_state.specs.laws.FitsLaws.{Fit, state-fit}
 use Rattle.chain_hop.specs.laws.HopLaws.{refusal-by}
@@ -41,18 +42,21 @@ mul-if3 c = omega (arith, fit (c .before .before .before) .settings .size)
 returns-3 : tie.Need-returns-3
 returns-3 c =
     let a = c .before .before .before .before .before .before .before .before .before .before .args in
-    refusal-by (a .state) (now (a .spans)) (now (a .words)) true true false _ _ (passed (c .before .before .before .before)) (eq-eqb _ _ (c .before .before .if2 .left)) (ne-eqb _ _ (c .if3 .taken)) refl refl
+    refusal-by (a .state) (now (a .spans)) (now (a .words)) true true false _ _ (passed (c .before .before .before .before))
+    (eq-eqb _ _ (c .before .before .if2 .left)) (ne-eqb _ _ (c .if3 .taken)) refl refl
 
 ends-fit-requires : tie.Need-ends-fit-requires
 ends-fit-requires c κs =
     let a = c .before .before .before .before .before .before .before .before .before .before .args in
-    let l : length (now (a .spans)) ≡ a .state .settings .spans * 24 = omega (arith, c .before .before .if2 .left) in
+    let l : length (now (a .spans)) ≡ a .state .settings .spans * storeWidth = omega (arith, c .before .before .if2 .left) in
     (fit (c .before .before .before .before) .log, l)
 
 returns-4 : tie.Need-returns-4
 returns-4 c =
     let a = c .before .before .before .before .before .before .before .before .before .before .before .before .args in
-    refusal-by (a .state) (now (a .spans)) (now (a .words)) true true true false _ (passed (c .before .before .before .before .before .before)) (eq-eqb _ _ (c .before .before .before .before .if2 .left)) (eq-eqb _ _ (c .before .before .if3 .left)) (sym (c .before .ends-fit .ensures) ∙ not-true _ (c .if4 .taken)) refl
+    refusal-by (a .state) (now (a .spans)) (now (a .words)) true true true false _ (passed (c .before .before .before .before .before .before))
+    (eq-eqb _ _ (c .before .before .before .before .if2 .left)) (eq-eqb _ _ (c .before .before .if3 .left))
+    (sym (c .before .ends-fit .ensures) ∙ not-true _ (c .if4 .taken)) refl
 
 words-fit-requires : tie.Need-words-fit-requires
 words-fit-requires c κs = search needs
@@ -60,12 +64,20 @@ words-fit-requires c κs = search needs
 returns-5 : tie.Need-returns-5
 returns-5 c =
     let a = c .before .before .before .before .before .before .before .before .before .before .before .before .before .before .args in
-    refusal-by (a .state) (now (a .spans)) (now (a .words)) true true true true false (passed (c .before .before .before .before .before .before .before .before)) (eq-eqb _ _ (c .before .before .before .before .before .before .if2 .left)) (eq-eqb _ _ (c .before .before .before .before .if3 .left)) (sym (c .before .before .before .ends-fit .ensures) ∙ not-false _ (c .before .before .if4 .left)) (sym (c .before .words-fit .ensures) ∙ not-true _ (c .if5 .taken))
+    refusal-by (a .state) (now (a .spans)) (now (a .words)) true true true true false
+    (passed (c .before .before .before .before .before .before .before .before)) (eq-eqb _ _ (c .before .before .before .before .before .before .if2 .left))
+    (eq-eqb _ _ (c .before .before .before .before .if3 .left))
+    (sym (c .before .before .before .ends-fit .ensures) ∙ not-false _ (c .before .before .if4 .left))
+    (sym (c .before .words-fit .ensures) ∙ not-true _ (c .if5 .taken))
 
 returns-6 : tie.Need-returns-6
 returns-6 c =
     let a = c .before .before .before .before .before .before .before .before .before .before .before .before .before .before .args in
-    refusal-by (a .state) (now (a .spans)) (now (a .words)) true true true true true (passed (c .before .before .before .before .before .before .before .before)) (eq-eqb _ _ (c .before .before .before .before .before .before .if2 .left)) (eq-eqb _ _ (c .before .before .before .before .if3 .left)) (sym (c .before .before .before .ends-fit .ensures) ∙ not-false _ (c .before .before .if4 .left)) (sym (c .before .words-fit .ensures) ∙ not-false _ (c .if5 .left))
+    refusal-by (a .state) (now (a .spans)) (now (a .words)) true true true true true
+    (passed (c .before .before .before .before .before .before .before .before)) (eq-eqb _ _ (c .before .before .before .before .before .before .if2 .left))
+    (eq-eqb _ _ (c .before .before .before .before .if3 .left))
+    (sym (c .before .before .before .ends-fit .ensures) ∙ not-false _ (c .before .before .if4 .left))
+    (sym (c .before .words-fit .ensures) ∙ not-false _ (c .if5 .left))
 
 pub hop-refusal-spec : {M : Type 1} → statement M
 hop-refusal-spec =

@@ -17,7 +17,8 @@ returns : tie.Need-returns
 returns c =
     let a = c .before .before .before .args in
     let e = a .evidence in
-    sym (ap (λ (t : Bool). foldl (uncertain (a .capacity)) (record { log = a .log; spans = now (a .spans) }) (cond t (spanOf (e .start) (e .end - e .start) ∷ []) [])) (not-true (e .suspected) (c .if1 .taken)))
+    sym (ap (λ (t : Bool). foldl (uncertain (a .capacity)) (record { log = a .log; spans = now (a .spans) })
+    (cond t (spanOf (e .start) (e .end - e .start) ∷ []) [])) (not-true (e .suspected) (c .if1 .taken)))
 
 sub-len : tie.Need-sub-len
 sub-len c = search needs
@@ -38,7 +39,9 @@ returns-2 c =
     let a = c .before .before .before .before .before .before .before .before .args in
     let e = a .evidence in
     c .before .before .mark .ensures
-    ∙ sym (ap (λ (t : Bool). foldl (uncertain (a .capacity)) (record { log = a .log; spans = now (a .spans) }) (cond t (spanOf (e .start) (e .end - e .start) ∷ []) [])) (not-false (e .suspected) (c .before .before .before .before .before .if1 .left)))
+    ∙ sym (ap
+    (λ (t : Bool). foldl (uncertain (a .capacity)) (record { log = a .log; spans = now (a .spans) })
+    (cond t (spanOf (e .start) (e .end - e .start) ∷ []) [])) (not-false (e .suspected) (c .before .before .before .before .before .if1 .left)))
 
 pub mark-window-spec : {M : Type 1} → statement M
 mark-window-spec = tie.close (tie.spec returns sub-len mark-requires same-length returns-2)

@@ -19,7 +19,8 @@ enum-known-answer : tie.Need-enum-known-answer
 enum-known-answer c = search needs
 
 mark-window-requires : tie.Need-mark-window-requires
-mark-window-requires c κs = (c .before .before .before .before .before .pre .0, subst Told (c .before .before .answer .given .1) (c .before .before .before .before .before .pre .1))
+mark-window-requires c κs =
+    (c .before .before .before .before .before .pre .0, subst Told (c .before .before .answer .given .1) (c .before .before .before .before .before .pre .1))
 
 enum-told-3 : tie.Need-enum-told-3
 enum-told-3 c = search needs
@@ -44,7 +45,8 @@ returns-3 : tie.Need-returns-3
 returns-3 c =
     let a = c .before .before .before .before .before .before .before .before .args in
     c .before .before .mark-window .ensures
-    ∙ sym (ap (λ (h : HopAnswer). noted (a .capacity) true h (record { log = a .log; spans = now (a .spans) })) (c .before .before .before .before .before .answer .given .1))
+    ∙ sym (ap (λ (h : HopAnswer). noted (a .capacity) true h (record { log = a .log; spans = now (a .spans) }))
+    (c .before .before .before .before .before .answer .given .1))
 
 returns-4 : tie.Need-returns-4
 returns-4 c =

@@ -14,7 +14,8 @@ is-observing-requires c κs = search needs
 returns : tie.Need-returns
 returns c =
     let a = c .before .before .before .args in
-    sym (ap (λ (t : Bool). noted (a .capacity) t (a .answer) (record { log = a .log; spans = now (a .spans) })) (sym (c .before .is-observing .ensures) ∙ not-true _ (c .if1 .taken)))
+    sym (ap (λ (t : Bool). noted (a .capacity) t (a .answer) (record { log = a .log; spans = now (a .spans) }))
+    (sym (c .before .is-observing .ensures) ∙ not-true _ (c .if1 .taken)))
 
 note-requires : tie.Need-note-requires
 note-requires c κs = search needs
@@ -26,7 +27,8 @@ returns-2 : tie.Need-returns-2
 returns-2 c =
     let a = c .before .before .before .before .before .before .before .args in
     c .before .before .note .ensures
-    ∙ sym (ap (λ (t : Bool). noted (a .capacity) t (a .answer) (record { log = a .log; spans = now (a .spans) })) (sym (c .before .before .before .before .before .is-observing .ensures) ∙ not-false _ (c .before .before .before .before .if1 .left)))
+    ∙ sym (ap (λ (t : Bool). noted (a .capacity) t (a .answer) (record { log = a .log; spans = now (a .spans) }))
+    (sym (c .before .before .before .before .before .is-observing .ensures) ∙ not-false _ (c .before .before .before .before .if1 .left)))
 
 pub noted-spec : {M : Type 1} → statement M
 noted-spec = tie.close (tie.spec is-observing-requires returns note-requires same-length returns-2)

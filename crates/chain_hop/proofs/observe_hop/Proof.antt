@@ -33,7 +33,8 @@ returns : tie.Need-returns
 returns c =
     let a = c .before .before .before .before .before .before .before .before .before .before .before .before .before .before .before .args in
     let t = c .before .before .before .before .take-hop .ensures in
-    let z = sym (c .before .before .before .before .before .before .before .before .before .hop-refusal .ensures) ∙ ap fitnessNumber (c .before .before .before .before .before .before .before .enum-told .given .1) in
+    let z = sym (c .before .before .before .before .before .before .before .before .before .hop-refusal .ensures)
+    ∙ ap fitnessNumber (c .before .before .before .before .before .before .before .enum-told .given .1) in
     let e = sym (hop-taken (a .state) (now (a .x)) (a .start) (now (a .spans)) (now (a .words)) z) in (
       t .0 ∙ ap (λ (h : Hopped). h .called) e,
       (
@@ -55,8 +56,13 @@ returns-2 : tie.Need-returns-2
 returns-2 c =
     let a = c .before .before .before .before .before .before .before .before .args in
     let z = sym (c .before .before .hop-refusal .ensures) ∙ ap fitnessNumber (c .enum-told2 .given .1) in
-    let e = sym (hop-bad-state (a .state) (now (a .x)) (a .start) (now (a .spans)) (now (a .words)) z) in
-    (ap (λ (h : Hopped). h .called) e, (ap (λ (h : Hopped). h .spans) e, (ap (λ (h : Hopped). h .words) e, sym (told-bad-state (a .state) (now (a .x)) (a .start) (now (a .spans)) (now (a .words)) z))))
+    let e = sym (hop-bad-state (a .state) (now (a .x)) (a .start) (now (a .spans)) (now (a .words)) z) in (
+      ap (λ (h : Hopped). h .called) e,
+      (
+        ap (λ (h : Hopped). h .spans) e,
+        (ap (λ (h : Hopped). h .words) e, sym (told-bad-state (a .state) (now (a .x)) (a .start) (now (a .spans)) (now (a .words)) z)),
+      ),
+    )
 
 same-length-5 : tie.Need-same-length-5
 same-length-5 c = search needs
@@ -68,8 +74,13 @@ returns-3 : tie.Need-returns-3
 returns-3 c =
     let a = c .before .before .before .before .before .before .before .before .args in
     let z = sym (c .before .before .hop-refusal .ensures) ∙ ap fitnessNumber (c .enum-told3 .given .1) in
-    let e = sym (hop-bad-length (a .state) (now (a .x)) (a .start) (now (a .spans)) (now (a .words)) z) in
-    (ap (λ (h : Hopped). h .called) e, (ap (λ (h : Hopped). h .spans) e, (ap (λ (h : Hopped). h .words) e, sym (told-bad-length (a .state) (now (a .x)) (a .start) (now (a .spans)) (now (a .words)) z))))
+    let e = sym (hop-bad-length (a .state) (now (a .x)) (a .start) (now (a .spans)) (now (a .words)) z) in (
+      ap (λ (h : Hopped). h .called) e,
+      (
+        ap (λ (h : Hopped). h .spans) e,
+        (ap (λ (h : Hopped). h .words) e, sym (told-bad-length (a .state) (now (a .x)) (a .start) (now (a .spans)) (now (a .words)) z)),
+      ),
+    )
 
 pub observe-hop-spec : {M : Type 1} → statement M
 observe-hop-spec =

@@ -4,6 +4,7 @@ use Prim.Native.Nat.{_*_}
 use native.Mathlib.Omega.{arith}
 use denote.Ref.{now}
 use lib.ListN.{length}
+use Rattle.rules.specs.Log.{storeWidth}
 use Rattle.chain_state.specs.laws.FitsLaws.{Fit, state-fit}
 use Rattle.iq_monitor.specs.declared.Observed.{Observed}
 use Rattle.chain_hop.specs.HopReady.{Told}
@@ -19,14 +20,16 @@ fit : (c : tie.Start) → Fit (c .args .state)
 fit c = state-fit (c .args .state) (ready c .state)
 
 watched-requires : tie.Need-watched-requires
-watched-requires c κs = (ready (c .before .before .before .before .before .before) .words, fit (c .before .before .before .before .before .before) .settings .size)
+watched-requires c κs =
+    (ready (c .before .before .before .before .before .before .before) .words, fit (c .before .before .before .before .before .before .before) .settings .size)
 
 noted-requires : tie.Need-noted-requires
 noted-requires c κs =
-    let s = c .before .before .before .before .before .before .before .before .before .before .before in
+    let s = c .before .before .before .before .before .before .before .before .before .before .before .before in
     let a = s .args in
-    let l : length (now (a .spans)) ≡ a .state .settings .spans * 24 = omega (arith, ready s .spans) in
-    let t = subst (λ (o : Observed). Told (o .answer)) (sym (c .before .before .before .before .watched .ensures .0)) (told-watched (a .state) (now (a .x)) (a .start) (now (a .words)) (ready s .state)) in
+    let l : length (now (a .spans)) ≡ a .state .settings .spans * storeWidth = omega (arith, ready s .spans) in
+    let t = subst (λ (o : Observed). Told (o .answer)) (sym (c .before .before .before .before .watched .ensures .0))
+    (told-watched (a .state) (now (a .x)) (a .start) (now (a .words)) (ready s .state)) in
     ((fit s .log, l), t)
 
 answer-of-requires : tie.Need-answer-of-requires
@@ -40,9 +43,10 @@ same-length-2 c = search needs
 
 returns : tie.Need-returns
 returns c =
-    let a = c .before .before .before .before .before .before .before .before .before .before .before .before .before .before .before .args in
+    let a = c .before .before .before .before .before .before .before .before .before .before .before .before .before .before .before .before .args in
     let w = c .before .before .before .before .before .before .before .before .watched in
-    let t = taken-by (a .state) (now (a .x)) (a .start) (now (a .spans)) (now (a .words)) (w .result) (c .before .before .before .noted .result) _ (c .answer-of .result) (w .ensures .0) (c .before .before .before .noted .ensures) (c .answer-of .ensures) in
+    let t = taken-by (a .state) (now (a .x)) (a .start) (now (a .spans)) (now (a .words)) (w .result) (c .before .before .before .noted .result) _
+    (c .answer-of .result) (w .ensures .0) (c .before .before .before .noted .ensures) (c .answer-of .ensures) in
     (t .0, (t .1, w .ensures .1 ∙ sym (taken-words (a .state) (now (a .x)) (a .start) (now (a .spans)) (now (a .words)))))
 
 pub take-hop-spec : {M : Type 1} → statement M

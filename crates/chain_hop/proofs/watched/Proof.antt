@@ -25,7 +25,8 @@ same-length c = search needs
 returns-2 : tie.Need-returns-2
 returns-2 c =
     let a = c .before .before .before .before .before .before .before .before .before .before .args in
-    let e = watched-by (a .state) (a .x .now) (a .start) (a .words .now) false (sym (c .before .before .before .before .before .is-off .ensures) ∙ c .before .before .before .before .if1 .left) in
+    let e = watched-by (a .state) (a .x .now) (a .start) (a .words .now) false
+    (sym (c .before .before .before .before .before .is-off .ensures) ∙ c .before .before .before .before .if1 .left) in
     (c .before .before .observe .ensures .0 ∙ ap (λ (s : Seen). s .seen) (sym e), c .before .before .observe .ensures .1 ∙ ap (λ (s : Seen). s .words) (sym e))
 
 pub watched-spec : {M : Type 1} → statement M

@@ -14,7 +14,9 @@ use Rattle.iq_monitor.specs.declared.HopAnswer.the-variants as monitor
 use Rattle.iq_monitor.specs.Observe.{Seen, firstOr, endOf, full, closing, adding, acceptedOf, leaving, isNone, observed}
 use Rattle.iq_monitor.specs.laws.ObserveLaws.{observed-by, accepted-by}
 use Rattle.chain_state.specs.declared.InputConditioner.{InputConditioner}
-use Rattle.chain_hop.specs.Hops.{hopRefusal, saidHop, answerOf, isOffIq, isObserving, watched, suspectedBy, uncertain, Hopped, followed, taken, byNumber, hopOf}
+use Rattle.chain_state.specs.Changed.{afterHop}
+use Rattle.chain_hop.specs.Hops.{hopRefusal, saidHop, answerOf, isOffIq, isObserving, watched, suspectedBy, uncertain, Hopped, followed, taken, byNumber}
+use Rattle.chain_hop.specs.Hops.{hopOf}
 use Rattle.chain_hop.specs.laws.HopLaws.{watched-by}
 
 -- all as it was
@@ -30,22 +32,9 @@ module _ (c : InputConditioner) (xs : List ℕ) (start : ℕ) (spans : List ℕ)
 
   keeps-leaving : (a : HopAnswer) → suspectedBy a ≡ [] → Keeps c spans ws (followed c spans (leaving (c .monitor) ws a))
   keeps-leaving a e =
-      let n = unmarked (c .settings .spans) (isObserving (settledOf (c .settings .iq))) (record { log = c .log; spans = spans }) (suspectedBy a) e in
+      let n = unmarked (c .settings .spans) (isObserving (settledOf (c .settings .iq))) (record { log = c .notes .log; spans = spans }) (suspectedBy a) e in
       record {
-        state =
-            λ i.
-            record {
-              settings = c .settings;
-              seen = c .seen;
-              released = c .released;
-              held = c .held;
-              suppressor = c .suppressor;
-              blocker = c .blocker;
-              monitor = c .monitor;
-              log = n i .log;
-              repairs = c .repairs;
-              longruns = c .longruns;
-            };
+        state = λ i. afterHop c (c .monitor) (n i .log);
         spans = λ i. n i .spans;
         words = refl;
       }
@@ -59,7 +48,9 @@ module _ (c : InputConditioner) (xs : List ℕ) (start : ℕ) (spans : List ℕ)
   kept-accepted false e = absurd (false≢true (sym e))
 
   kept-by : (a b d : Bool)
-      → Kept (cond a (leaving (c .monitor) ws monitor.Nothing) (cond b (leaving (c .monitor) ws monitor.Early) (cond d (leaving (c .monitor) ws (monitor.Beyond (firstBeyondFrom 0 xs))) (acceptedOf (c .monitor) (c .settings .fs) xs start ws))))
+      → Kept (cond a (leaving (c .monitor) ws monitor.Nothing)
+      (cond b (leaving (c .monitor) ws monitor.Early)
+      (cond d (leaving (c .monitor) ws (monitor.Beyond (firstBeyondFrom 0 xs))) (acceptedOf (c .monitor) (c .settings .fs) xs start ws))))
   kept-by true b d = λ e. keeps-leaving monitor.Nothing refl
   kept-by false true d = λ e. keeps-leaving monitor.Early refl
   kept-by false false true = λ e. keeps-leaving (monitor.Beyond (firstBeyondFrom 0 xs)) refl

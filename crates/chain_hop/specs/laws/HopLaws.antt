@@ -8,10 +8,11 @@ use borrow.Author.Tests.{eqb-true, leb-true}
 use lib.Dec.{eqb}
 use lib.ListN.{length}
 use lib.Ieee.{Float}
-use Rattle.rules.specs.Monitor.{reported}
-use Rattle.rules.specs.Log.{spanOf}
+use Rattle.rules.specs.Monitor.{reported, channelWidth}
+use Rattle.rules.specs.Log.{spanOf, storeWidth}
 use Rattle.rules.specs.Answers.{nothing, refused}
 use Rattle.rules.specs.Refusals.{firstOf, badStart, anyBeyond, firstBeyondFrom}
+use Rattle.rules.specs.Constants.{sizeLimit, totalLimit}
 use Rattle.log.specs.declared.Log.{Log}
 use Rattle.log.specs.View.{Logged, marksAt}
 use Rattle.log.specs.Ready.{Fits}
@@ -29,11 +30,12 @@ use Rattle.iq_monitor.specs.Observe.{said, Seen, reportIn, firstOr, endOf, full
 use Rattle.iq_monitor.specs.laws.ObserveLaws.{observed-by, accepted-by, said-is, is-some, is-next}
 use Rattle.chain_state.specs.declared.InputConditioner.{InputConditioner}
 use Rattle.chain_state.specs.Fits.{begunFits, stateFits}
+use Rattle.chain_state.specs.Changed.{afterHop}
 use Rattle.chain_state.specs.laws.FitsLaws.{state-fit}
 use Rattle.chain_hop.specs.declared.HopSaid.{HopSaid}
 use Rattle.chain_hop.specs.declared.HopSaid.the-variants as hop
 use Rattle.chain_hop.specs.declared.HopCalled.{HopCalled}
-use Rattle.chain_hop.specs.Hops.{hopRefusal, saidHop, answerOf, isOffIq, isObserving, hopTold, watched, noted, withMonitor, taken, kept, hopOf}
+use Rattle.chain_hop.specs.Hops.{hopRefusal, saidHop, answerOf, isOffIq, isObserving, hopTold, watched, noted, taken, kept, hopOf}
 use Rattle.chain_hop.specs.HopReady.{Told}
 
 -- ---- 5, 4, 5 by the answers of the tests
@@ -44,25 +46,26 @@ hopNumber state spans words ends fit = cond (not state) 5 (cond (not spans) 4 (c
 -- what a hop that is not refused has
 pub record Ready (c : InputConditioner) (store : List ℕ) (ws : List Float) : Type 0 where
   pub state : stateFits c ≡ true
-  pub spans : length store ≡ 24 * c .settings .spans
-  pub words : length ws ≡ 4 * c .settings .n
-  pub ends : endsFit (c .settings .spans) (record { log = c .log; spans = store }) ≡ true
+  pub spans : length store ≡ storeWidth * c .settings .spans
+  pub words : length ws ≡ channelWidth * c .settings .n
+  pub ends : endsFit (c .settings .spans) (record { log = c .notes .log; spans = store }) ≡ true
   pub fit : wordsFit (c .settings .n) ws ≡ true
 
 module _ (c : InputConditioner) (spans : List ℕ) (ws : List Float) where
   abbrev spansRight : Bool
-  spansRight = eqb (length spans) (24 * c .settings .spans)
+  spansRight = eqb (length spans) (storeWidth * c .settings .spans)
 
   abbrev wordsRight : Bool
-  wordsRight = eqb (length ws) (4 * c .settings .n)
+  wordsRight = eqb (length ws) (channelWidth * c .settings .n)
 
   abbrev endsRight : Bool
-  endsRight = endsFit (c .settings .spans) (record { log = c .log; spans = spans })
+  endsRight = endsFit (c .settings .spans) (record { log = c .notes .log; spans = spans })
 
   abbrev fitRight : Bool
   fitRight = wordsFit (c .settings .n) ws
 
-  pub refusal-by : (s a b e f : Bool) → stateFits c ≡ s → spansRight ≡ a → wordsRight ≡ b → endsRight ≡ e → fitRight ≡ f → hopNumber s a b e f ≡ hopRefusal c spans ws
+  pub refusal-by : (s a b e f : Bool) → stateFits c ≡ s → spansRight ≡ a → wordsRight ≡ b → endsRight ≡ e → fitRight ≡ f
+      → hopNumber s a b e f ≡ hopRefusal c spans ws
   unfolding hopRefusal firstOf
   refusal-by s a b e f h1 h2 h3 h4 h5 =
       sym
@@ -72,7 +75,8 @@ module _ (c : InputConditioner) (spans : List ℕ) (ws : List Float) where
       ∙ ap (λ (t : Bool). hopNumber s a b t fitRight) h4
       ∙ ap (λ (t : Bool). hopNumber s a b e t) h5)
 
-  by-tests : (s a b e f : Bool) → stateFits c ≡ s → spansRight ≡ a → wordsRight ≡ b → endsRight ≡ e → fitRight ≡ f → eqb (hopNumber s a b e f) 0 ≡ true → Ready c spans ws
+  by-tests : (s a b e f : Bool) → stateFits c ≡ s → spansRight ≡ a → wordsRight ≡ b → endsRight ≡ e → fitRight ≡ f → eqb (hopNumber s a b e f) 0 ≡ true
+      → Ready c spans ws
   by-tests true true true true true h1 h2 h3 h4 h5 z = record { state = h1; spans = eqb-true _ _ h2; words = eqb-true _ _ h3; ends = h4; fit = h5 }
   by-tests true true true true false h1 h2 h3 h4 h5 z = absurd (false≢true z)
   by-tests true true true false f h1 h2 h3 h4 h5 z = absurd (false≢true z)
@@ -94,16 +98,18 @@ module _ (m : ImageMonitor) (fs : Float) (n : ℕ) (xs : List ℕ) (start : ℕ)
   abbrev Fine : Seen → Type 0
   Fine s = Told (s .seen .answer)
 
-  told-closing : firstOr (m .first) start ≤ start → start ≤ 2 ^ 48 → length xs ≤ 2048 → Fine (closing m xs start ws)
+  told-closing : firstOr (m .first) start ≤ start → start ≤ totalLimit → length xs ≤ sizeLimit → Fine (closing m xs start ws)
   unfolding reportIn reported
   told-closing f h l = (omega arith, omega arith)
 
-  told-accepted : (t : Bool) → firstOr (m .first) start ≤ start → start ≤ 2 ^ 48 → length xs ≤ 2048 → Fine (cond t (closing m xs start ws) (adding m xs start ws))
+  told-accepted : (t : Bool) → firstOr (m .first) start ≤ start → start ≤ totalLimit → length xs ≤ sizeLimit
+      → Fine (cond t (closing m xs start ws) (adding m xs start ws))
   told-accepted true f h l = told-closing f h l
   told-accepted false f h l = tt
 
-  told-by : (a b d : Bool) → isNone n xs ≡ a → badStart (m .end) start .holds ≡ b → begunFits (m .first) (m .end) ≡ true → n ≤ 2048
-      → Fine (cond a (leaving m ws monitor.Nothing) (cond b (leaving m ws monitor.Early) (cond d (leaving m ws (monitor.Beyond (firstBeyondFrom 0 xs))) (acceptedOf m fs xs start ws))))
+  told-by : (a b d : Bool) → isNone n xs ≡ a → badStart (m .end) start .holds ≡ b → begunFits (m .first) (m .end) ≡ true → n ≤ sizeLimit
+      → Fine (cond a (leaving m ws monitor.Nothing)
+      (cond b (leaving m ws monitor.Early) (cond d (leaving m ws (monitor.Beyond (firstBeyondFrom 0 xs))) (acceptedOf m fs xs start ws))))
   told-by true b d e f g h = tt
   told-by false true d e f g h = tt
   told-by false false true e f g h = tt
@@ -111,9 +117,10 @@ module _ (m : ImageMonitor) (fs : Float) (n : ℕ) (xs : List ℕ) (start : ℕ)
       let t = full fs (firstOr (m .first) start) (endOf xs start) in
       let some = is-some n xs e in
       let next = is-next (m .end) start f in
-      subst Fine (sym (accepted-by t m fs xs start ws refl)) (told-accepted t (first-before (m .first) (m .end) start g (next .1)) (next .0) (omega (arith, some .0)))
+      subst Fine (sym (accepted-by t m fs xs start ws refl))
+      (told-accepted t (first-before (m .first) (m .end) start g (next .1)) (next .0) (omega (arith, some .0)))
 
-  pub told-observed : begunFits (m .first) (m .end) ≡ true → n ≤ 2048 → Fine (observed m fs n xs start ws)
+  pub told-observed : begunFits (m .first) (m .end) ≡ true → n ≤ sizeLimit → Fine (observed m fs n xs start ws)
   told-observed g h =
       let a = isNone n xs in
       let b = badStart (m .end) start .holds in
@@ -134,36 +141,41 @@ module _ (c : InputConditioner) (xs : List ℕ) (start : ℕ) (ws : List Float) 
       off : Bool
       off = isOffIq (settledOf (c .settings .iq))
 
-      go : (t : Bool) → Told (cond t (leaving (c .monitor) ws monitor.Nothing) (observed (c .monitor) (c .settings .fs) (c .settings .n) xs start ws) .seen .answer)
+      go : (t : Bool)
+          → Told (cond t (leaving (c .monitor) ws monitor.Nothing) (observed (c .monitor) (c .settings .fs) (c .settings .n) xs start ws) .seen .answer)
       go true = tt
       go false = let f = state-fit c e in told-observed (c .monitor) (c .settings .fs) (c .settings .n) xs start ws (f .first) (f .settings .size)
 
 -- a mark may follow
-pub mark-ready : (cap : ℕ) (x : Logged) (k start len : ℕ) → logFits cap (x .log) ≡ true → length (x .spans) ≡ cap * 24 → k < 12 → start + len ≤ 2 ^ 52 → Fits cap x k (spanOf start len)
+pub mark-ready : (cap : ℕ) (x : Logged) (k start len : ℕ) → logFits cap (x .log) ≡ true → length (x .spans) ≡ cap * storeWidth → k < 12 → start + len ≤ 2 ^ 52
+    → Fits cap x k (spanOf start len)
 unfolding marksAt
 mark-ready cap x k start len e l h s =
     let r = log-range cap (x .log) k e h in
     record {
       store = l;
-      marks = record { ring = record { sound = log-sound cap x k e l h; dropped = omega (arith, r .dropped) }; count = omega (arith, r .count); last = omega arith };
+      marks = record
+          { ring = record { sound = log-sound cap x k e l h; dropped = omega (arith, r .dropped) }; count = omega (arith, r .count); last = omega arith };
     }
 
 -- ---- the state and the words
 
 module _ (c : InputConditioner) (xs : List ℕ) (start : ℕ) (spans : List ℕ) (ws : List Float) where
   abbrev before : Logged
-  before = record { log = c .log; spans = spans }
+  before = record { log = c .notes .log; spans = spans }
 
   abbrev noting : HopAnswer → Logged
   noting a = noted (c .settings .spans) (isObserving (settledOf (c .settings .iq))) a before
 
   -- from what the monitor answered and what was marked
-  pub taken-by : (o : Observed) (l : Log) (out : List ℕ) (a : HopSaid) → o ≡ watched c xs start ws .seen → _≡_ {A = Logged} (record { log = l; spans = out }) (noting (o .answer)) → a ≡ answerOf (o .answer)
-      → (_≡_ {A = HopCalled} (record { state = withMonitor c (o .monitor) l; answer = a }) (taken c xs start spans ws .called)) × (out ≡ taken c xs start spans ws .spans)
+  pub taken-by : (o : Observed) (l : Log) (out : List ℕ) (a : HopSaid) → o ≡ watched c xs start ws .seen
+      → _≡_ {A = Logged} (record { log = l; spans = out }) (noting (o .answer)) → a ≡ answerOf (o .answer)
+      → (_≡_ {A = HopCalled} (record { state = afterHop c (o .monitor) l; answer = a }) (taken c xs start spans ws .called))
+      × (out ≡ taken c xs start spans ws .spans)
   unfolding taken
   taken-by o l out a p q r =
-      let f : Observed → HopCalled = λ s. record { state = withMonitor c (s .monitor) (noting (s .answer) .log); answer = answerOf (s .answer) } in (
-        (λ i. record { state = withMonitor c (o .monitor) (q i .log); answer = r i }) ∙ ap f p,
+      let f : Observed → HopCalled = λ s. record { state = afterHop c (s .monitor) (noting (s .answer) .log); answer = answerOf (s .answer) } in (
+        (λ i. record { state = afterHop c (o .monitor) (q i .log); answer = r i }) ∙ ap f p,
         ap (λ (x : Logged). x .spans) q ∙ ap (λ (s : Observed). noting (s .answer) .spans) p,
       )
 
@@ -180,7 +192,8 @@ module _ (c : InputConditioner) (xs : List ℕ) (start : ℕ) (spans : List ℕ)
   said-answer monitor.Early = refl
   said-answer (monitor.Beyond k) = refl
 
-  said-watched : saidHop (taken c xs start spans ws .called .answer) ≡ cond (isOffIq (settledOf (c .settings .iq))) nothing (hopSaid (c .monitor) (c .settings .fs) (c .settings .n) xs start ws)
+  said-watched : saidHop (taken c xs start spans ws .called .answer)
+      ≡ cond (isOffIq (settledOf (c .settings .iq))) nothing (hopSaid (c .monitor) (c .settings .fs) (c .settings .n) xs start ws)
   unfolding taken
   said-watched = said-answer (watched c xs start ws .seen .answer) ∙ ap (λ (s : Seen). said (s .seen .answer)) (watched-by c xs start ws off refl) ∙ go off
     where

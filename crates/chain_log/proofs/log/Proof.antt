@@ -15,24 +15,10 @@ dc-level-requires c κs = search needs
 returns : tie.Need-returns
 unfolding logOf
 returns c =
-    let s = c .before .before .before .before .before .before .before .before .before .args .state in
+    let s = c .before .before .before .before .before .before .before .before .args .state in
     let d = c .before .dropped .ensures in
-    let l = sym (level-again (c .dc-level .result)) ∙ ap levelFrom (c .dc-level .ensures) in (
-      λ i.
-          record {
-            seen = s .seen;
-            released = s .released;
-            held = s .held;
-            counts = s .log .counts;
-            rings = s .log .rings;
-            dropped = d i;
-            repairs = s .repairs;
-            longruns = s .longruns;
-            dclevel = l i;
-            iq = s .settings .iq;
-          },
-      c .dc-level .ensures,
-    )
+    let l = sym (level-again (c .dc-level .result)) ∙ ap levelFrom (c .dc-level .ensures) in
+    ((λ i. record { counts = s .counts; notes = s .notes; dropped = d i; dclevel = l i; iq = s .settings .iq }), c .dc-level .ensures)
 
 pub log-spec : {M : Type 1} → statement M
 log-spec = tie.close (tie.spec dropped-requires dc-level-requires returns)

@@ -34,7 +34,12 @@ element-copy-out-ring : tie.Need-element-copy-out-ring
 element-copy-out-ring c = search needs
 
 mul-span-at : tie.Need-mul-span-at
-mul-span-at c = omega (arith, store (c .before .before) .few, part-inside (c .before .before .args .capacity * 2) (c .before .before .args .which) (c .before .before .pre .0 .0))
+mul-span-at c =
+    omega (
+      arith,
+      store (c .before .before) .few,
+      part-inside (c .before .before .args .capacity * 2) (c .before .before .args .which) (c .before .before .pre .0 .0),
+    )
 
 sub-span-at : tie.Need-sub-span-at
 sub-span-at c = search needs
@@ -43,7 +48,12 @@ part-span-at-start : tie.Need-part-span-at-start
 part-span-at-start c = search needs
 
 part-span-at-end : tie.Need-part-span-at-end
-part-span-at-end c = omega (arith, store (c .before .before) .long, part-inside (c .before .before .args .capacity * 2) (c .before .before .args .which) (c .before .before .pre .0 .0))
+part-span-at-end c =
+    omega (
+      arith,
+      store (c .before .before) .long,
+      part-inside (c .before .before .args .capacity * 2) (c .before .before .args .which) (c .before .before .pre .0 .0),
+    )
 
 span-at-requires : tie.Need-span-at-requires
 unfolding marksAt

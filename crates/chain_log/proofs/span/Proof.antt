@@ -21,7 +21,8 @@ store-fits-requires c κs = search needs
 returns : tie.Need-returns
 returns c =
     let a = c .before .before .before .before .args in
-    no-store (a .state) (a .spans .now) (ringNumber (stageOf (a .stage)) (markOf (a .kind))) (a .i) (sym (c .before .store-fits .ensures) ∙ not-true _ (c .if1 .taken))
+    no-store (a .state) (a .spans .now) (ringNumber (stageOf (a .stage)) (markOf (a .kind))) (a .i)
+    (sym (c .before .store-fits .ensures) ∙ not-true _ (c .if1 .taken))
 
 ring-number-requires : tie.Need-ring-number-requires
 ring-number-requires c κs = search needs
@@ -30,11 +31,13 @@ few : (c : tie.After-ring-number) → c .ring-number .result < 12
 few c = let a = c .before .before .before .before .before .args in omega (arith, c .ring-number .ensures, ring-few (a .stage) (a .kind))
 
 -- the test of the ring that the stage and the kind name
-has : (c : tie.After-has-span) → let a = c .before .before .before .before .before .before .before .before .args in let r = ringOf (a .state .log) (ringNumber (stageOf (a .stage)) (markOf (a .kind))) in
+has : (c : tie.After-has-span) → let a = c .before .before .before .before .before .before .before .before .args in
+    let r = ringOf (a .state .notes .log) (ringNumber (stageOf (a .stage)) (markOf (a .kind))) in
     (readable (a .state .settings .spans) r && ltb (a .i) (r .count)) ≡ c .has-span .result
 has c =
     let a = c .before .before .before .before .before .before .before .before .args in
-    ap (λ (k : ℕ). readable (a .state .settings .spans) (ringOf (a .state .log) k) && ltb (a .i) (ringOf (a .state .log) k .count)) (sym (c .before .before .before .ring-number .ensures))
+    ap (λ (k : ℕ). readable (a .state .settings .spans) (ringOf (a .state .notes .log) k) && ltb (a .i) (ringOf (a .state .notes .log) k .count))
+    (sym (c .before .before .before .ring-number .ensures))
     ∙ sym (c .has-span .ensures)
 
 mul-ring : tie.Need-mul-ring
@@ -55,7 +58,11 @@ returns-2 c =
 
 read-span-requires : tie.Need-read-span-requires
 read-span-requires c κs = (
-  (few (c .before .before .before .before), sym (c .before .before .before .before .before .before .store-fits .ensures) ∙ not-false _ (c .before .before .before .before .before .if1 .left)),
+  (
+    few (c .before .before .before .before),
+    sym (c .before .before .before .before .before .before .store-fits .ensures)
+        ∙ not-false _ (c .before .before .before .before .before .if1 .left),
+  ),
   sym (c .before .has-span .ensures) ∙ not-false _ (c .if2 .left),
 )
 
@@ -64,7 +71,8 @@ returns-3 c =
     let a = c .before .before .before .before .before .before .before .before .before .before .args in
     ap found (rw (c .before .before .before .before .before .ring-number .ensures) at (c .read-span .ensures))
     ∙ one-span (a .state) (a .spans .now) (ringNumber (stageOf (a .stage)) (markOf (a .kind))) (a .i)
-    (sym (c .before .before .before .before .before .before .before .store-fits .ensures) ∙ not-false _ (c .before .before .before .before .before .before .if1 .left))
+    (sym (c .before .before .before .before .before .before .before .store-fits .ensures)
+    ∙ not-false _ (c .before .before .before .before .before .before .if1 .left))
     (has (c .before .before) ∙ not-false _ (c .before .if2 .left))
 
 pub span-spec : {M : Type 1} → statement M

@@ -19,7 +19,8 @@ mul-result : tie.Need-mul-result
 mul-result c = search needs
 
 returns-3 : tie.Need-returns-3
-returns-3 c = let h : 0 < c .before .before .args .capacity = omega (arith, c .before .if1 .left) in three _ _ _ true true _ (lt-ltb 0 _ h) (le-leb _ _ (c .if2 .left)) refl
+returns-3 c = let h : 0 < c .before .before .args .capacity = omega (arith, c .before .if1 .left) in
+    three _ _ _ true true _ (lt-ltb 0 _ h) (le-leb _ _ (c .if2 .left)) refl
 
 pub store-fits-spec : {M : Type 1} → statement M
 store-fits-spec = tie.close (tie.spec returns returns-2 mul-result returns-3)

@@ -9,7 +9,7 @@ use lib.Dec.{ltb, leb, eqb}
 use lib.ListN.{length, getD, drop, length-drop}
 use lib.Seq.{length-take-le}
 use Rattle.rules.specs.laws.TestLaws.{both}
-use Rattle.rules.specs.Log.{Span, spanOf, Sound}
+use Rattle.rules.specs.Log.{Span, spanOf, Sound, storeWidth}
 use Rattle.rules.specs.laws.RingReading.{length-spans}
 use Rattle.log.specs.declared.Ring.{Ring}
 use Rattle.log.specs.View.{Logged, marksAt}
@@ -41,16 +41,17 @@ number-past (s ∷ l) (suc i) h = number-past l i (omega arith)
 pub record Store (cap words : ℕ) : Type 0 where
   pub some : 0 < cap
   pub few : cap ≤ 256
-  pub long : words ≡ 24 * cap
+  pub long : words ≡ storeWidth * cap
 
 pub store-is : (cap words : ℕ) → storeFits cap words ≡ true → Store cap words
 store-is cap words e =
-    let p = both (ltb 0 cap && leb cap 256) (eqb words (24 * cap)) e in
+    let p = both (ltb 0 cap && leb cap 256) (eqb words (storeWidth * cap)) e in
     let q = both (ltb 0 cap) (leb cap 256) (p .0) in
-    record { some = ltb-true 0 cap (q .0); few = leb-true cap 256 (q .1); long = eqb-true words (24 * cap) (p .1) }
+    record { some = ltb-true 0 cap (q .0); few = leb-true cap 256 (q .1); long = eqb-true words (storeWidth * cap) (p .1) }
 
 -- a ring in a store that fits is sound
-pub read-sound : (cap : ℕ) (x : Logged) (k : ℕ) → storeFits cap (length (x .spans)) ≡ true → readable cap (ringOf (x .log) k) ≡ true → k < 12 → Sound 2 cap (marksAt cap x k .ring)
+pub read-sound : (cap : ℕ) (x : Logged) (k : ℕ) → storeFits cap (length (x .spans)) ≡ true → readable cap (ringOf (x .log) k) ≡ true → k < 12
+    → Sound 2 cap (marksAt cap x k .ring)
 unfolding marksAt
 read-sound cap x k s r h =
     let t = store-is cap (length (x .spans)) s in
@@ -74,11 +75,11 @@ module _ (c : InputConditioner) (ws : List ℕ) (k i : ℕ) where
   cap = c .settings .spans
 
   abbrev ring : Ring
-  ring = ringOf (c .log) k
+  ring = ringOf (c .notes .log) k
 
   spans-many : length (spansIn c ws k) ≡ ring .count
   unfolding marksAt
-  spans-many = length-spans cap (marksAt cap (record { log = c .log; spans = ws }) k .ring)
+  spans-many = length-spans cap (marksAt cap (record { log = c .notes .log; spans = ws }) k .ring)
 
   pub no-store : storeFits cap (length ws) ≡ false → noSpan ≡ spanRead c ws k i
   unfolding spanRead
@@ -96,7 +97,8 @@ module _ (c : InputConditioner) (ws : List ℕ) (k i : ℕ) where
       (ap (λ (t : Bool). cond (t && readable cap ring) (numberIn (spansIn c ws k) i) noSpan) e
       ∙ by-readable (readable cap ring) (ltb i (ring .count)) refl refl f)
 
-  pub one-span : storeFits cap (length ws) ≡ true → (readable cap ring && ltb i (ring .count)) ≡ true → found (getD (spansIn c ws k) i (spanOf 0 0)) ≡ spanRead c ws k i
+  pub one-span : storeFits cap (length ws) ≡ true → (readable cap ring && ltb i (ring .count)) ≡ true
+      → found (getD (spansIn c ws k) i (spanOf 0 0)) ≡ spanRead c ws k i
   unfolding spanRead
   one-span e f =
       let h = has-is cap ring i f in

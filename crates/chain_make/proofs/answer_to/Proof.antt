@@ -27,7 +27,8 @@ returns-2 c =
     let a = c .before .before .before .before .args in
     c .answer-of .ensures
     ∙ ap numbered (c .before .fits2 .ensures)
-    ∙ sym (said-by (configOf (a .config)) (a .spans) (a .repairs) (a .words) false (sym (c .before .before .before .is-off .ensures) ∙ c .before .before .if1 .left))
+    ∙ sym (said-by (configOf (a .config)) (a .spans) (a .repairs) (a .words) false
+    (sym (c .before .before .before .is-off .ensures) ∙ c .before .before .if1 .left))
 
 pub answer-to-spec : {M : Type 1} → statement M
 answer-to-spec =

@@ -19,12 +19,16 @@ fresh-requires-2 c κs = search needs
 fresh-requires-3 : tie.Need-fresh-requires-3
 fresh-requires-3 c κs = search needs
 
-fresh-requires-4 : tie.Need-fresh-requires-4
-fresh-requires-4 c κs = search needs
-
 returns : tie.Need-returns
 unfolding freshState
-returns c = rw (c .before .before .before .before .before .fresh-settings .ensures, c .before .before .before .before .fresh-suppressor .ensures, c .before .before .before .fresh .ensures, c .before .before .fresh2 .ensures, c .before .fresh3 .ensures, c .fresh4 .ensures)
+returns c =
+    rw (
+      c .before .before .before .before .fresh-settings .ensures,
+      c .before .before .before .fresh-suppressor .ensures,
+      c .before .before .fresh .ensures,
+      c .before .fresh2 .ensures,
+      c .fresh3 .ensures,
+    )
 
 pub fresh-state-spec : {M : Type 1} → statement M
 fresh-state-spec =
@@ -35,5 +39,4 @@ fresh-state-spec =
     fresh-requires
     fresh-requires-2
     fresh-requires-3
-    fresh-requires-4
     returns)

@@ -59,10 +59,13 @@ same-length-3 c = search needs
 
 returns-2 : tie.Need-returns-2
 returns-2 c =
-    let a = c .before .before .before .before .before .before .before .before .before .before .before .before .before .before .before .before .before .before .before .args in
+    let a = c .before .before .before .before .before .before .before .before .before .before .before .before .before .before .before .before .before .before
+    .before .args in
     let w = makingSaid (configOf (a .config)) (length (a .spans .now)) (length (a .repairs .now)) (length (a .words .now)) in
     let said = c .before .before .before .before .before .before .before .before .before .before .before .before .before .before .answer-to .ensures in
-    let yes : isMade w ≡ true = ap isMade (sym said) ∙ sym (c .before .before .before .before .before .before .before .before .before .before .before .before .before .is-made .ensures) ∙ not-false _ (c .before .before .before .before .before .before .before .before .before .before .before .before .if1 .left) in (
+    let yes : isMade w ≡ true = ap isMade (sym said)
+    ∙ sym (c .before .before .before .before .before .before .before .before .before .before .before .before .before .is-made .ensures)
+    ∙ not-false _ (c .before .before .before .before .before .before .before .before .before .before .before .before .if1 .left) in (
       said,
       (
         c .before .before .before .before .before .before .before .before .before .before .before .before .before .before .before .fresh-state .ensures,

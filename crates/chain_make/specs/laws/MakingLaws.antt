@@ -25,7 +25,8 @@ settled-again (Correcting r) = refl
 settled-again Withheld = refl
 
 -- the answer by whether all is off
-pub said-by : (c : Config) (spans repairs words : ℕ) (t : Bool) → allOff c ≡ t → makingSaid c spans repairs words ≡ cond t nothing (numbered (refusal c spans repairs words))
+pub said-by : (c : Config) (spans repairs words : ℕ) (t : Bool) → allOff c ≡ t
+    → makingSaid c spans repairs words ≡ cond t nothing (numbered (refusal c spans repairs words))
 unfolding makingSaid
 said-by c spans repairs words t e = ap (λ (b : Bool). cond b nothing (numbered (refusal c spans repairs words))) e
 

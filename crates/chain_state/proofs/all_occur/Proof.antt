@@ -51,7 +51,9 @@ unfolding allTo
 loop-again c =
     let a = c .before .before .before .before .args in
     let l = c .before .before .before .loop in
-    let here = c .occurs .ensures .0 ∙ ap (λ (x : Float). occurs x (a .window .now)) (any-default (a .sorted .now) (l .k) nan zeroF (omega (arith, c .before .before .before .before .pre .1, c .before .before .loop-test .taken))) in
+    let here = c .occurs .ensures .0
+    ∙ ap (λ (x : Float). occurs x (a .window .now))
+    (any-default (a .sorted .now) (l .k) nan zeroF (omega (arith, c .before .before .before .before .pre .1, c .before .before .loop-test .taken))) in
     (search needs, rw (add-one (l .k)) (λ i. l .inv .1 i && here i), λ h. c .occurs .ensures .1)
 
 returns : tie.Need-returns Inv-loop μ-loop

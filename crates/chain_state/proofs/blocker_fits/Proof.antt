@@ -24,7 +24,9 @@ part-fits-requires-2 c κs = search needs
 
 returns-3 : tie.Need-returns-3
 unfolding blockerFits
-returns-3 c = three _ _ _ true true _ (le-leb _ _ (c .before .before .before .if1 .left)) (sym (c .before .before .part-fits .ensures) ∙ not-false _ (c .before .if2 .left)) (sym (c .part-fits2 .ensures))
+returns-3 c =
+    three _ _ _ true true _ (le-leb _ _ (c .before .before .before .if1 .left))
+    (sym (c .before .before .part-fits .ensures) ∙ not-false _ (c .before .if2 .left)) (sym (c .part-fits2 .ensures))
 
 pub blocker-fits-spec : {M : Type 1} → statement M
 blocker-fits-spec =

@@ -20,7 +20,7 @@ returns c = four _ _ _ _ false _ _ _ (lt-leb _ _ (c .if1 .taken)) refl refl refl
 
 returns-2 : tie.Need-returns-2
 unfolding countsFit
-returns-2 c = four _ _ _ _ true false _ _ (le-leb _ _ (c .before .if1 .left)) (lt-leb _ _ (c .if2 .taken)) refl refl
+returns-2 c = four _ _ _ _ true false _ _ (le-leb _ _ (c .before .before .if1 .left)) (lt-leb _ _ (c .if2 .taken)) refl refl
 
 held-by-requires : tie.Need-held-by-requires
 held-by-requires c κs = search needs
@@ -29,28 +29,28 @@ returns-3 : tie.Need-returns-3
 unfolding countsFit
 returns-3 c =
     four _ _ _ _ true true false _
-    (le-leb _ _ (c .before .before .before .if1 .left))
-    (le-leb _ _ (c .before .before .if2 .left))
-    (ne-eqb _ _ (λ e. c .if3 .taken (e ∙ sym (c .before .held-by .ensures))))
+    (le-leb _ _ (c .before .before .before .before .before .if1 .left))
+    (le-leb _ _ (c .before .before .before .if2 .left))
+    (ne-eqb _ _ (λ e. c .if3 .taken (e ∙ sym (c .before .before .held-by .ensures))))
     refl
 
-held-is : (c : tie.Else3) → let a = c .before .before .before .before .args in a .held ≡ heldBy (a .applies) (a .seen)
-held-is c = c .if3 .left ∙ c .before .held-by .ensures
+held-is : (c : tie.Else3) → let a = c .before .before .before .before .before .before .before .args in a .counts .held ≡ heldBy (a .applies) (a .counts .seen)
+held-is c = c .if3 .left ∙ c .before .before .held-by .ensures
 
 add-result : tie.Need-add-result
 add-result c =
-    let a = c .before .before .before .before .args in
-    let r = c .before .before .if2 .left in
-    let h : a .held ≤ 21 = subst (λ (k : ℕ). k ≤ 21) (sym (held-is c)) (few-held (a .applies) (a .seen)) in
+    let a = c .before .before .before .before .before .before .before .before .args in
+    let r = c .before .before .before .before .if2 .left in
+    let h : a .counts .held ≤ 21 = subst (λ (k : ℕ). k ≤ 21) (sym (held-is (c .before))) (few-held (a .applies) (a .counts .seen)) in
     omega arith
 
 returns-4 : tie.Need-returns-4
 unfolding countsFit
 returns-4 c =
     four _ _ _ _ true true true _
-    (le-leb _ _ (c .before .before .before .if1 .left))
-    (le-leb _ _ (c .before .before .if2 .left))
-    (eq-eqb _ _ (held-is c))
+    (le-leb _ _ (c .before .before .before .before .before .before .before .if1 .left))
+    (le-leb _ _ (c .before .before .before .before .before .if2 .left))
+    (eq-eqb _ _ (held-is (c .before .before)))
     refl
 
 pub counts-fit-spec : {M : Type 1} → statement M

@@ -48,7 +48,8 @@ unfolding allTo
 loop-again c =
     let xs = c .before .before .before .before .args .window .now in
     let l = c .before .before .before .loop in
-    let here = c .power-fits .ensures ∙ ap powerFits (any-default xs (l .k) nan zeroF (omega (arith, c .before .before .before .before .pre, c .before .before .loop-test .taken))) in
+    let here = c .power-fits .ensures
+    ∙ ap powerFits (any-default xs (l .k) nan zeroF (omega (arith, c .before .before .before .before .pre, c .before .before .loop-test .taken))) in
     (search needs, rw (add-one (l .k)) (λ i. l .inv .1 i && here i))
 
 returns : tie.Need-returns Inv-loop μ-loop

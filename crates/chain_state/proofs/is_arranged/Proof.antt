@@ -12,8 +12,8 @@ use Rattle.chain_state.proofs.Arranged.{window-sorted}
 use Rattle.chain_state.proofs.is_arranged.Statement.{statement}
 use Rattle.chain_state.proofs.is_arranged.Tie as tie
 
-ascends-requires : tie.Need-ascends-requires
-ascends-requires c κs = search needs
+strictly-ascends-requires : tie.Need-strictly-ascends-requires
+strictly-ascends-requires c κs = search needs
 
 returns : tie.Need-returns
 returns c = λ e. absurd (subst T (sym e) tt)
@@ -26,7 +26,7 @@ returns-2 c =
     let st = c .before .before .before in
     let w = st .args .window .now in
     let s = st .args .sorted .now in
-    let u = c .before .before .ascends .ensures in
+    let u = c .before .before .strictly-ascends .ensures in
     let v = c .all-occur .ensures in
     let n : length s ≡ 33 = st .pre .1 in
     let m : length w ≡ 33 = st .pre .0 in
@@ -34,4 +34,4 @@ returns-2 c =
     (λ k h. all-at (λ k. occurs (getD s k zeroF) w) 33 k (sym (v .0) ∙ e) (omega arith))
 
 pub is-arranged-spec : {M : Type 1} → statement M
-is-arranged-spec = tie.close (tie.spec ascends-requires returns all-occur-requires returns-2)
+is-arranged-spec = tie.close (tie.spec strictly-ascends-requires returns all-occur-requires returns-2)

@@ -17,7 +17,8 @@ use Rattle.chain_state.proofs.occurs.Statement.{statement}
 use Rattle.chain_state.proofs.occurs.Tie as tie
 
 -- the next one
-next : (x : Float) (l : List Float) (k : ℕ) (so this : Bool) → k < length l → so ≡ occurs x (take k l) → All Held (take k l) → this ≡ eq x (getD l k nan) → Held (getD l k nan)
+next : (x : Float) (l : List Float) (k : ℕ) (so this : Bool) → k < length l → so ≡ occurs x (take k l) → All Held (take k l) → this ≡ eq x (getD l k nan)
+    → Held (getD l k nan)
     → ((so || this) ≡ occurs x (take (k + 1) l)) × All Held (take (k + 1) l)
 next x l k so this h e a f g =
     let one : k + 1 ≡ suc k = omega arith in

@@ -18,7 +18,8 @@ to-bits32-requires c κs = search needs
 
 returns : tie.Need-returns
 unfolding powerFits
-returns c = let s = c .before .before in bit-set binary32 powerLimit (s .args .p) (held s) (subst (λ (b : ℕ). 2 ^ 31 ≤ b) (c .before .to-bits32 .ensures) (c .if1 .taken))
+returns c = let s = c .before .before in
+    bit-set binary32 powerLimit (s .args .p) (held s) (subst (λ (b : ℕ). 2 ^ 31 ≤ b) (c .before .to-bits32 .ensures) (c .if1 .taken))
 
 widen-requires : tie.Need-widen-requires
 widen-requires c κs = search needs
@@ -27,7 +28,8 @@ returns-2 : tie.Need-returns-2
 unfolding powerFits
 returns-2 c =
     let s = c .before .before .before in
-    ap (λ (x : Float). le x powerLimit) (c .widen .ensures) ∙ bit-clear binary32 powerLimit (s .args .p) (subst (λ (b : ℕ). b < 2 ^ 31) (c .before .before .to-bits32 .ensures) (c .before .if1 .left))
+    ap (λ (x : Float). le x powerLimit) (c .widen .ensures)
+    ∙ bit-clear binary32 powerLimit (s .args .p) (subst (λ (b : ℕ). b < 2 ^ 31) (c .before .before .to-bits32 .ensures) (c .before .if1 .left))
 
 pub power-fits-spec : {M : Type 1} → statement M
 power-fits-spec = tie.close (tie.spec to-bits32-requires returns widen-requires returns-2)

@@ -8,8 +8,9 @@ use lib.ListN.{getD}
 use lib.Ieee.{Float}
 use borrow.Author.Needs.{needs}
 use Rattle.rules.specs.Constants.{zeroF}
+use Rattle.rules.specs.Impulse.{windowSize}
 use Rattle.log.specs.laws.CheckLaws.{all-at, all-of}
-use Rattle.chain_state.specs.Fits.{windowSize, powerFits, powersFit}
+use Rattle.chain_state.specs.Fits.{powerFits, powersFit}
 use Rattle.chain_state.proofs.powers_fit.Statement.{statement}
 use Rattle.chain_state.proofs.powers_fit.Tie as tie
 

@@ -19,7 +19,8 @@ is-fit-requires : tie.Need-is-fit-requires
 is-fit-requires c κs = search needs
 
 -- whether the settings are fit, by the answer t
-fitting : (c : tie.After-is-fit) (t : Bool) → c .is-fit .result ≡ t → let s = c .before .before .args .s in eqb (settingRefusal (s .fs) (s .n) (s .spans) (s .repairs)) 0 ≡ t
+fitting : (c : tie.After-is-fit) (t : Bool) → c .is-fit .result ≡ t → let s = c .before .before .args .s in
+    eqb (settingRefusal (s .fs) (s .n) (s .spans) (s .repairs)) 0 ≡ t
 fitting c t e = ap (λ (k : ℕ). eqb k 0) (sym (c .before .settings-fit .ensures)) ∙ sym (c .is-fit .ensures) ∙ e
 
 returns : tie.Need-returns

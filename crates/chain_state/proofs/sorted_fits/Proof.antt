@@ -22,7 +22,8 @@ unfolding sortedFits
 arranged n w s h a =
     let same : sort lt (take n w) ≡ s = rw (take-all n w (omega arith)) a in
     sym (all-of (λ k. eqb (toBits binary64 (getD s k zeroF)) (toBits binary64 (getD (sort lt (take n w)) k zeroF))) n
-    (λ k q. eq-eqb (toBits binary64 (getD s k zeroF)) (toBits binary64 (getD (sort lt (take n w)) k zeroF)) (ap (λ (l : List Float). toBits binary64 (getD l k zeroF)) (sym same))))
+    (λ k q. eq-eqb (toBits binary64 (getD s k zeroF)) (toBits binary64 (getD (sort lt (take n w)) k zeroF))
+    (ap (λ (l : List Float). toBits binary64 (getD l k zeroF)) (sym same))))
 
 sorts-to-requires : tie.Need-sorts-to-requires
 sorts-to-requires c κs = search needs

@@ -9,7 +9,8 @@ use lib.Seq.{length-take-le}
 use lib.Ieee.{Float, binary64, toBits, lt}
 use Rattle.rules.specs.Constants.{zeroF}
 use Rattle.rules.specs.Sort.{sort}
-use Rattle.chain_state.specs.Fits.{windowSize, sortedFits}
+use Rattle.rules.specs.Impulse.{windowSize}
+use Rattle.chain_state.specs.Fits.{sortedFits}
 use Rattle.chain_state.proofs.Powers.{copied-length, over-length, over-first, all-same}
 use borrow.Author.Needs.{needs}
 use Rattle.chain_state.proofs.sorts_to.Statement.{statement}
@@ -59,7 +60,11 @@ same-powers-requires c κs =
     let b = s .before .before in
     let p = b .before .before .pre in (
       p .0,
-      (p .1 .1, over-length (n b) (xs b) (zs b) (ws b) (few b) (room b) (copied b) (s .sort-words .last .0) (s .sort-words .ensures) ∙ length-replicate windowSize zeroF),
+      (
+        p .1 .1,
+        over-length (n b) (xs b) (zs b) (ws b) (few b) (room b) (copied b) (s .sort-words .last .0) (s .sort-words .ensures)
+            ∙ length-replicate windowSize zeroF,
+      ),
     )
 
 returns : tie.Need-returns
@@ -74,7 +79,8 @@ returns c =
     (λ k. eqb (toBits binary64 (getD sorted k zeroF)) (toBits binary64 (getD (last ++ drop (n b) (ws b)) k zeroF)))
     (λ k. eqb (toBits binary64 (getD sorted k zeroF)) (toBits binary64 (getD (sort lt (take (n b) (xs b))) k zeroF)))
     (n b)
-    (λ k h. ap (λ (x : Float). eqb (toBits binary64 (getD sorted k zeroF)) (toBits binary64 x)) (over-first (n b) (xs b) (zs b) (ws b) (few b) (room b) (copied b) last (s .sort-words .ensures) k zeroF h))
+    (λ k h. ap (λ (x : Float). eqb (toBits binary64 (getD sorted k zeroF)) (toBits binary64 x))
+    (over-first (n b) (xs b) (zs b) (ws b) (few b) (room b) (copied b) last (s .sort-words .ensures) k zeroF h))
 
 pub sorts-to-spec : {M : Type 1} → statement M
 sorts-to-spec =

@@ -8,7 +8,7 @@ use lib.Dec.{ltb, eqb}
 use lib.Ieee.{Float}
 use borrow.Author.Tests.{leb-true, eqb-true}
 use Rattle.rules.specs.laws.TestLaws.{both}
-use Rattle.rules.specs.Impulse.{blockLength}
+use Rattle.rules.specs.Impulse.{blockLength, nextJudged}
 use Rattle.amplitude_limit.specs.Limit.{limited}
 use Rattle.log.specs.Check.{ringFits, logFits}
 use Rattle.impulse.specs.declared.Open.{Open}
@@ -22,8 +22,11 @@ use Rattle.iq_monitor.specs.declared.ImageMonitor.{ImageMonitor}
 use Rattle.chain_config.specs.Config.{settingRefusal}
 use Rattle.chain_config.specs.laws.ConfigLaws.{Limits, setting-limits}
 use Rattle.chain_state.specs.declared.Settings.{Settings}
+use Rattle.chain_state.specs.declared.Counts.{Counts}
 use Rattle.chain_state.specs.declared.InputConditioner.{InputConditioner}
-use Rattle.chain_state.specs.Fits.{counter, nextJudged, settingsFit, applies, heldBy, countsFit, runFits, leftFits, gateFits, windowHeld, pendingHeld, powersFit, samplesFit, arraysFit, sortedFits, runningFits, suppressorFits, blockerFits, coefficientFits, begunFits, monitorFits, logsFit, stagesFit, frontFits, stateFits}
+use Rattle.chain_state.specs.Fits.{counter, settingsFit, applies, heldBy, countsFit, runFits, leftFits, gateFits, windowHeld, pendingHeld, powersFit}
+use Rattle.chain_state.specs.Fits.{samplesFit, arraysFit, sortedFits, runningFits, suppressorFits, blockerFits, coefficientFits, begunFits, monitorFits}
+use Rattle.chain_state.specs.Fits.{logsFit, stagesFit, frontFits, stateFits}
 use Rattle.chain_state.specs.laws.Blocks.{block-some}
 
 pub three : (a b c : Bool) → (a && b && c) ≡ true → (a ≡ true) × (b ≡ true) × (c ≡ true)
@@ -47,16 +50,16 @@ settings-fit s block e =
     let b = eqb-true block (blockLength (s .fs)) (p .1) in
     record { limits = l; block = b; blocks = subst (λ (k : ℕ). 0 < k) (sym b) (block-some (s .fs) (l .rate)) }
 
-pub record CountsFit (a : Bool) (n r h : ℕ) : Type 0 where
-  pub seen : n ≤ 2 ^ 52
-  pub released : r ≤ 2 ^ 52
-  pub held : h ≡ heldBy a n
-  pub sum : r + h ≡ n
+pub record CountsFit (a : Bool) (n : Counts) : Type 0 where
+  pub seen : n .seen ≤ 2 ^ 52
+  pub released : n .released ≤ 2 ^ 52
+  pub held : n .held ≡ heldBy a (n .seen)
+  pub sum : n .released + n .held ≡ n .seen
 
-pub counts-fit : (a : Bool) (n r h : ℕ) → countsFit a n r h ≡ true → CountsFit a n r h
+pub counts-fit : (a : Bool) (n : Counts) → countsFit a n ≡ true → CountsFit a n
 unfolding countsFit
-counts-fit a n r h e =
-    let p = four (counter n) (counter r) (eqb h (heldBy a n)) (eqb (r + h) n) e in
+counts-fit a n e =
+    let p = four (counter (n .seen)) (counter (n .released)) (eqb (n .held) (heldBy a (n .seen))) (eqb (n .released + n .held) (n .seen)) e in
     record { seen = leb-true _ _ (p .0); released = leb-true _ _ (p .1); held = eqb-true _ _ (p .2); sum = eqb-true _ _ (p .3) }
 
 run-end : (run : Open) (j : ℕ) → runFits run j ≡ true → runEnd run ≤ j
@@ -67,19 +70,19 @@ run-end (Running r) j e =
 
 pub record GateFits (g : Gate) : Type 0 where
   pub received : g .received ≤ 2 ^ 52
-  pub block : g .block ≤ 2 ^ 52
-  pub flagged : g .flagged ≤ 2 ^ 52
-  pub open-run : runFits (g .run) (nextJudged (g .received)) ≡ true
-  pub run : runEnd (g .run) ≤ g .received
-  pub left : leftFits (g .left) ≡ true
+  pub block : g .block .number ≤ 2 ^ 52
+  pub flagged : g .block .flagged ≤ 2 ^ 52
+  pub open-run : runFits (g .mending .run) (nextJudged (g .received)) ≡ true
+  pub run : runEnd (g .mending .run) ≤ g .received
+  pub left : leftFits (g .mending .left) ≡ true
 
 pub gate-fits : (g : Gate) → gateFits g ≡ true → GateFits g
 unfolding gateFits
 gate-fits g e =
-    let r = runFits (g .run) (nextJudged (g .received)) in
-    let p = both (counter (g .received) && counter (g .block) && counter (g .flagged) && r) (leftFits (g .left)) e in
-    let q = four (counter (g .received)) (counter (g .block)) (counter (g .flagged)) r (p .0) in
-    let h : runEnd (g .run) ≤ nextJudged (g .received) = run-end (g .run) (nextJudged (g .received)) (q .3) in
+    let r = runFits (g .mending .run) (nextJudged (g .received)) in
+    let p = both (counter (g .received) && counter (g .block .number) && counter (g .block .flagged) && r) (leftFits (g .mending .left)) e in
+    let q = four (counter (g .received)) (counter (g .block .number)) (counter (g .block .flagged)) r (p .0) in
+    let h : runEnd (g .mending .run) ≤ nextJudged (g .received) = run-end (g .mending .run) (nextJudged (g .received)) (q .3) in
     record {
       received = leb-true _ _ (q .0);
       block = leb-true _ _ (q .1);
@@ -146,34 +149,37 @@ monitor-fits m e =
 -- ---- the state by its groups
 
 pub record Groups (c : InputConditioner) : Type 0 where
-  pub settings : SettingsFit (c .settings) (c .suppressor .gate .blocklen)
-  pub counts : CountsFit (applies c) (c .seen) (c .released) (c .held)
+  pub settings : SettingsFit (c .settings) (c .suppressor .gate .settings .blocklen)
+  pub counts : CountsFit (applies c) (c .counts)
   pub gate : GateFits (c .suppressor .gate)
-  pub suppressor : SuppressorFits (c .suppressor) (c .settings .impulse) (c .seen)
-  pub log : logFits (c .settings .spans) (c .log) ≡ true
-  pub repairs : ringFits (c .settings .repairs) (c .repairs) (c .longruns) ≡ true
+  pub suppressor : SuppressorFits (c .suppressor) (c .settings .impulse) (c .counts .seen)
+  pub log : logFits (c .settings .spans) (c .notes .log) ≡ true
+  pub repairs : ringFits (c .settings .repairs) (c .notes .repairs) (c .notes .longruns) ≡ true
   pub blocker : BlockerFits (c .blocker)
   pub coefficient : coefficientFits (settledOf (c .settings .iq)) ≡ true
   pub monitor : MonitorFits (c .monitor)
 
 module _ (c : InputConditioner) where
-  front : frontFits c ≡ true → (settingsFit (c .settings) (c .suppressor .gate .blocklen) ≡ true) × (countsFit (applies c) (c .seen) (c .released) (c .held) ≡ true) × (gateFits (c .suppressor .gate) ≡ true)
+  front : frontFits c ≡ true
+      → (settingsFit (c .settings) (c .suppressor .gate .settings .blocklen) ≡ true) × (countsFit (applies c) (c .counts) ≡ true)
+      × (gateFits (c .suppressor .gate) ≡ true)
   unfolding frontFits
   front e =
-      three (settingsFit (c .settings) (c .suppressor .gate .blocklen)) (countsFit (applies c) (c .seen) (c .released) (c .held)) (gateFits (c .suppressor .gate)) e
+      three (settingsFit (c .settings) (c .suppressor .gate .settings .blocklen)) (countsFit (applies c) (c .counts)) (gateFits (c .suppressor .gate)) e
 
-  logs : logsFit c ≡ true → (logFits (c .settings .spans) (c .log) ≡ true) × (ringFits (c .settings .repairs) (c .repairs) (c .longruns) ≡ true)
+  logs : logsFit c ≡ true
+      → (logFits (c .settings .spans) (c .notes .log) ≡ true) × (ringFits (c .settings .repairs) (c .notes .repairs) (c .notes .longruns) ≡ true)
   unfolding logsFit
-  logs e = both (logFits (c .settings .spans) (c .log)) (ringFits (c .settings .repairs) (c .repairs) (c .longruns)) e
+  logs e = both (logFits (c .settings .spans) (c .notes .log)) (ringFits (c .settings .repairs) (c .notes .repairs) (c .notes .longruns)) e
 
   stages : stagesFit c ≡ true → (blockerFits (c .blocker) ≡ true) × (coefficientFits (settledOf (c .settings .iq)) ≡ true) × (monitorFits (c .monitor) ≡ true)
   unfolding stagesFit
   stages e = three (blockerFits (c .blocker)) (coefficientFits (settledOf (c .settings .iq))) (monitorFits (c .monitor)) e
 
   parts : stateFits c ≡ true
-      → (frontFits c ≡ true) × (suppressorFits (c .suppressor) (c .settings .impulse) (c .seen) ≡ true) × (logsFit c ≡ true) × (stagesFit c ≡ true)
+      → (frontFits c ≡ true) × (suppressorFits (c .suppressor) (c .settings .impulse) (c .counts .seen) ≡ true) × (logsFit c ≡ true) × (stagesFit c ≡ true)
   unfolding stateFits
-  parts e = four (frontFits c) (suppressorFits (c .suppressor) (c .settings .impulse) (c .seen)) (logsFit c) (stagesFit c) e
+  parts e = four (frontFits c) (suppressorFits (c .suppressor) (c .settings .impulse) (c .counts .seen)) (logsFit c) (stagesFit c) e
 
   pub state-groups : stateFits c ≡ true → Groups c
   state-groups e =
@@ -182,10 +188,10 @@ module _ (c : InputConditioner) where
       let l = logs (p .2) in
       let t = stages (p .3) in
       record {
-        settings = settings-fit (c .settings) (c .suppressor .gate .blocklen) (f .0);
-        counts = counts-fit (applies c) (c .seen) (c .released) (c .held) (f .1);
+        settings = settings-fit (c .settings) (c .suppressor .gate .settings .blocklen) (f .0);
+        counts = counts-fit (applies c) (c .counts) (f .1);
         gate = gate-fits (c .suppressor .gate) (f .2);
-        suppressor = suppressor-fits (c .suppressor) (c .settings .impulse) (c .seen) (p .1);
+        suppressor = suppressor-fits (c .suppressor) (c .settings .impulse) (c .counts .seen) (p .1);
         log = l .0;
         repairs = l .1;
         blocker = blocker-fits (c .blocker) (t .0);
@@ -196,18 +202,18 @@ module _ (c : InputConditioner) where
 -- what callers ask
 pub record Fit (c : InputConditioner) : Type 0 where
   pub settings : Limits (c .settings .fs) (c .settings .n) (c .settings .spans) (c .settings .repairs)
-  pub block : c .suppressor .gate .blocklen ≡ blockLength (c .settings .fs)
-  pub blocks : 0 < c .suppressor .gate .blocklen
-  pub seen : c .seen ≤ 2 ^ 52
-  pub released : c .released ≤ 2 ^ 52
-  pub held : c .held ≡ heldBy (applies c) (c .seen)
-  pub sum : c .released + c .held ≡ c .seen
-  pub flags : c .suppressor .gate .flagged ≤ 2 ^ 52
+  pub block : c .suppressor .gate .settings .blocklen ≡ blockLength (c .settings .fs)
+  pub blocks : 0 < c .suppressor .gate .settings .blocklen
+  pub seen : c .counts .seen ≤ 2 ^ 52
+  pub released : c .counts .released ≤ 2 ^ 52
+  pub held : c .counts .held ≡ heldBy (applies c) (c .counts .seen)
+  pub sum : c .counts .released + c .counts .held ≡ c .counts .seen
+  pub flags : c .suppressor .gate .block .flagged ≤ 2 ^ 52
   pub received : c .suppressor .gate .received ≤ 2 ^ 52
-  pub run : runEnd (c .suppressor .gate .run) ≤ c .suppressor .gate .received
-  pub runs : c .settings .impulse ≡ true → c .suppressor .gate .received ≡ c .seen
-  pub log : logFits (c .settings .spans) (c .log) ≡ true
-  pub repairs : ringFits (c .settings .repairs) (c .repairs) (c .longruns) ≡ true
+  pub run : runEnd (c .suppressor .gate .mending .run) ≤ c .suppressor .gate .received
+  pub runs : c .settings .impulse ≡ true → c .suppressor .gate .received ≡ c .counts .seen
+  pub log : logFits (c .settings .spans) (c .notes .log) ≡ true
+  pub repairs : ringFits (c .settings .repairs) (c .notes .repairs) (c .notes .longruns) ≡ true
   pub updates : c .blocker .n ≤ 2 ^ 52
   pub last : c .monitor .end ≤ 2 ^ 52
   pub first : begunFits (c .monitor .first) (c .monitor .end) ≡ true

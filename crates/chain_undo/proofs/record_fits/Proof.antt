@@ -9,6 +9,7 @@ use borrow.Author.Tests.{lt-ltb, le-ltb, le-leb, lt-leb}
 use denote.Ref.{now}
 use lib.Dec.{leb, ltb}
 use Rattle.rules.specs.Lists.{at}
+use Rattle.rules.specs.Constants.{totalLimit}
 use Rattle.chain_undo.specs.Undoing.{recordIn, recordFits}
 use Rattle.chain_undo.specs.laws.Records.{record-start, record-length, record-by}
 use Rattle.chain_undo.proofs.record_fits.Statement.{statement}
@@ -31,12 +32,13 @@ shared-slice-read-len c = search needs
 
 -- the record's tests by those of the words read
 module _ (ws : List ℕ) (place : ℕ) where
-  read-by : (a b d : Bool) → ltb 0 (at ws (place + 1)) ≡ a → leb (at ws (place + 1)) 4 ≡ b → leb (at ws place) (2 ^ 48) ≡ d → recordFits (recordIn ws place) ≡ (a && b && d)
+  read-by : (a b d : Bool) → ltb 0 (at ws (place + 1)) ≡ a → leb (at ws (place + 1)) 4 ≡ b → leb (at ws place) totalLimit ≡ d
+      → recordFits (recordIn ws place) ≡ (a && b && d)
   read-by a b d p q r =
       record-by (recordIn ws place) a b d
       (ap (ltb 0) (record-length ws place) ∙ p)
       (ap (λ (n : ℕ). leb n 4) (record-length ws place) ∙ q)
-      (ap (λ (n : ℕ). leb n (2 ^ 48)) (record-start ws place) ∙ r)
+      (ap (λ (n : ℕ). leb n totalLimit) (record-start ws place) ∙ r)
 
   no-length : at ws (place + 1) ≡ 0 → false ≡ recordFits (recordIn ws place)
   no-length z = sym (read-by false _ _ (le-ltb 0 (at ws (place + 1)) (omega arith)) refl refl)
@@ -44,7 +46,7 @@ module _ (ws : List ℕ) (place : ℕ) where
   too-long : 4 < at ws (place + 1) → false ≡ recordFits (recordIn ws place)
   too-long h = sym (read-by true false _ (lt-ltb 0 (at ws (place + 1)) (omega arith)) (lt-leb (at ws (place + 1)) 4 h) refl)
 
-  by-start : (at ws (place + 1) ≡ 0 → ⊥) → at ws (place + 1) ≤ 4 → leb (at ws place) (2 ^ 48) ≡ recordFits (recordIn ws place)
+  by-start : (at ws (place + 1) ≡ 0 → ⊥) → at ws (place + 1) ≤ 4 → leb (at ws place) totalLimit ≡ recordFits (recordIn ws place)
   by-start z h = sym (read-by true true _ (lt-ltb 0 (at ws (place + 1)) (omega arith)) (le-leb (at ws (place + 1)) 4 h) refl)
 
 returns : tie.Need-returns

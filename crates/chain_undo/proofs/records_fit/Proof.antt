@@ -51,7 +51,8 @@ returns c =
     let a = c .before .before .before .before .before .args in
     let i = c .before .before .before .loop .i in
     sym (held-fit (a .capacity) (ringIn (a .ring) (now (a .repairs)))
-    ∙ all-not (test (now (a .repairs)) (a .capacity) (a .ring .head)) (a .ring .count) i (c .before .before .loop-test .taken) (sym (c .before .record-fits .ensures) ∙ not-true _ (c .if1 .taken)))
+    ∙ all-not (test (now (a .repairs)) (a .capacity) (a .ring .head)) (a .ring .count) i (c .before .before .loop-test .taken)
+    (sym (c .before .record-fits .ensures) ∙ not-true _ (c .if1 .taken)))
 
 add-i : tie.Need-add-i Inv-loop μ-loop
 add-i c = search needs
@@ -62,8 +63,12 @@ loop-less c = search needs
 loop-again : tie.Need-loop-again Inv-loop μ-loop
 loop-again c =
     let a = c .before .before .before .before .before .args in
-    let l = c .before .before .before .loop in
-    (search needs, rw (add-one (l .i)) (all-next (test (now (a .repairs)) (a .capacity) (a .ring .head)) (l .i) (l .inv .1) (sym (c .before .record-fits .ensures) ∙ not-false _ (c .if1 .left))))
+    let l = c .before .before .before .loop in (
+      search needs,
+      rw (add-one (l .i))
+          (all-next (test (now (a .repairs)) (a .capacity) (a .ring .head)) (l .i) (l .inv .1)
+          (sym (c .before .record-fits .ensures) ∙ not-false _ (c .if1 .left))),
+    )
 
 returns-2 : tie.Need-returns-2 Inv-loop μ-loop
 returns-2 c =

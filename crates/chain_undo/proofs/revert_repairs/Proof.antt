@@ -17,7 +17,8 @@ fits : (c : tie.Else1) → stateFits (c .before .before .before .before .args .s
 fits c = sym (c .before .fits2 .ensures) ∙ not-false _ (c .if1 .left)
 
 -- and every record
-records : (c : tie.Else3) → let a = c .before .before .before .before .before .before .before .before .before .args in recordsFit (recordsOf (a .state) (now (a .repairs))) ≡ true
+records : (c : tie.Else3) → let a = c .before .before .before .before .before .before .before .before .before .args in
+    recordsFit (recordsOf (a .state) (now (a .repairs))) ≡ true
 records c = sym (c .before .records-fit .ensures) ∙ not-false _ (c .if3 .left)
 
 fits-requires : tie.Need-fits-requires
@@ -44,13 +45,16 @@ records-fit-requires c κs =
 returns-3 : tie.Need-returns-3
 returns-3 c =
     let a = c .before .before .before .before .before .before .before .before .before .args in
-    unfit-records (a .state) (now (a .repairs)) (now (a .samples)) (a .first) (fits (c .before .before .before .before .before)) (eq-eqb _ _ (c .before .before .before .if2 .left))
+    unfit-records (a .state) (now (a .repairs)) (now (a .samples)) (a .first) (fits (c .before .before .before .before .before))
+    (eq-eqb _ _ (c .before .before .before .if2 .left))
     (sym (c .before .records-fit .ensures) ∙ not-true _ (c .if3 .taken))
 
 undo-records-requires : tie.Need-undo-records-requires
 undo-records-requires c κs =
-    let a = c .before .before .before .before .before .before .before .before .before .before .args in
-    (ring-sound (a .state) (now (a .repairs)) (fits (c .before .before .before .before .before .before)) (c .before .before .before .before .if2 .left), records (c .before))
+    let a = c .before .before .before .before .before .before .before .before .before .before .args in (
+      ring-sound (a .state) (now (a .repairs)) (fits (c .before .before .before .before .before .before)) (c .before .before .before .before .if2 .left),
+      records (c .before),
+    )
 
 same-length : tie.Need-same-length
 same-length c = search needs

@@ -8,13 +8,15 @@ use denote.Ref.{now}
 use lib.ListN.{length}
 use Rattle.rules.specs.Lists.{at}
 use Rattle.rules.specs.Undo.{undone}
+use Rattle.rules.specs.Constants.{totalLimit}
 use Rattle.chain_undo.specs.Undoing.{recordIn}
 use Rattle.chain_undo.specs.laws.Records.{Fit, record-fit, record-start, record-length, undone-step}
 use Rattle.chain_undo.proofs.undo_record.Statement.{statement}
 use Rattle.chain_undo.proofs.undo_record.Tie as tie
 
 abbrev Inv-loop : tie.InvT-loop
-Inv-loop samples₀ first repairs place start len t₀ samples t = (t ≤ len) × ((length samples ≡ length samples₀) × (samples ≡ undone first (recordIn repairs place) t samples₀))
+Inv-loop samples₀ first repairs place start len t₀ samples t = (t ≤ len)
+    × ((length samples ≡ length samples₀) × (samples ≡ undone first (recordIn repairs place) t samples₀))
 
 abbrev μ-loop : tie.MeasureT-loop
 μ-loop samples₀ first repairs place start len t₀ samples t = len - t
@@ -23,7 +25,7 @@ abbrev μ-loop : tie.MeasureT-loop
 read-length : (ws : List ℕ) (place : ℕ) → Fit (recordIn ws place) → at ws (place + 1) ≤ 4
 read-length ws place f = let e = record-length ws place in omega (arith, f .short)
 
-read-start : (ws : List ℕ) (place : ℕ) → Fit (recordIn ws place) → at ws place ≤ 2 ^ 48
+read-start : (ws : List ℕ) (place : ℕ) → Fit (recordIn ws place) → at ws place ≤ totalLimit
 read-start ws place f = let e = record-start ws place in omega (arith, f .early)
 
 -- a record's words are in the slice, and its samples are numbered
@@ -35,7 +37,8 @@ few c =
     let s = c .before .before .before .before .before .before in
     omega (arith, c .loop-test .taken, read-length (now (s .args .repairs)) (s .args .place) (fit s))
 
-inside : (c : tie.In-loop Inv-loop μ-loop) → let a = c .before .before .before .before .before .before .args in a .place + 2 + c .before .loop .t < length (now (a .repairs))
+inside : (c : tie.In-loop Inv-loop μ-loop) → let a = c .before .before .before .before .before .before .args in
+    a .place + 2 + c .before .loop .t < length (now (a .repairs))
 inside c = omega (arith, few c, c .before .before .before .before .before .before .pre .0)
 
 mul-start : tie.Need-mul-start Inv-loop μ-loop
@@ -90,7 +93,8 @@ loop-again c =
       omega (arith, c .before .before .before .before .before .loop-test .taken),
       (
         c .before .before .put-back .kept .0 ∙ l .inv .1 .0,
-        undone-step (a .first) (now (a .repairs)) (a .place) (l .t) (now (a .samples)) (l .samples) _ (few (c .before .before .before .before .before)) (l .inv .1 .1) (c .before .before .put-back .ensures),
+        undone-step (a .first) (now (a .repairs)) (a .place) (l .t) (now (a .samples)) (l .samples) _ (few (c .before .before .before .before .before))
+            (l .inv .1 .1) (c .before .before .put-back .ensures),
       ),
     )
 
@@ -102,7 +106,9 @@ returns c =
     let a = c .before .before .before .before .before .before .args in
     let l = c .before .loop in
     let e : l .t ≡ at (now (a .repairs)) (a .place + 1) = omega (arith, c .loop-test .left, l .inv .0) in
-    l .inv .1 .1 ∙ ap (λ (n : ℕ). undone (a .first) (recordIn (now (a .repairs)) (a .place)) n (now (a .samples))) (e ∙ sym (record-length (now (a .repairs)) (a .place)))
+    l .inv .1 .1
+    ∙ ap (λ (n : ℕ). undone (a .first) (recordIn (now (a .repairs)) (a .place)) n (now (a .samples)))
+    (e ∙ sym (record-length (now (a .repairs)) (a .place)))
 
 pub undo-record-spec : {M : Type 1} → statement M
 undo-record-spec =

@@ -18,7 +18,8 @@ abbrev heldIn : List ℕ → ℕ → ℕ → ℕ → List ℕ
 heldIn ws cap head i = recordIn ws (placeOf cap head i)
 
 abbrev Inv-loop : tie.InvT-loop
-Inv-loop samples₀ first repairs capacity head held i₀ samples i = (i ≤ held) × ((length samples ≡ length samples₀) × (samples ≡ undoneAll first (upTo (heldIn repairs capacity head) i) samples₀))
+Inv-loop samples₀ first repairs capacity head held i₀ samples i = (i ≤ held)
+    × ((length samples ≡ length samples₀) × (samples ≡ undoneAll first (upTo (heldIn repairs capacity head) i) samples₀))
 
 abbrev μ-loop : tie.MeasureT-loop
 μ-loop samples₀ first repairs capacity head held i₀ samples i = held - i
@@ -50,7 +51,13 @@ undo-record-requires c κs =
     (inside s i, each-fits (s .args .capacity) (ringIn (s .args .ring) (now (s .args .repairs))) i (s .pre .1) (c .before .loop-test .taken))
 
 add-i : tie.Need-add-i Inv-loop μ-loop
-add-i c = omega (arith, c .before .before .before .before .loop-test .taken, c .before .before .before .before .before .before .before .before .pre .0 .countIn, c .before .before .before .before .before .before .before .before .pre .0 .long)
+add-i c =
+    omega (
+      arith,
+      c .before .before .before .before .loop-test .taken,
+      c .before .before .before .before .before .before .before .before .pre .0 .countIn,
+      c .before .before .before .before .before .before .before .before .pre .0 .long,
+    )
 
 loop-less : tie.Need-loop-less Inv-loop μ-loop
 loop-less c = omega (arith, c .before .before .before .before .loop-test .taken)

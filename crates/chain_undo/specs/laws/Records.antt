@@ -11,9 +11,10 @@ use lib.ListN.{length, set, drop}
 use lib.Seq.{getD-take, getD-drop}
 use borrow.Author.Tests.{lt-ltb, le-ltb, le-leb, lt-leb, ltb-true, leb-true}
 use Rattle.rules.specs.Lists.{at, upTo, All}
-use Rattle.rules.specs.Log.{Ring, Sound}
+use Rattle.rules.specs.Log.{Ring, Sound, repairWidth}
 use Rattle.rules.specs.Undo.{heldRecords, returned, undone, undoneAll}
 use Rattle.rules.specs.laws.RingLaws.{place-fits}
+use Rattle.rules.specs.Constants.{totalLimit}
 use Rattle.log.specs.Check.{allTo}
 use Rattle.log.specs.laws.CheckLaws.{all-at}
 use Rattle.chain_undo.specs.Undoing.{recordIn, recordFits, recordsFit}
@@ -34,20 +35,20 @@ record-length ws place = record-word ws place 1 (lit< tt)
 pub record Fit (e : List ℕ) : Type 0 where
   pub some : 0 < at e 1
   pub short : at e 1 ≤ 4
-  pub early : at e 0 ≤ 2 ^ 48
+  pub early : at e 0 ≤ totalLimit
 
 pub record-fit : (e : List ℕ) → recordFits e ≡ true → Fit e
 unfolding recordFits
-record-fit e h = go (ltb 0 (at e 1)) (leb (at e 1) 4) (leb (at e 0) (2 ^ 48)) refl refl refl h
+record-fit e h = go (ltb 0 (at e 1)) (leb (at e 1) 4) (leb (at e 0) totalLimit) refl refl refl h
   where
-    go : (a b c : Bool) → ltb 0 (at e 1) ≡ a → leb (at e 1) 4 ≡ b → leb (at e 0) (2 ^ 48) ≡ c → (a && b && c) ≡ true → Fit e
+    go : (a b c : Bool) → ltb 0 (at e 1) ≡ a → leb (at e 1) 4 ≡ b → leb (at e 0) totalLimit ≡ c → (a && b && c) ≡ true → Fit e
     go true true true p q r h = record { some = ltb-true _ _ p; short = leb-true _ _ q; early = leb-true _ _ r }
     go true true false p q r h = absurd (false≢true h)
     go true false c p q r h = absurd (false≢true h)
     go false b c p q r h = absurd (false≢true h)
 
 -- by its tests
-pub record-by : (e : List ℕ) (a b c : Bool) → ltb 0 (at e 1) ≡ a → leb (at e 1) 4 ≡ b → leb (at e 0) (2 ^ 48) ≡ c → recordFits e ≡ (a && b && c)
+pub record-by : (e : List ℕ) (a b c : Bool) → ltb 0 (at e 1) ≡ a → leb (at e 1) 4 ≡ b → leb (at e 0) totalLimit ≡ c → recordFits e ≡ (a && b && c)
 unfolding recordFits
 record-by e a b c p q r = λ i. p i && q i && r i
 
@@ -95,7 +96,7 @@ undone-next first f n xs ys zs e r = rw (add-one n) (r ∙ ap (undone first (f n
 
 -- where record i stands
 abbrev pub placeOf : ℕ → ℕ → ℕ → ℕ
-placeOf cap head i = (head + i) % cap * 6
+placeOf cap head i = (head + i) % cap * repairWidth
 
 -- record i
 abbrev pub heldAt : ℕ → Ring → ℕ → List ℕ
@@ -106,7 +107,7 @@ unfolding heldRecords
 held-are cap r = refl
 
 -- its words are in the store
-pub place-in : (cap : ℕ) (r : Ring) (i : ℕ) → Sound 6 cap r → placeOf cap (r .head) i + 6 ≤ length (r .words)
+pub place-in : (cap : ℕ) (r : Ring) (i : ℕ) → Sound repairWidth cap r → placeOf cap (r .head) i + 6 ≤ length (r .words)
 place-in cap r i s = omega (arith, place-fits 6 cap ((r .head + i) % cap) (mod-lt (r .head + i) (s .some)), s .long)
 
 pub held-fit : (cap : ℕ) (r : Ring) → recordsFit (heldRecords cap r) ≡ allTo (λ i. recordFits (heldAt cap r i)) (r .count)
@@ -135,6 +136,7 @@ pub undone-step : (first : ℕ) (ws : List ℕ) (place t : ℕ) (xs ys zs : List
     → zs ≡ returned first ys (at ws place + t) (at ws (place + 2 + t)) → zs ≡ undone first (recordIn ws place) (t + 1) xs
 unfolding undone
 undone-step first ws place t xs ys zs h e r =
-    let w : at ws (place + 2 + t) ≡ at (recordIn ws place) (2 + t) = ap (at ws) (let q : place + 2 + t ≡ place + (2 + t) = omega arith in q) ∙ sym (record-word ws place (2 + t) (omega arith)) in
+    let w : at ws (place + 2 + t) ≡ at (recordIn ws place) (2 + t) = ap (at ws) (let q : place + 2 + t ≡ place + (2 + t) = omega arith in q)
+    ∙ sym (record-word ws place (2 + t) (omega arith)) in
     rw (add-one t)
     (r ∙ (λ i. returned first (e i) (sym (record-start ws place) i + t) (w i)))

@@ -18,6 +18,7 @@ use Rattle.rules.specs.laws.RingReading.{AllWide, appended, appended-all, held-
 use Rattle.rules.specs.Chain.{Config, settingOf, impulseEvents, afterImpulse, repairRing}
 use Rattle.rules.specs.Mode.{runs}
 use Rattle.rules.specs.laws.EventLaws.{repairs-wide}
+use Rattle.rules.specs.Constants.{totalLimit}
 use Rattle.log.specs.View.{ringIn}
 use Rattle.impulse.specs.laws.Repairs.{Original, all-original, undo-slice, undo-handed}
 use Rattle.chain_state.specs.declared.InputConditioner.{InputConditioner}
@@ -39,13 +40,14 @@ held-newest cap rs z w = held-entries cap (repaired cap rs) ∙ repaired-entries
 
 -- ---- what is not refused
 
-pub not-refused : (c : InputConditioner) (repairs : List ℕ) → stateFits c ≡ true → length repairs ≡ 6 * c .settings .repairs → All Fit (recordsOf c repairs) → undoRefusal c repairs ≡ 0
+pub not-refused : (c : InputConditioner) (repairs : List ℕ) → stateFits c ≡ true → length repairs ≡ repairWidth * c .settings .repairs
+    → All Fit (recordsOf c repairs) → undoRefusal c repairs ≡ 0
 not-refused c repairs f l r = refusal-by c repairs true true true f (eq-eqb _ _ l) (fit-records (recordsOf c repairs) r)
 
 -- a fit state whose repair ring was made by appending records that fit
 pub record Made (c : InputConditioner) (repairs : List ℕ) (rs : List (List ℕ)) : Type 0 where
   pub fits : stateFits c ≡ true
-  pub ring : ringIn (c .repairs) repairs ≡ repaired (c .settings .repairs) rs
+  pub ring : ringIn (c .notes .repairs) repairs ≡ repaired (c .settings .repairs) rs
   pub wide : AllWide repairWidth rs
   pub each : All Fit rs
 
@@ -53,7 +55,7 @@ module _ (c : InputConditioner) (repairs : List ℕ) (rs : List (List ℕ)) (m :
   some : 0 < c .settings .repairs
   some = state-fit c (m .fits) .settings .some-repairs
 
-  pub made-length : length repairs ≡ 6 * c .settings .repairs
+  pub made-length : length repairs ≡ repairWidth * c .settings .repairs
   made-length = ap (λ (r : rules.Ring). length (r .words)) (m .ring) ∙ repaired-sound (c .settings .repairs) rs some .long
 
   pub made-newest : recordsOf c repairs ≡ foldl (appended (c .settings .repairs)) [] rs
@@ -68,21 +70,24 @@ module _ (c : InputConditioner) (repairs : List ℕ) (rs : List (List ℕ)) (m :
       → undoOf c repairs ys first ≡ record { said = accepted tt; samples = undoneAll first rs ys }
   made-undone h ys first =
       outcome-by c repairs ys first 0 made-accepted
-      ∙ ap (λ (es : List (List ℕ)). record { said = accepted tt; samples = undoneAll first es ys }) (ap (heldRecords (c .settings .repairs)) (m .ring) ∙ held-repaired (c .settings .repairs) rs some (m .wide) h)
+      ∙ ap (λ (es : List (List ℕ)). record { said = accepted tt; samples = undoneAll first es ys })
+      (ap (heldRecords (c .settings .repairs)) (m .ring) ∙ held-repaired (c .settings .repairs) rs some (m .wide) h)
 
 -- ---- the repairs of the impulse stage
 
-all-fit : (xs : List ℕ) (es : List (List ℕ)) → length xs ≤ 2 ^ 48 → All (Original xs) es → All Fit es
+all-fit : (xs : List ℕ) (es : List (List ℕ)) → length xs ≤ totalLimit → All (Original xs) es → All Fit es
 all-fit xs [] h o = tt
 all-fit xs (e ∷ es) h o = (record { some = o .0 .some; short = o .0 .short; early = omega (arith, o .0 .inside) }, all-fit xs es h (o .1))
 
 -- their records fit
-pub repairs-fit : (s : Setting) → s .run ≤ 4 → (xs : List ℕ) → length xs ≤ 2 ^ 48 → All Fit (repairsOf (happened s xs))
+pub repairs-fit : (s : Setting) → s .run ≤ 4 → (xs : List ℕ) → length xs ≤ totalLimit → All Fit (repairsOf (happened s xs))
 unfolding happened
-repairs-fit s r xs h = all-fit xs (repairsOf (events s (flagged s xs) xs (judged s (length xs)))) h (all-original s (flagged s xs) xs r (judged s (length xs)) (omega arith))
+repairs-fit s r xs h =
+    all-fit xs (repairsOf (events s (flagged s xs) xs (judged s (length xs)))) h (all-original s (flagged s xs) xs r (judged s (length xs)) (omega arith))
 
 -- a state whose repair ring stands as the rules say for an input
-module _ (c : InputConditioner) (repairs xs : List ℕ) (s : Setting) (r : s .run ≤ 4) (long : length xs ≤ 2 ^ 48) (f : stateFits c ≡ true) (ring : ringIn (c .repairs) repairs ≡ repaired (c .settings .repairs) (repairsOf (happened s xs))) where
+module _ (c : InputConditioner) (repairs xs : List ℕ) (s : Setting) (r : s .run ≤ 4) (long : length xs ≤ totalLimit) (f : stateFits c ≡ true)
+    (ring : ringIn (c .notes .repairs) repairs ≡ repaired (c .settings .repairs) (repairsOf (happened s xs))) where
   stage-made : Made c repairs (repairsOf (happened s xs))
   stage-made = record { fits = f; ring = ring; wide = repairs-wide (happened s xs); each = repairs-fit s r xs long }
 
@@ -97,7 +102,7 @@ module _ (c : InputConditioner) (repairs xs : List ℕ) (s : Setting) (r : s .ru
 -- ---- a chain, by its configuration
 
 -- what a configuration repairs in an input fits, whether or not its impulse stage runs
-chain-fit : (k : Config) (xs : List ℕ) → length xs ≤ 2 ^ 48 → All Fit (repairsOf (impulseEvents k xs))
+chain-fit : (k : Config) (xs : List ℕ) → length xs ≤ totalLimit → All Fit (repairsOf (impulseEvents k xs))
 unfolding impulseEvents repairsOf
 chain-fit k xs long = go (runs (k .impulseMode))
   where
@@ -109,12 +114,15 @@ chain-back : (k : Config) (xs : List ℕ) → undoneAll 0 (repairsOf (impulseEve
 unfolding impulseEvents afterImpulse repairsOf undoneAll
 chain-back k xs = go (runs (k .impulseMode))
   where
-    go : (b : Bool) → undoneAll 0 (repairsOf (cond b (happened (settingOf k) xs) [])) (cond b (handedOn (settingOf k) xs) xs) ≡ take (length (cond b (handedOn (settingOf k) xs) xs)) xs
+    go : (b : Bool)
+        → undoneAll 0 (repairsOf (cond b (happened (settingOf k) xs) [])) (cond b (handedOn (settingOf k) xs) xs)
+        ≡ take (length (cond b (handedOn (settingOf k) xs) xs)) xs
     go true = undo-handed (settingOf k) (lit≤ tt) xs
     go false = sym (take-length xs)
 
 -- a state whose repair ring stands as the rules say for a configuration and an input
-module _ (k : Config) (c : InputConditioner) (repairs xs : List ℕ) (long : length xs ≤ 2 ^ 48) (f : stateFits c ≡ true) (same : c .settings .repairs ≡ k .repairs) (ring : ringIn (c .repairs) repairs ≡ repairRing k xs) where
+module _ (k : Config) (c : InputConditioner) (repairs xs : List ℕ) (long : length xs ≤ totalLimit) (f : stateFits c ≡ true)
+    (same : c .settings .repairs ≡ k .repairs) (ring : ringIn (c .notes .repairs) repairs ≡ repairRing k xs) where
   pub chain-made : Made c repairs (repairsOf (impulseEvents k xs))
   unfolding repairRing
   chain-made =

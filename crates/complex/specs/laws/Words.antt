@@ -26,6 +26,8 @@ sample-of-word z p =
     let a = toBits-lt binary32 (z .re) (p .re) in
     let low : (toBits binary32 (z .re) + toBits binary32 (z .im) * 2 ^ 32) % 2 ^ 32 ≡ toBits binary32 (z .re) = omega arith in
     let high : (toBits binary32 (z .re) + toBits binary32 (z .im) * 2 ^ 32) / 2 ^ 32 ≡ toBits binary32 (z .im) = omega arith in
-    let x : ofBits binary32 ((toBits binary32 (z .re) + toBits binary32 (z .im) * 2 ^ 32) % 2 ^ 32) ≡ z .re = ap (ofBits binary32) low ∙ ofBits-toBits binary32 (z .re) (p .re) in
-    let y : ofBits binary32 ((toBits binary32 (z .re) + toBits binary32 (z .im) * 2 ^ 32) / 2 ^ 32) ≡ z .im = ap (ofBits binary32) high ∙ ofBits-toBits binary32 (z .im) (p .im) in
+    let x : ofBits binary32 ((toBits binary32 (z .re) + toBits binary32 (z .im) * 2 ^ 32) % 2 ^ 32) ≡ z .re = ap (ofBits binary32) low
+    ∙ ofBits-toBits binary32 (z .re) (p .re) in
+    let y : ofBits binary32 ((toBits binary32 (z .re) + toBits binary32 (z .im) * 2 ^ 32) / 2 ^ 32) ≡ z .im = ap (ofBits binary32) high
+    ∙ ofBits-toBits binary32 (z .im) (p .im) in
     λ i. record { re = x i; im = y i }

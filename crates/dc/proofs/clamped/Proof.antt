@@ -24,7 +24,9 @@ scale-requires c κs = search needs
 returns-2 : tie.Need-returns-2
 returns-2 c =
     let y = view64 (c .before .before .before .before .before .args .y) in
-    c .scale .ensures ∙ ap make64 (sym (clamp-by y _ _ true (c .before .before .before .before .norm-sqr .ensures) (c .before .before .root .ensures) (c .before .if2 .taken)))
+    c .scale .ensures
+    ∙ ap make64
+    (sym (clamp-by y _ _ true (c .before .before .before .before .norm-sqr .ensures) (c .before .before .root .ensures) (c .before .if2 .taken)))
 
 returns-3 : tie.Need-returns-3
 returns-3 c =

@@ -24,7 +24,8 @@ returns-2 : tie.Need-returns-2
 unfolding returned
 returns-2 c =
     let a = c .before .before .before .before .before .args in
-    undo-by (a .fs) (a .out .now) (a .y .now) true false _ (sym (c .before .before .rate-fits .ensures) ∙ not-false _ (c .before .if1 .left)) (ne-eqb _ _ (c .if2 .taken)) refl
+    undo-by (a .fs) (a .out .now) (a .y .now) true false _ (sym (c .before .before .rate-fits .ensures) ∙ not-false _ (c .before .if1 .left))
+    (ne-eqb _ _ (c .if2 .taken)) refl
 
 first-beyond-requires : tie.Need-first-beyond-requires
 first-beyond-requires c κs = search needs
@@ -52,7 +53,8 @@ returns-4 c =
     let a = c .before .before .before .before .before .before .before .before .before .before .before .args in
     let k = c .before .before .before .before .before .first-beyond .ensures in
     let u = undo-by (a .fs) (a .out .now) (a .y .now) true true false
-    (sym (c .before .before .before .before .before .before .before .before .rate-fits .ensures) ∙ not-false _ (c .before .before .before .before .before .before .before .if1 .left))
+    (sym (c .before .before .before .before .before .before .before .before .rate-fits .ensures)
+    ∙ not-false _ (c .before .before .before .before .before .before .before .if1 .left))
     (eq-eqb _ _ (c .before .before .before .before .before .before .if2 .left))
     (ap (λ n. ltb n (length (a .y .now))) (sym k) ∙ le-ltb _ _ (c .before .before .before .before .if3 .left)) in
     (u .0, c .before .before .restore .ensures ∙ u .1)

@@ -29,7 +29,8 @@ in-units-of : (n d a c : ℕ) → 0 < d → n * c ≡ a * d → n * 1 ≤ 1 * d 
 in-units-of n d a c D e h =
     le-of-mul-le-mul-right
     (le-trans (le-of-eq (ap (λ (k : ℕ). k * d) (mul-one a) ∙ sym e))
-    (le-trans (mul-le-mul-right c (le-trans (le-of-eq (sym (mul-one n))) h)) (le-of-eq (ap (λ (k : ℕ). k * c) (one-mul d) ∙ mul-comm d c ∙ ap (λ (k : ℕ). k * d) (sym (one-mul c))))))
+    (le-trans (mul-le-mul-right c (le-trans (le-of-eq (sym (mul-one n))) h))
+    (le-of-eq (ap (λ (k : ℕ). k * c) (one-mul d) ∙ mul-comm d c ∙ ap (λ (k : ℕ). k * d) (sym (one-mul c))))))
     D
 
 -- a root of what is at most 1 is not above 1
@@ -60,7 +61,8 @@ clamp-none y e =
     ap (λ (t : Bool). cond t (scaled binary64 y (div binary64 one m)) y) (root-up-to-one (power binary64 y) (power-fits y) (subst T (sym e) tt))
 
 -- else the root decides
-pub clamp-by : (y : Complex) (p m : Float) (t : Bool) → p ≡ power binary64 y → m ≡ rooted p → lt one m ≡ t → clamped y ≡ cond t (scaled binary64 y (div binary64 one m)) y
+pub clamp-by : (y : Complex) (p m : Float) (t : Bool) → p ≡ power binary64 y → m ≡ rooted p → lt one m ≡ t
+    → clamped y ≡ cond t (scaled binary64 y (div binary64 one m)) y
 unfolding clamped norm
 clamp-by y p m t e f h =
     let n : norm y ≡ m = ap rooted (sym e) ∙ sym f in

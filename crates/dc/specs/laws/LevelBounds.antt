@@ -57,7 +57,8 @@ unfolding corner ofBits
 corner-within fs t =
     div-within binary64 (mul binary64 tau five) fs 32 1 1 1 32 1 (lit< tt) (lit< tt) (lit< tt) (whole-value binary64 32 (lit< tt)) (lit≤ tt)
     (within-mono (mul binary64 tau five) (32 * 2 ^ 47) (2 ^ 47 * 1) 32 1 (lit< tt) (lit≤ tt)
-    (mul-within binary64 tau five 884279719003555 (2 ^ 47) 5 1 (32 * 2 ^ 47) (lit< tt) (lit< tt) (scale-value binary64 32 1 (2 ^ 47) (whole-value binary64 32 (lit< tt))) (lit≤ tt) (lit≤ tt) (lit≤ tt)))
+    (mul-within binary64 tau five 884279719003555 (2 ^ 47) 5 1 (32 * 2 ^ 47) (lit< tt) (lit< tt)
+    (scale-value binary64 32 1 (2 ^ 47) (whole-value binary64 32 (lit< tt))) (lit≤ tt) (lit≤ tt) (lit≤ tt)))
     (rate-beyond fs t)
 
 cond-within : (b : Bool) (x y : Float) (a c : ℕ) → Within x a c → Within y a c → Within (cond b x y) a c
@@ -75,7 +76,8 @@ unfolding weight ofBits
 weight-within a n h w =
     let d = ofInt binary64 (pos (n + 1)) in
     cond-within (lt a (div binary64 one d)) (div binary64 one d) a 32 1
-    (div-within binary64 one d 1 1 1 1 32 1 (lit< tt) (lit< tt) (lit< tt) (whole-value binary64 32 (lit< tt)) (lit≤ tt) (lit≤ tt) (count-beyond (n + 1) (omega arith) (omega arith)))
+    (div-within binary64 one d 1 1 1 1 32 1 (lit< tt) (lit< tt) (lit< tt) (whole-value binary64 32 (lit< tt)) (lit≤ tt) (lit≤ tt)
+    (count-beyond (n + 1) (omega arith) (omega arith)))
     w
 
 -- ---- one step
@@ -109,9 +111,11 @@ blocked-parts l x h s g = record {
   im = part (sampleOf x .im) (l .level .im) (l .updates) h (g .im) (s .im);
 }
 
-grown : (l v g : Float) (n : ℕ) → n < 2 ^ 48 → Within l (n * 2 ^ 6) 1 → Within v 2 1 → Within g 32 1 → Within (add binary64 l (mul binary64 v g)) (suc n * 2 ^ 6) 1
+grown : (l v g : Float) (n : ℕ) → n < 2 ^ 48 → Within l (n * 2 ^ 6) 1 → Within v 2 1 → Within g 32 1
+    → Within (add binary64 l (mul binary64 v g)) (suc n * 2 ^ 6) 1
 grown l v g n h a b c =
-    add-within binary64 l (mul binary64 v g) (n * 2 ^ 6) 64 (suc n * 2 ^ 6) 1 (lit< tt) (scaled-value binary64 (suc n) 6 (omega arith) (lit≤ tt)) (omega arith) a
+    add-within binary64 l (mul binary64 v g) (n * 2 ^ 6) 64 (suc n * 2 ^ 6) 1 (lit< tt) (scaled-value binary64 (suc n) 6 (omega arith) (lit≤ tt))
+    (omega arith) a
     (mul-within binary64 v g 2 1 32 1 64 (lit< tt) (lit< tt) (whole-value binary64 64 (lit< tt)) (lit≤ tt) b c)
 
 -- a step is at most one update
@@ -130,7 +134,12 @@ advanced-steady a l y h w s p =
         let c = clamped-within y (p .re) (p .im) in
         let g = weight-within a (l .updates) h w in
         record {
-          steady = record { re = grown (l .level .re) (clamped y .re) (weight a (l .updates)) (l .updates) h (s .re) (c .re) g; im = grown (l .level .im) (clamped y .im) (weight a (l .updates)) (l .updates) h (s .im) (c .im) g };
+          steady =
+              record {
+                re = grown (l .level .re) (clamped y .re) (weight a (l .updates)) (l .updates) h (s .re) (c .re) g;
+                im =
+                    grown (l .level .im) (clamped y .im) (weight a (l .updates)) (l .updates) h (s .im) (c .im) g;
+              };
           count = omega arith;
         }
 
@@ -174,7 +183,9 @@ run-steady a l (x ∷ xs) w s (more g gs) h =
 limited-of : (x : Float) → Within x (2 ^ 54) 1 → limited x ≡ true
 unfolding ieee.neg ofBits
 limited-of x w =
-    limited-is x ∙ both (le x (fin false 3814697265625 (pos 18))) (le (fin true 3814697265625 (pos 18)) x) (within-between x 3814697265625 (pos 18) (within-mono x (2 ^ 54) 1 (10 ^ 18) 1 (lit< tt) (lit≤ tt) w))
+    limited-is x
+    ∙ both (le x (fin false 3814697265625 (pos 18))) (le (fin true 3814697265625 (pos 18)) x)
+    (within-between x 3814697265625 (pos 18) (within-mono x (2 ^ 54) 1 (10 ^ 18) 1 (lit< tt) (lit≤ tt) w))
   where
     both : (a b : Bool) → T (a && b) → (b && a) ≡ true
     both true true t = refl

@@ -1,7 +1,8 @@
 -- The norm of a sample is at least each part, and what is clamped has parts of at most 2. Assumes nothing.
 use mathlib.Core.Path.{_≡_, refl, sym, ap, _∙_, subst}
 use Prim.Native.Nat.{ℕ, suc, _+_, _-_, _*_, _/_, _^_, _≤_, _<_}
-use native.Mathlib.Nat.{le-trans, le-of-eq, le-of-lt, mul-one, mul-assoc, mul-comm, mul-left-comm, mul-right-comm, mul-mul-mul-comm, add-mul, mul-pos, mul-le-mul, mul-le-mul-right, le-of-mul-le-mul-right, le-add-right, le-add-left, le-div-iff-mul-le, div-lt-iff-lt-mul, pow-succ'}
+use native.Mathlib.Nat.{le-trans, le-of-eq, le-of-lt, mul-one, mul-assoc, mul-comm, mul-left-comm, mul-right-comm, mul-mul-mul-comm, add-mul, mul-pos}
+use native.Mathlib.Nat.{mul-le-mul, mul-le-mul-right, le-of-mul-le-mul-right, le-add-right, le-add-left, le-div-iff-mul-le, div-lt-iff-lt-mul, pow-succ'}
 use native.Mathlib.Omega.{arith}
 use mathlib.Core.Bool.{Bool, true, false, not, Bool·beq, cond, true≢false}
 use lib.Dec.{T, ltb→lt, nltb→le, lit≤, lit<}
@@ -18,7 +19,8 @@ use Rattle.ieee.specs.Root.{rooted}
 use Rattle.ieee.specs.laws.Numbers.{pow-le-back, size-gt}
 use Rattle.ieee.specs.laws.Bounds.{within-mono, mul-within, div-within, round-within, whole-value, scaled-value, part-value}
 use Rattle.ieee.specs.laws.RoundingError.{round-value}
-use Rattle.ieee.specs.laws.LowerBounds.{within-finite, own-within, under, fine, round-beyond, rooted-beyond, rooted-bound, rooted-plain, fits-value, squares, widened, scale-value}
+use Rattle.ieee.specs.laws.LowerBounds.{within-finite, own-within, under, fine, round-beyond, rooted-beyond, rooted-bound, rooted-plain, fits-value, squares}
+use Rattle.ieee.specs.laws.LowerBounds.{widened, scale-value}
 use Rattle.complex.specs.Complex.{Complex, power, norm, scaled}
 use Rattle.rules.specs.Constants.{one}
 use Rattle.rules.specs.Dc.{clamped}
@@ -40,7 +42,8 @@ square-is (fin s m e) N F =
     alike false = refl
 
 -- the sum of two values that are not negative
-add-is : (f : Format) (x y : Float) (a c b d : ℕ) → 0 < c → 0 < d → HasValue x false a c → HasValue y false b d → add f x y ≡ round f false (a * d + b * c) (c * d)
+add-is : (f : Format) (x y : Float) (a c b d : ℕ) → 0 < c → 0 < d → HasValue x false a c → HasValue y false b d
+    → add f x y ≡ round f false (a * d + b * c) (c * d)
 unfolding add ieee.sum
 add-is f nan y a c b d C D h k = absurd h
 add-is f (inf s) y a c b d C D h k = absurd h
@@ -103,10 +106,13 @@ sum-bound P Q R S M h k =
     omega arith
 
 power-is : (y : Complex) → Part (y .re) → Part (y .im)
-    → power binary64 y ≡ round binary64 false (num (y .re) * num (y .re) * (den (y .im) * den (y .im)) + num (y .im) * num (y .im) * (den (y .re) * den (y .re))) (den (y .re) * den (y .re) * (den (y .im) * den (y .im)))
+    → power binary64 y
+    ≡ round binary64 false (num (y .re) * num (y .re) * (den (y .im) * den (y .im)) + num (y .im) * num (y .im) * (den (y .re) * den (y .re)))
+    (den (y .re) * den (y .re) * (den (y .im) * den (y .im)))
 unfolding power
 power-is y p q =
-    add-is binary64 (mul binary64 (y .re) (y .re)) (mul binary64 (y .im) (y .im)) (num (y .re) * num (y .re)) (den (y .re) * den (y .re)) (num (y .im) * num (y .im)) (den (y .im) * den (y .im))
+    add-is binary64 (mul binary64 (y .re) (y .re)) (mul binary64 (y .im) (y .im)) (num (y .re) * num (y .re)) (den (y .re) * den (y .re))
+    (num (y .im) * num (y .im)) (den (y .im) * den (y .im))
     (mul-pos (den-pos (y .re)) (den-pos (y .re))) (mul-pos (den-pos (y .im)) (den-pos (y .im)))
     (square-is (y .re) (within-finite (y .re) (2 ^ 61) 1 (p .small)) (p .single))
     (square-is (y .im) (within-finite (y .im) (2 ^ 61) 1 (q .small)) (q .single))
@@ -130,15 +136,21 @@ reaches A C B D hC hD vA vB a b =
     let den = C * C * (D * D) in
     let w = round binary64 false num den in
     let N : 0 < den = mul-pos (mul-pos hC hC) (mul-pos hD hD) in
-    let most : num * 1 ≤ 2 ^ 124 * den = le-trans (le-of-eq (mul-one num)) (le-trans (sum-bound (A * A) (C * C) (B * B) (D * D) (2 ^ 122) a b) (mul-le-mul-right den (lit≤ tt))) in
+    let most : num * 1 ≤ 2 ^ 124 * den =
+    le-trans (le-of-eq (mul-one num)) (le-trans (sum-bound (A * A) (C * C) (B * B) (D * D) (2 ^ 122) a b) (mul-le-mul-right den (lit≤ tt))) in
     let big : Value binary64 (2 ^ 124) 1 = scaled-value binary64 1 124 (lit< tt) (lit≤ tt) in
     let o : grid binary64 num den < overflow binary64 = fine binary64 num den (2 ^ 124) 1 N (lit< tt) big most in
     let g = grid binary64 num den in
     let v : HasValue w false g (2 ^ 1074) = round-value binary64 false num den o in
     let F : T (fits binary64 w) = round-fits binary64 false num den in
-    let ra : A * A * 2 ^ 1074 ≤ g * (C * C) = value-beyond w false g (2 ^ 1074) (A * A) (C * C) v (round-beyond binary64 false num den (A * A) (C * C) N (mul-pos hC hC) (squares A C vA) (one-of A C B D) o) in
-    let rb : B * B * 2 ^ 1074 ≤ g * (D * D) = value-beyond w false g (2 ^ 1074) (B * B) (D * D) v (round-beyond binary64 false num den (B * B) (D * D) N (mul-pos hD hD) (squares B D vB) (other-of A C B D) o) in
-    let top : g * (1 * 1) ≤ 2 ^ 62 * 2 ^ 62 * 2 ^ 1074 = value-within w false g (2 ^ 1074) (2 ^ 124) 1 v (round-within binary64 false num den (2 ^ 124) 1 N (lit< tt) big most) in
+    let ra : A * A * 2 ^ 1074 ≤ g * (C * C) =
+    value-beyond w false g (2 ^ 1074) (A * A) (C * C) v
+    (round-beyond binary64 false num den (A * A) (C * C) N (mul-pos hC hC) (squares A C vA) (one-of A C B D) o) in
+    let rb : B * B * 2 ^ 1074 ≤ g * (D * D) =
+    value-beyond w false g (2 ^ 1074) (B * B) (D * D) v
+    (round-beyond binary64 false num den (B * B) (D * D) N (mul-pos hD hD) (squares B D vB) (other-of A C B D) o) in
+    let top : g * (1 * 1) ≤ 2 ^ 62 * 2 ^ 62 * 2 ^ 1074 =
+    value-within w false g (2 ^ 1074) (2 ^ 124) 1 v (round-within binary64 false num den (2 ^ 124) 1 N (lit< tt) big most) in
     record {
       first = rooted-beyond w g A C F v hC (widened A C vA) ra;
       second = rooted-beyond w g B D F v hD (widened B D vB) rb;
@@ -153,14 +165,16 @@ reaches A C B D hC hD vA vB a b =
         same a c d = simp (mul-assoc, mul-comm, mul-left-comm)
 
     other-of : (A C B D : ℕ) → B * B * (C * C * (D * D)) ≤ (A * A * (D * D) + B * B * (C * C)) * (D * D)
-    other-of A C B D = le-trans (le-of-eq (sym (mul-assoc (B * B) (C * C) (D * D)))) (mul-le-mul-right (D * D) (le-add-left (B * B * (C * C)) (A * A * (D * D))))
+    other-of A C B D =
+        le-trans (le-of-eq (sym (mul-assoc (B * B) (C * C) (D * D)))) (mul-le-mul-right (D * D) (le-add-left (B * B * (C * C)) (A * A * (D * D))))
 
 pub normed : (y : Complex) → Part (y .re) → Part (y .im) → Normed y
 unfolding norm
 normed y p q =
     let r = subst (λ (w : Float). Reaches w (num (y .re)) (den (y .re)) (num (y .im)) (den (y .im))) (sym (power-is y p q))
     (reaches (num (y .re)) (den (y .re)) (num (y .im)) (den (y .im)) (den-pos (y .re)) (den-pos (y .im))
-    (fits-value binary32 (y .re) (p .single) (within-finite (y .re) (2 ^ 61) 1 (p .small))) (fits-value binary32 (y .im) (q .single) (within-finite (y .im) (2 ^ 61) 1 (q .small)))
+    (fits-value binary32 (y .re) (p .single) (within-finite (y .re) (2 ^ 61) 1 (p .small)))
+    (fits-value binary32 (y .im) (q .single) (within-finite (y .im) (2 ^ 61) 1 (q .small)))
     (square-within (y .re) p) (square-within (y .im) q)) in
     record { re-least = r .first; im-least = r .second; most = r .most; plain = r .plain }
 
@@ -202,7 +216,8 @@ at-most-one (fin true n d) r c t v = absurd (true≢false (v .0))
 at-most-one (fin false n d) r c t v = nltb→le (1 * down d) (n * up d * 1) t
 
 -- a part of what is clamped, by the norm m
-part-within : (m y : Float) (r c : ℕ) → T (finite y) → Beyond m (num y) (den y) → Within m (2 ^ 62) 1 → HasValue m false r c → Within (cond (lt one m) (mul binary64 y (div binary64 one m)) y) 2 1
+part-within : (m y : Float) (r c : ℕ) → T (finite y) → Beyond m (num y) (den y) → Within m (2 ^ 62) 1 → HasValue m false r c
+    → Within (cond (lt one m) (mul binary64 y (div binary64 one m)) y) 2 1
 part-within m y r c F b w v = go (lt one m) (λ t. t) (λ t. t)
   where
     unit : Within one 1 1
@@ -213,12 +228,14 @@ part-within m y r c F b w v = go (lt one m) (λ t. t) (λ t. t)
         let i = binade m t w in
         let e = i .0 in
         let inverse : Within (div binary64 one m) 1 (2 ^ e) =
-        div-within binary64 one m 1 1 (2 ^ e) 1 1 (2 ^ e) (lit< tt) (pow-pos e) (pow-pos e) (part-value binary64 1 e (lit< tt) (le-trans (i .1) (lit≤ tt))) (le-of-eq (plain (2 ^ e))) unit (i .2) in
+        div-within binary64 one m 1 1 (2 ^ e) 1 1 (2 ^ e) (lit< tt) (pow-pos e) (pow-pos e) (part-value binary64 1 e (lit< tt) (le-trans (i .1) (lit≤ tt)))
+        (le-of-eq (plain (2 ^ e))) unit (i .2) in
         let part : Within y (2 ^ suc e) 1 = under y m (2 ^ suc e) 1 F b (i .3) in
         let two : 2 ^ suc e ≡ 2 * 2 ^ e = pow-succ' 2 e in
         let val : Value binary64 (2 * 2 ^ e) (1 * 2 ^ e) = scale-value binary64 2 1 (2 ^ e) (whole-value binary64 2 (lit< tt)) in
         within-mono (mul binary64 y (div binary64 one m)) (2 * 2 ^ e) (1 * 2 ^ e) 2 1 (mul-pos (lit< tt) (pow-pos e)) (le-of-eq (again (2 ^ e)))
-        (mul-within binary64 y (div binary64 one m) (2 ^ suc e) 1 1 (2 ^ e) (2 * 2 ^ e) (lit< tt) (pow-pos e) val (le-of-eq (mul-one (2 ^ suc e) ∙ two)) part inverse)
+        (mul-within binary64 y (div binary64 one m) (2 ^ suc e) 1 1 (2 ^ e) (2 * 2 ^ e) (lit< tt) (pow-pos e) val
+        (le-of-eq (mul-one (2 ^ suc e) ∙ two)) part inverse)
       where
         plain : (k : ℕ) → 1 * 1 * k ≡ 1 * (1 * k)
         plain k = omega arith

@@ -15,7 +15,8 @@ use Rattle.dc.specs.laws.Steps.{moved, advanced-by}
 use Rattle.dc.specs.Blocker.{levelOf, processed, restored, blockerAfter, processedAll, undoneAll}
 
 advanced-count : (a : Float) (l : Level) (y : Complex) → advanced a l y .updates ≤ l .updates + 1
-advanced-count a l y = subst (λ (z : Level). z .updates ≤ l .updates + 1) (sym (advanced-by a l y (eqb (l .updates) 0 && isZero y) refl)) (go (eqb (l .updates) 0 && isZero y))
+advanced-count a l y =
+    subst (λ (z : Level). z .updates ≤ l .updates + 1) (sym (advanced-by a l y (eqb (l .updates) 0 && isZero y) refl)) (go (eqb (l .updates) 0 && isZero y))
   where
     go : (t : Bool) → cond t l (moved a l y) .updates ≤ l .updates + 1
     go true = omega arith
@@ -32,7 +33,8 @@ restored-count b y = advanced-count (b .a) (levelOf b) (sampleOf y)
 
 -- ---- a run that has come to place k of its list
 
-after-here : (b : DcBlocker) (xs : List ℕ) (k : ℕ) → k < length xs → blockerAfter b (drop k xs) ≡ blockerAfter (processed b (getD xs k 0) .blocker) (drop (k + 1) xs)
+after-here : (b : DcBlocker) (xs : List ℕ) (k : ℕ) → k < length xs
+    → blockerAfter b (drop k xs) ≡ blockerAfter (processed b (getD xs k 0) .blocker) (drop (k + 1) xs)
 unfolding levelAfter processed
 after-here b xs k h = ap (blockerAfter b) (left xs k h)
 
@@ -56,7 +58,8 @@ pub record Observing (b₀ : DcBlocker) (xs : List ℕ) (b : DcBlocker) (k : ℕ
   pub count : b .n ≤ b₀ .n + k
   pub after : blockerAfter b (drop k xs) ≡ blockerAfter b₀ xs
 
-pub observing-next : (b₀ : DcBlocker) (xs : List ℕ) (b : DcBlocker) (k : ℕ) → k < length xs → Observing b₀ xs b k → Observing b₀ xs (processed b (getD xs k 0) .blocker) (k + 1)
+pub observing-next : (b₀ : DcBlocker) (xs : List ℕ) (b : DcBlocker) (k : ℕ) → k < length xs → Observing b₀ xs b k
+    → Observing b₀ xs (processed b (getD xs k 0) .blocker) (k + 1)
 observing-next b₀ xs b k h g =
     let n = processed-count b (getD xs k 0) in
     let m = g .count in
@@ -90,7 +93,8 @@ processing-next b₀ xs₀ b xs k h g =
           ∙ g .written;
     }
 
-pub processing-end : (b₀ : DcBlocker) (xs₀ : List ℕ) (b : DcBlocker) (xs : List ℕ) (k : ℕ) → length xs ≤ k → Processing b₀ xs₀ b xs k → (b ≡ blockerAfter b₀ xs₀) × (xs ≡ processedAll b₀ xs₀)
+pub processing-end : (b₀ : DcBlocker) (xs₀ : List ℕ) (b : DcBlocker) (xs : List ℕ) (k : ℕ) → length xs ≤ k → Processing b₀ xs₀ b xs k
+    → (b ≡ blockerAfter b₀ xs₀) × (xs ≡ processedAll b₀ xs₀)
 unfolding blockedAll
 processing-end b₀ xs₀ b xs k h g =
     (sym (after-end b xs k h) ∙ g .after, sym (whole xs k h) ∙ ap (λ (zs : List ℕ). take k xs ++ processedAll b zs) (sym (drop-of-length-le xs h)) ∙ g .written)

@@ -29,7 +29,8 @@ advanced-by a l y t e = ap (λ (s : Bool). cond s l (moved a l y)) e
 pub rested-by : (b : DcBlocker) (y : Complex) {t : Bool} → t ≡ (eqb (b .n) 0 && isZero y) → t ≡ true → b ≡ blockerOf (b .a) (advanced (b .a) (levelOf b) y)
 rested-by b y tested rests = ap (blockerOf (b .a)) (sym (advanced-by (b .a) (levelOf b) y true (sym tested ∙ rests)))
 
-pub pushed-by : (b : DcBlocker) (y : Complex) {s l : Complex64} {g : Float} → g ≡ weight (b .a) (b .n) → s ≡ make64 (scaled binary64 y g) → l ≡ make64 (sum binary64 (view64 (b .dc)) (view64 s))
+pub pushed-by : (b : DcBlocker) (y : Complex) {s l : Complex64} {g : Float} → g ≡ weight (b .a) (b .n) → s ≡ make64 (scaled binary64 y g)
+    → l ≡ make64 (sum binary64 (view64 (b .dc)) (view64 s))
     → _≡_ {A = DcBlocker} (record { a = b .a; n = b .n + 1; dc = l }) (blockerOf (b .a) (pushed (b .a) (levelOf b) y))
 pushed-by b y weighed times more =
     let l' = more ∙ ap (λ z. make64 (sum binary64 (view64 (b .dc)) (view64 z))) (times ∙ ap (λ x. make64 (scaled binary64 y x)) weighed) in
@@ -43,13 +44,15 @@ moved-by b y tested moves held updated =
     ∙ ap (blockerOf (b .a)) (sym (advanced-by (b .a) (levelOf b) y false (sym tested ∙ moves)))
 
 -- where an update has happened and the power is at most 1, nothing rests and nothing is clamped
-plain-by : (b : DcBlocker) (y : Complex) (s p : Bool) → eqb (b .n) 0 ≡ s → le (power binary64 y) one ≡ p → (not s && p) ≡ true → pushed (b .a) (levelOf b) y ≡ advanced (b .a) (levelOf b) y
+plain-by : (b : DcBlocker) (y : Complex) (s p : Bool) → eqb (b .n) 0 ≡ s → le (power binary64 y) one ≡ p → (not s && p) ≡ true
+    → pushed (b .a) (levelOf b) y ≡ advanced (b .a) (levelOf b) y
 plain-by b y true p e f h = absurd (subst T (sym h) tt)
 plain-by b y false p e f h =
     ap (pushed (b .a) (levelOf b)) (sym (clamp-none y (f ∙ h)))
     ∙ sym (advanced-by (b .a) (levelOf b) y false (ap (λ (s : Bool). s && isZero y) e))
 
-pub plainly : (b : DcBlocker) (y : Complex) {t : Bool} {next : DcBlocker} → t ≡ (not (eqb (b .n) 0) && le (power binary64 y) one) → t ≡ true → next ≡ blockerOf (b .a) (pushed (b .a) (levelOf b) y)
+pub plainly : (b : DcBlocker) (y : Complex) {t : Bool} {next : DcBlocker} → t ≡ (not (eqb (b .n) 0) && le (power binary64 y) one) → t ≡ true
+    → next ≡ blockerOf (b .a) (pushed (b .a) (levelOf b) y)
     → next ≡ blockerOf (b .a) (advanced (b .a) (levelOf b) y)
 plainly b y tested plain updated = updated ∙ ap (blockerOf (b .a)) (plain-by b y _ _ refl refl (sym tested ∙ plain))
 

@@ -22,7 +22,8 @@ in-order true true beyond = refl
 in-order true false beyond = refl
 in-order false same beyond = refl
 
-refusal-by : (fs : Float) (out ys : List ℕ) (fits same beyond : Bool) → ranged one rateLimit fs ≡ fits → eqb (length out) (length ys) ≡ same → ltb (firstBeyondFrom 0 ys) (length ys) ≡ beyond
+refusal-by : (fs : Float) (out ys : List ℕ) (fits same beyond : Bool) → ranged one rateLimit fs ≡ fits → eqb (length out) (length ys) ≡ same
+    → ltb (firstBeyondFrom 0 ys) (length ys) ≡ beyond
     → dcUndoRefusal fs (length out) ys ≡ undoNumber fits same beyond
 unfolding dcUndoRefusal firstOf
 refusal-by fs out ys fits same beyond f s b =
@@ -31,8 +32,10 @@ refusal-by fs out ys fits same beyond f s b =
     ∙ ap (λ (t : Bool). undoNumber fits t (ltb (firstBeyondFrom 0 ys) (length ys))) s
     ∙ ap (undoNumber fits same) b
 
-pub undo-by : (fs : Float) (out ys : List ℕ) (fits same beyond : Bool) → ranged one rateLimit fs ≡ fits → eqb (length out) (length ys) ≡ same → ltb (firstBeyondFrom 0 ys) (length ys) ≡ beyond
-    → let n = undoNumber fits same beyond in (returned n (firstBeyondFrom 0 ys) ≡ undoReturned fs out ys) × (cond (eqb n 0) (restoredAll (corner fs) firstLevel ys) out ≡ undoWords fs out ys)
+pub undo-by : (fs : Float) (out ys : List ℕ) (fits same beyond : Bool) → ranged one rateLimit fs ≡ fits → eqb (length out) (length ys) ≡ same
+    → ltb (firstBeyondFrom 0 ys) (length ys) ≡ beyond
+    → let n = undoNumber fits same beyond in
+    (returned n (firstBeyondFrom 0 ys) ≡ undoReturned fs out ys) × (cond (eqb n 0) (restoredAll (corner fs) firstLevel ys) out ≡ undoWords fs out ys)
 unfolding undoReturned undoWords
 undo-by fs out ys fits same beyond f s b =
     let e = sym (refusal-by fs out ys fits same beyond f s b) in

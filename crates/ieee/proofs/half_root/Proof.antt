@@ -28,13 +28,15 @@ returns c =
     let w = c .before .before .before .before .args .w in
     let g = c .before .before .to-bits64 .result % 2 ^ 52 + 2 ^ 52 in
     let t : T (ltb (g * g) (w * 2 ^ 42 + g) && leb (w * 2 ^ 42) (g * g + g)) = subst T (sym (c .if1 .taken) ∙ c .before .is-half-root .ensures) tt in
-    half-of w g (ltb→lt _ _ (and-l (ltb (g * g) (w * 2 ^ 42 + g)) (leb (w * 2 ^ 42) (g * g + g)) t)) (leb→le _ _ (and-r (ltb (g * g) (w * 2 ^ 42 + g)) (leb (w * 2 ^ 42) (g * g + g)) t))
+    half-of w g (ltb→lt _ _ (and-l (ltb (g * g) (w * 2 ^ 42 + g)) (leb (w * 2 ^ 42) (g * g + g)) t))
+    (leb→le _ _ (and-r (ltb (g * g) (w * 2 ^ 42 + g)) (leb (w * 2 ^ 42) (g * g + g)) t))
 
 root-digits-requires : tie.Need-root-digits-requires
 root-digits-requires c κs = search needs
 
 add-result : tie.Need-add-result
-add-result c = let r = root-small _ (c .root-digits .result) (c .before .before .before .before .before .fits .w .fits) (c .root-digits .ensures .0) in omega arith
+add-result c = let r = root-small _ (c .root-digits .result) (c .before .before .before .before .before .fits .w .fits) (c .root-digits .ensures .0) in
+    omega arith
 
 returns-2 : tie.Need-returns-2
 returns-2 c = search needs

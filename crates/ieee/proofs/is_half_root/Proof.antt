@@ -40,7 +40,8 @@ add-if2 c = search needs
 returns-2 : tie.Need-returns-2
 returns-2 c =
     let s = square (c .before .before .args .g) (c .before .before .pre) in
-    far-below (c .before .before .args .w) (c .before .before .args .g) _ _ (c .before .before .pre) (square (c .before .before .args .g) (c .before .before .pre) .whole) (low-lt _ _ (s .lower)) (c .if2 .taken)
+    far-below (c .before .before .args .w) (c .before .before .args .g) _ _ (c .before .before .pre)
+    (square (c .before .before .args .g) (c .before .before .pre) .whole) (low-lt _ _ (s .lower)) (c .if2 .taken)
 
 add-above : tie.Need-add-above
 add-above c = search needs
@@ -64,13 +65,17 @@ add-if3 : tie.Need-add-if3
 add-if3 c = search needs
 
 returns-3 : tie.Need-returns-3
-returns-3 c = not-below (c .before .before .before .args .w) (c .before .before .before .args .g) _ _ (c .before .before .before .pre) (square (c .before .before .before .args .g) (c .before .before .before .pre) .whole) _ (c .before .before .if1 .left) refl (c .if3 .taken)
+returns-3 c =
+    not-below (c .before .before .before .args .w) (c .before .before .before .args .g) _ _ (c .before .before .before .pre)
+    (square (c .before .before .before .args .g) (c .before .before .before .pre) .whole) _ (c .before .before .if1 .left) refl (c .if3 .taken)
 
 add-result : tie.Need-add-result
 add-result c = search needs
 
 returns-4 : tie.Need-returns-4
-returns-4 c = decided (c .before .before .before .args .w) (c .before .before .before .args .g) _ _ (c .before .before .before .pre) (square (c .before .before .before .args .g) (c .before .before .before .pre) .whole) _ (c .before .before .if1 .left) refl (c .if3 .left)
+returns-4 c =
+    decided (c .before .before .before .args .w) (c .before .before .before .args .g) _ _ (c .before .before .before .pre)
+    (square (c .before .before .before .args .g) (c .before .before .before .pre) .whole) _ (c .before .before .if1 .left) refl (c .if3 .left)
 
 pub is-half-root-spec : {M : Type 1} → statement M
 is-half-root-spec =

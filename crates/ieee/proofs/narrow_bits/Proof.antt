@@ -13,7 +13,8 @@ narrow-magnitude-requires : tie.Need-narrow-magnitude-requires
 narrow-magnitude-requires c κs = search needs
 
 returns : tie.Need-returns
-returns c = c .before .narrow-magnitude .ensures ∙ sym (zero-add _) ∙ ap (λ (s : Bool). cond s (2 ^ 31) 0 + magnitudeOf (c .before .before .args .b)) (sym (lt-leb _ _ (c .if1 .taken)))
+returns c = c .before .narrow-magnitude .ensures ∙ sym (zero-add _)
+    ∙ ap (λ (s : Bool). cond s (2 ^ 31) 0 + magnitudeOf (c .before .before .args .b)) (sym (lt-leb _ _ (c .if1 .taken)))
 
 add-result : tie.Need-add-result
 add-result c = search needs

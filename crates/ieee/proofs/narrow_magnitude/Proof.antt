@@ -42,7 +42,8 @@ sum-lt k y x q w u e h f l = let b = closest-le w u in omega arith
 pattern-lt : (p a : ℕ) → p ≡ min a 0x7f80_0000 → p < 2 ^ 32
 pattern-lt p a e = omega arith
 
-made : (b : ℕ) (n : Normal) (d u q k p : ℕ) → Normalised b n → d ≡ 887 + n .shift - n .place → u ≡ min (38 + d) 63 → q ≡ closest (n .digits) (2 ^ u) → k ≡ n .place - (887 + n .shift)
+made : (b : ℕ) (n : Normal) (d u q k p : ℕ) → Normalised b n → d ≡ 887 + n .shift - n .place → u ≡ min (38 + d) 63 → q ≡ closest (n .digits) (2 ^ u)
+    → k ≡ n .place - (887 + n .shift)
     → p ≡ min (k * 2 ^ 23 + q) 0x7f80_0000 → p ≡ patternOf (significandIn b) (exponentIn b - 1) (shiftOf (significandIn b))
 made b n d u q k p a h1 h2 h3 h4 h5 = cc
 
@@ -83,7 +84,8 @@ cast-result c = record { fits = pattern-lt _ _ (c .least2 .ensures) }
 
 returns : tie.Need-returns
 returns c =
-    made _ _ _ _ _ _ _ (c .before .before .before .before .before .before .normalise .ensures) (c .before .before .before .before .below .ensures) (c .before .before .before .least .ensures)
+    made _ _ _ _ _ _ _ (c .before .before .before .before .before .before .normalise .ensures) (c .before .before .before .before .below .ensures)
+    (c .before .before .before .least .ensures)
     (c .before .before .shifted .ensures)
     (c .before .below2 .ensures)
     (c .least2 .ensures)

@@ -29,11 +29,14 @@ means c = meaning (c .before .args .x) (held (c .before)) (no-nan (c .before .ar
 at-zero : (x : Float) (s : Bool) (e t : ℕ) → e ≡ 0 → t ≡ 0 → Meaning x s e t → x ≡ rooted x
 at-zero x s e t p q (inl v) =
     let none : significandOf e t ≡ 0 = omega arith in
-    rooted-zero x s (2 ^ 1074) (pow-pos 1074) (subst (λ (a : ℕ). HasValue x s a (2 ^ 1074)) (ap (λ (a : ℕ). a * 2 ^ (e - 1)) none ∙ zero-mul (2 ^ (e - 1))) (v .1))
+    rooted-zero x s (2 ^ 1074) (pow-pos 1074)
+    (subst (λ (a : ℕ). HasValue x s a (2 ^ 1074)) (ap (λ (a : ℕ). a * 2 ^ (e - 1)) none ∙ zero-mul (2 ^ (e - 1))) (v .1))
 at-zero x s e t p q (inr v) = let h = v .0 in absurd (omega arith)
 
 below-zero : (x : Float) (s : Bool) (e t : ℕ) → s ≡ true → 0 < significandOf e t → Meaning x s e t → nan ≡ rooted x
-below-zero x s e t p h (inl v) = rooted-negative x (significandOf e t * 2 ^ (e - 1)) (2 ^ 1074) (mul-pos h (pow-pos (e - 1))) (subst (λ (b : Bool). HasValue x b (significandOf e t * 2 ^ (e - 1)) (2 ^ 1074)) p (v .1))
+below-zero x s e t p h (inl v) =
+    rooted-negative x (significandOf e t * 2 ^ (e - 1)) (2 ^ 1074) (mul-pos h (pow-pos (e - 1)))
+    (subst (λ (b : Bool). HasValue x b (significandOf e t * 2 ^ (e - 1)) (2 ^ 1074)) p (v .1))
 below-zero x s e t p h (inr v) = sym (ap rooted (v .2 ∙ ap inf p) ∙ rooted-minus)
 
 infinite : (x : Float) (s : Bool) (e t : ℕ) → s ≡ false → 2047 ≤ e → Meaning x s e t → x ≡ rooted x

@@ -48,16 +48,28 @@ add-rest-2 : tie.Need-add-rest-2 Inv-loop μ-loop
 add-rest-2 c = omega arith
 
 mul-rest-3 : tie.Need-mul-rest-3 Inv-loop μ-loop
-mul-rest-3 c = record { fits = by-bit (λ (t : ℕ). (c .before .loop .r * 4 + 1) * t < 2 ^ 64) (c .before .loop .r * 4) (c .before .loop .rest * 4 + c .before .loop .m / 2 ^ 62) (λ h. omega arith) (λ h. omega arith) }
+mul-rest-3 c =
+    record {
+      fits =
+          by-bit (λ (t : ℕ). (c .before .loop .r * 4 + 1) * t < 2 ^ 64) (c .before .loop .r * 4) (c .before .loop .rest * 4 + c .before .loop .m / 2 ^ 62)
+          (λ h. omega arith) (λ h. omega arith);
+    }
 
 sub-rest : tie.Need-sub-rest Inv-loop μ-loop
-sub-rest c = by-bit (λ (t : ℕ). (c .before .loop .r * 4 + 1) * t ≤ c .before .loop .rest * 4 + c .before .loop .m / 2 ^ 62) (c .before .loop .r * 4) (c .before .loop .rest * 4 + c .before .loop .m / 2 ^ 62) (λ h. omega arith) (λ h. omega arith)
+sub-rest c =
+    by-bit (λ (t : ℕ). (c .before .loop .r * 4 + 1) * t ≤ c .before .loop .rest * 4 + c .before .loop .m / 2 ^ 62) (c .before .loop .r * 4)
+    (c .before .loop .rest * 4 + c .before .loop .m / 2 ^ 62) (λ h. omega arith) (λ h. omega arith)
 
 mul-r : tie.Need-mul-r Inv-loop μ-loop
 mul-r c = omega arith
 
 add-r : tie.Need-add-r Inv-loop μ-loop
-add-r c = record { fits = by-bit (λ (t : ℕ). c .before .loop .r * 2 + t < 2 ^ 64) (c .before .loop .r * 4) (c .before .loop .rest * 4 + c .before .loop .m / 2 ^ 62) (λ h. omega arith) (λ h. omega arith) }
+add-r c =
+    record {
+      fits =
+          by-bit (λ (t : ℕ). c .before .loop .r * 2 + t < 2 ^ 64) (c .before .loop .r * 4) (c .before .loop .rest * 4 + c .before .loop .m / 2 ^ 62)
+          (λ h. omega arith) (λ h. omega arith);
+    }
 
 add-i : tie.Need-add-i Inv-loop μ-loop
 add-i c = omega arith

@@ -37,7 +37,8 @@ ground b n B L u =
     record { some = some; few = few; near = omega arith; far = omega arith; below = omega arith }
 
 -- the word whose root is taken
-word : (b : ℕ) (n : Normal) → Normalised b n → Ground b n → n .digits * 2 ^ (2 - (n .place + n .shift) % 2) % 2 ^ 64 ≡ significandIn b * 2 ^ evenOf (significandIn b) (exponentIn b - 1)
+word : (b : ℕ) (n : Normal) → Normalised b n → Ground b n
+    → n .digits * 2 ^ (2 - (n .place + n .shift) % 2) % 2 ^ 64 ≡ significandIn b * 2 ^ evenOf (significandIn b) (exponentIn b - 1)
 word b n u g =
     let e = evened (significandIn b) (exponentIn b - 1) (g .some) (g .few) in
     let moved : n .digits * 2 ^ (2 - (n .place + n .shift) % 2) ≡ significandIn b * 2 ^ evenOf (significandIn b) (exponentIn b - 1) =
@@ -47,13 +48,15 @@ word b n u g =
     ∙ e .is in
     ap (λ (w : ℕ). w % 2 ^ 64) moved ∙ mod-eq-of-lt (e .high)
 
-finite : (b : ℕ) → b < 2047 * 2 ^ 52 → T (not (isNan (ofBits binary64 b))) → exponentIn b < 2047 → HasValue (ofBits binary64 b) false (significandIn b * 2 ^ (exponentIn b - 1)) (2 ^ 1074)
+finite : (b : ℕ) → b < 2047 * 2 ^ 52 → T (not (isNan (ofBits binary64 b))) → exponentIn b < 2047
+    → HasValue (ofBits binary64 b) false (significandIn b * 2 ^ (exponentIn b - 1)) (2 ^ 1074)
 finite b h N l = go (leb (2 ^ 63) b) (lt-leb (2 ^ 63) b (omega arith)) (meaning-bits b N)
   where
     no : (e : ℕ) → e < 2047 → 2047 ≤ e → ⊥
     no e p h = omega arith
 
-    go : (s : Bool) → s ≡ false → Meaning (ofBits binary64 b) s (exponentIn b) (b % 2 ^ 52) → HasValue (ofBits binary64 b) false (significandIn b * 2 ^ (exponentIn b - 1)) (2 ^ 1074)
+    go : (s : Bool) → s ≡ false → Meaning (ofBits binary64 b) s (exponentIn b) (b % 2 ^ 52)
+        → HasValue (ofBits binary64 b) false (significandIn b * 2 ^ (exponentIn b - 1)) (2 ^ 1074)
     go s e (inl v) = subst (λ (s : Bool). HasValue (ofBits binary64 b) s (significandIn b * 2 ^ (exponentIn b - 1)) (2 ^ 1074)) e (v .1)
     go s e (inr v) = absurd (no (exponentIn b) l (v .0))
 
@@ -120,7 +123,8 @@ returns c =
     ∙ ap (λ (y : ℕ). (1032 + y - (n .shift + (2 - (y + n .shift) % 2))) / 2) (u .place)
     ∙ ap (λ (c : ℕ). (1032 + (exponentIn b - 1) - (c + (2 - (exponentIn b - 1 + c) % 2))) / 2) (u .shift))
     ∙ ap (λ (g : ℕ). (1032 + (exponentIn b - 1) - evenOf (significandIn b) (exponentIn b - 1)) / 2 * 2 ^ 52 + g) (h .half))
-    ∙ root-is (ofBits binary64 b) (significandIn b) (exponentIn b - 1) (h .R) (ofBits-fits binary64 b) (g .some) (g .few) (let h = g .below in omega arith) (finite b L N (g .below))
+    ∙ root-is (ofBits binary64 b) (significandIn b) (exponentIn b - 1) (h .R) (ofBits-fits binary64 b) (g .some) (g .few) (let h = g .below in omega arith)
+    (finite b L N (g .below))
     (subst (λ (a : ℕ). h .R * h .R ≤ a * 2 ^ 44) w (h .low))
     (subst (λ (a : ℕ). a * 2 ^ 44 < (h .R + 1) * (h .R + 1)) w (h .high))
 

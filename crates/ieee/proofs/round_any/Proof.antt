@@ -32,7 +32,8 @@ widen-bits-requires : tie.Need-widen-bits-requires
 widen-bits-requires c κs = search needs
 
 returns-2 : tie.Need-returns-2
-returns-2 c = record { value = c .widen-bits .ensures ∙ ap (ofBits binary32) (is (c .before)) ∙ ofBits-toBits binary32 _ (narrowed-fits _); bits = is (c .before) }
+returns-2 c =
+    record { value = c .widen-bits .ensures ∙ ap (ofBits binary32) (is (c .before)) ∙ ofBits-toBits binary32 _ (narrowed-fits _); bits = is (c .before) }
 
 pub round-any-spec : {M : Type 1} → statement M
 round-any-spec =

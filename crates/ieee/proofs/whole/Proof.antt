@@ -25,7 +25,8 @@ returns-2 : tie.Need-returns-2
 returns-2 c = below-zero _ _ _ _ _ (le-leb _ _ (c .if2 .taken)) (meaning _ (held (c .before .before)) (no-nan _ (c .before .if1 .left)))
 
 whole-positive-requires : tie.Need-whole-positive-requires
-whole-positive-requires c κs = let h = number-below binary64 (c .before .before .args .x) (held (c .before .before)) (no-nan _ (c .before .if1 .left)) in omega arith
+whole-positive-requires c κs = let h = number-below binary64 (c .before .before .args .x) (held (c .before .before)) (no-nan _ (c .before .if1 .left)) in
+    omega arith
 
 returns-3 : tie.Need-returns-3
 returns-3 c =

@@ -36,12 +36,14 @@ module _ (b : ℕ) (n : Normal) (up : Bool) (L : b ≤ 2047 * 2 ^ 52) (u : Norma
   few : b % 2 ^ 52 < 2 ^ 52
   few = mod-lt b (pow-pos 52)
 
-  cut : (q r : ℕ) → n .place ≤ 1074 + n .shift → r ≡ min (1074 + n .shift - n .place) 63 → q ≡ divBy up (n .digits) (2 ^ r) → q ≡ wholeBy (divBy up) (ofBits binary64 b)
+  cut : (q r : ℕ) → n .place ≤ 1074 + n .shift → r ≡ min (1074 + n .shift - n .place) 63 → q ≡ divBy up (n .digits) (2 ^ r)
+      → q ≡ wholeBy (divBy up) (ofBits binary64 b)
   cut q r h e f =
       f ∙ ap (λ (w : ℕ). divBy up w (2 ^ r)) (u .digits)
       ∙ low (divBy up) (is-rule up) (ofBits binary64 b) (leb (2 ^ 63) b) (exponentIn b) (b % 2 ^ 52) few sign r (omega arith) (cc) means
 
-  grown : 1074 + n .shift < n .place → n .place ≤ 1074 + n .shift + 2 → n .digits * 2 ^ (n .place - (1074 + n .shift)) % 2 ^ 64 ≡ wholeBy (divBy up) (ofBits binary64 b)
+  grown : 1074 + n .shift < n .place → n .place ≤ 1074 + n .shift + 2
+      → n .digits * 2 ^ (n .place - (1074 + n .shift)) % 2 ^ 64 ≡ wholeBy (divBy up) (ofBits binary64 b)
   grown h l =
       ap (λ (w : ℕ). w * 2 ^ (n .place - (1074 + n .shift)) % 2 ^ 64) (u .digits)
       ∙ ap (λ (k : ℕ). significandIn b * 2 ^ shiftOf (significandIn b) * 2 ^ k % 2 ^ 64) (cc)
@@ -65,7 +67,8 @@ dropped-requires c κs = (ground _ _ (c .before .before .before .normalise .ensu
 returns : tie.Need-returns
 returns c =
     let s = c .before .before .before .before in
-    cut (s .before .args .b) (s .normalise .result) (s .before .args .up) (s .before .pre) (s .normalise .ensures) _ _ (c .before .before .if1 .taken) (c .before .least .ensures) (c .dropped .ensures)
+    cut (s .before .args .b) (s .normalise .result) (s .before .args .up) (s .before .pre) (s .normalise .ensures) _ _ (c .before .before .if1 .taken)
+    (c .before .least .ensures) (c .dropped .ensures)
 
 add-if2 : tie.Need-add-if2
 add-if2 c = let g = ground _ _ (c .before .before .normalise .ensures) in omega arith

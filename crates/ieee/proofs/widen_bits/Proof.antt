@@ -28,7 +28,8 @@ float-from-bits-result c = number c
 
 float-to-float-result : tie.Need-float-to-float-result
 float-to-float-result c =
-    castable binary64 _ (fits-widens _ (ofBits-fits binary32 (c .before .before .args .n))) (subst (λ (t : Bool). T (not t)) (nanBits-is binary32 (c .before .before .args .n)) (number (c .before)))
+    castable binary64 _ (fits-widens _ (ofBits-fits binary32 (c .before .before .args .n)))
+    (subst (λ (t : Bool). T (not t)) (nanBits-is binary32 (c .before .before .args .n)) (number (c .before)))
 
 returns-2 : tie.Need-returns-2
 returns-2 c = search needs

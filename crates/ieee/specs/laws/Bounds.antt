@@ -1,8 +1,11 @@
 -- Bounds on floats. `Within x a c` says that x is finite and at most a / c in size, for a c above 0, and `Value f a c` that a / c is a value of the format f.
--- Where a bound is a value of the format, what is within it rounds to what is within it. So a sum, a difference and a product are within the bounds' sum and product, or within any value above those. Assumes nothing.
+-- Where a bound is a value of the format, what is within it rounds to what is within it. So a sum, a difference and a product are within the bounds' sum and
+-- product, or within any value above those. Assumes nothing.
 use mathlib.Core.Path.{_≡_, refl, sym, ap, _∙_, subst}
 use Prim.Native.Nat.{ℕ, zero, suc, _+_, _-_, _*_, _/_, _%_, _^_, _≤_, _<_}
-use native.Mathlib.Nat.{le-trans, le-of-eq, le-of-lt, lt-of-le-of-lt, sub-le, le-add-left, le-add-right, add-le-add, mul-one, mul-assoc, mul-comm, mul-left-comm, mul-right-comm, mul-mul-mul-comm, add-mul, mul-pos, mul-le-mul, mul-le-mul-right, le-of-mul-le-mul-right, mul-div-cancel, mul-mod-left, mul-lt-mul-of-pos-right, lt-of-lt-of-le, div-lt-iff-lt-mul, lt-irrefl, zero-mul, zero-lt-suc}
+use native.Mathlib.Nat.{le-trans, le-of-eq, le-of-lt, lt-of-le-of-lt, sub-le, le-add-left, le-add-right, add-le-add, mul-one, mul-assoc, mul-comm}
+use native.Mathlib.Nat.{mul-left-comm, mul-right-comm, mul-mul-mul-comm, add-mul, mul-pos, mul-le-mul, mul-le-mul-right, le-of-mul-le-mul-right, mul-div-cancel}
+use native.Mathlib.Nat.{mul-mod-left, mul-lt-mul-of-pos-right, lt-of-lt-of-le, div-lt-iff-lt-mul, lt-irrefl, zero-mul, zero-lt-suc}
 use native.Mathlib.Omega.{arith}
 use mathlib.Core.Bool.{Bool, true, false, _&&_, _||_, Bool·beq, cond}
 use lib.IntN.{ℤ, pos}
@@ -99,7 +102,8 @@ add-within f (fin s m e) (fin u n d) a b t c C v l h k =
     p = le-trans (le-of-eq (mul-right-comm (m * up e) (down d) c)) (le-trans (mul-le-mul-right (down d) h) (le-of-eq (mul-assoc a (down e) (down d))))
 
     q : n * up d * down e * c ≤ b * (down e * down d)
-    q = le-trans (le-of-eq (mul-right-comm (n * up d) (down e) c)) (le-trans (mul-le-mul-right (down e) k) (le-of-eq (mul-assoc b (down d) (down e) ∙ ap (λ (x : ℕ). b * x) (mul-comm (down d) (down e)))))
+    q = le-trans (le-of-eq (mul-right-comm (n * up d) (down e) c))
+        (le-trans (mul-le-mul-right (down e) k) (le-of-eq (mul-assoc b (down d) (down e) ∙ ap (λ (x : ℕ). b * x) (mul-comm (down d) (down e)))))
 
 pub neg-within : (x : Float) (a c : ℕ) → Within x a c → Within (neg x) a c
 unfolding neg
@@ -112,7 +116,8 @@ unfolding sub
 sub-within f x y a b t c C v l h k = add-within f x (neg y) a b t c C v l h (neg-within y b c k)
 
 -- ---- products
-pub mul-within : (f : Format) (x y : Float) (a c b d t : ℕ) → 0 < c → 0 < d → Value f t (c * d) → a * b ≤ t → Within x a c → Within y b d → Within (mul f x y) t (c * d)
+pub mul-within : (f : Format) (x y : Float) (a c b d t : ℕ) → 0 < c → 0 < d → Value f t (c * d) → a * b ≤ t → Within x a c → Within y b d
+    → Within (mul f x y) t (c * d)
 unfolding mul
 mul-within f nan y a c b d t C D v l h k = h
 mul-within f (inf s) y a c b d t C D v l h k = absurd h
@@ -180,7 +185,8 @@ nonzero : (n : ℕ) (b dn u g : ℕ) → 0 < b → 0 < dn → b * dn ≤ n * u *
 nonzero zero b dn u g B D h = absurd (lt-irrefl 0 (lt-of-lt-of-le (mul-pos B D) (le-trans h (le-of-eq (ap (λ (x : ℕ). x * g) (zero-mul u) ∙ zero-mul g)))))
 nonzero (suc n) b dn u g B D h = zero-lt-suc n
 
-pub div-within : (f : Format) (x y : Float) (a c b g t u : ℕ) → 0 < c → 0 < b → 0 < u → Value f t u → a * g * u ≤ t * (c * b) → Within x a c → Beyond y b g → Within (div f x y) t u
+pub div-within : (f : Format) (x y : Float) (a c b g t u : ℕ) → 0 < c → 0 < b → 0 < u → Value f t u → a * g * u ≤ t * (c * b) → Within x a c → Beyond y b g
+    → Within (div f x y) t u
 unfolding div
 div-within f nan y a c b g t u C B U v l h k = h
 div-within f (inf s) y a c b g t u C B U v l h k = absurd h
@@ -203,7 +209,9 @@ div-within f (fin s m e) (fin z n d) a c b g t u C B U v l h k = go (eqb n 0) (e
 
     go : (q : Bool) → (T q → n ≡ 0) → Within (cond q (cond (eqb m 0) nan (inf (unlike s z))) (round f (unlike s z) (m * up e * down d) (n * up d * down e))) t u
     go true w = absurd (no n N (w tt))
-    go false w = round-within f (unlike s z) (m * up e * down d) (n * up d * down e) t u (mul-pos (mul-pos N (up-pos d)) (down-pos e)) U v (le-of-mul-le-mul-right cross (mul-pos C B))
+    go false w =
+        round-within f (unlike s z) (m * up e * down d) (n * up d * down e) t u (mul-pos (mul-pos N (up-pos d)) (down-pos e)) U v
+        (le-of-mul-le-mul-right cross (mul-pos C B))
 
 -- ---- what a program's tests say: -y ≤ x ≤ y
 pub or-le : (a b : ℕ) (t : Bool) → T (ltb a b || (eqb a b && t)) → a ≤ b

@@ -20,7 +20,9 @@ abbrev pub Meaning : Float → Bool → ℕ → ℕ → Type 0
 Meaning x s e t = ((e < 2047) × HasValue x s (significandOf e t * 2 ^ (e - 1)) (2 ^ 1074)) ⊎ ((2047 ≤ e) × (t ≡ 0) × (x ≡ inf s))
 
 odd-as : (s : Bool) (e t q k : ℕ) → q ≡ significandOf e t → k ≡ e - 1 → HasValue (odd 53 s q k 1074) s (significandOf e t * 2 ^ (e - 1)) (2 ^ 1074)
-odd-as s e t q k p r = subst (λ (a : ℕ). HasValue (odd 53 s q k 1074) s a (2 ^ 1074)) (ap (λ (x : ℕ). x * 2 ^ k) p ∙ ap (λ (x : ℕ). significandOf e t * 2 ^ x) r) (odd-sign 53 s q k 1074)
+odd-as s e t q k p r =
+    subst (λ (a : ℕ). HasValue (odd 53 s q k 1074) s a (2 ^ 1074)) (ap (λ (x : ℕ). x * 2 ^ k) p ∙ ap (λ (x : ℕ). significandOf e t * 2 ^ x) r)
+    (odd-sign 53 s q k 1074)
 
 below-ones : (e : ℕ) → e < 2048 → (e ≡ 2047 → ⊥) → e < 2047
 below-ones e h n = omega arith
@@ -30,7 +32,8 @@ unfolding ofFields
 meaning-fields s zero t h n = inl (omega arith, odd-as s 0 t t 0 (omega arith) (omega arith))
 meaning-fields s (suc x) t h n = go (eqb (suc x) 2047) (eqb→eq (suc x) 2047) (λ e. eq→eqb e) (eqb t 0) (eqb→eq t 0) n
   where
-    go : (b : Bool) → (T b → suc x ≡ 2047) → (suc x ≡ 2047 → T b) → (d : Bool) → (T d → t ≡ 0) → T (not (isNan (cond b (cond d (inf s) nan) (odd 53 s (2 ^ 52 + t) x 1074))))
+    go : (b : Bool) → (T b → suc x ≡ 2047) → (suc x ≡ 2047 → T b) → (d : Bool) → (T d → t ≡ 0)
+        → T (not (isNan (cond b (cond d (inf s) nan) (odd 53 s (2 ^ 52 + t) x 1074))))
         → Meaning (cond b (cond d (inf s) nan) (odd 53 s (2 ^ 52 + t) x 1074)) s (suc x) t
     go true e f true z n = let k = e tt in inr (omega arith, z tt, refl)
     go true e f false z n = absurd (unfold isNan in n)

@@ -1,8 +1,11 @@
--- Lower bounds. `Beyond x b g` says that x is finite and at least b / g in size. What a fraction reaches, its rounded value reaches, if that is a value of the format. So does a root. Assumes nothing.
+-- Lower bounds. `Beyond x b g` says that x is finite and at least b / g in size. What a fraction reaches, its rounded value reaches, if that is a value of the
+-- format. So does a root. Assumes nothing.
 use mathlib.Core.Path.{_≡_, refl, sym, ap, _∙_, subst}
 use mathlib.Core.Logic.{_⊎_, inl, inr}
 use Prim.Native.Nat.{ℕ, zero, suc, _+_, _-_, _*_, _%_, _^_, _≤_, _<_, zero-le}
-use native.Mathlib.Nat.{le-trans, le-of-eq, lt-of-lt-of-le, lt-of-le-of-lt, eq-zero-or-pos, eq-or-lt-of-le, mul-one, one-mul, zero-mul, mul-assoc, mul-comm, mul-left-comm, mul-right-comm, mul-mul-mul-comm, add-mul, mul-add, mul-pos, mul-le-mul-right, mul-lt-mul-of-pos-right, lt-of-mul-lt-mul-right, le-of-mul-le-mul-right, lt-irrefl}
+use native.Mathlib.Nat.{le-trans, le-of-eq, lt-of-lt-of-le, lt-of-le-of-lt, eq-zero-or-pos, eq-or-lt-of-le, mul-one, one-mul, zero-mul, mul-assoc, mul-comm}
+use native.Mathlib.Nat.{mul-left-comm, mul-right-comm, mul-mul-mul-comm, add-mul, mul-add, mul-pos, mul-le-mul-right, mul-lt-mul-of-pos-right}
+use native.Mathlib.Nat.{lt-of-mul-lt-mul-right, le-of-mul-le-mul-right, lt-irrefl}
 use native.Mathlib.Omega.{arith}
 use mathlib.Core.Bool.{Bool, true, false, _&&_, _||_}
 use lib.IntN.{ℤ, pos, negsuc}
@@ -74,7 +77,8 @@ fine f num den a c D C v h =
     C in
     lt-of-le-of-lt (grid-le (prec f) (num * l) den (v .q) (v .j) D (v .digits) n-le) (v .under)
 
-pub round-beyond : (f : Format) (s : Bool) (num den a c : ℕ) → 0 < den → 0 < c → Value f a c → a * den ≤ num * c → grid f num den < overflow f → Beyond (round f s num den) a c
+pub round-beyond : (f : Format) (s : Bool) (num den a c : ℕ) → 0 < den → 0 < c → Value f a c → a * den ≤ num * c → grid f num den < overflow f
+    → Beyond (round f s num den) a c
 round-beyond f s num den a c D C v h o =
     let l = 2 ^ low f in
     let g = v .q * 2 ^ v .j in
@@ -117,32 +121,40 @@ zero-beyond nan s a c b h = h
 zero-beyond (inf t) s a c b h = h
 zero-beyond (fin t m e) s a c b h = le-trans (le-of-eq (zero-mul (down e))) zero-le
 
-pub rooted-beyond : (x : Float) (a t c : ℕ) → T (fits binary64 x) → HasValue x false a (2 ^ 1074) → 0 < c → Value binary64 t c → t * t * 2 ^ 1074 ≤ a * (c * c) → Beyond (rooted x) t c
+pub rooted-beyond : (x : Float) (a t c : ℕ) → T (fits binary64 x) → HasValue x false a (2 ^ 1074) → 0 < c → Value binary64 t c → t * t * 2 ^ 1074 ≤ a * (c * c)
+    → Beyond (rooted x) t c
 rooted-beyond x a t c F hx C w h = go (eq-zero-or-pos a)
   where
     go : (a ≡ 0) ⊎ (0 < a) → Beyond (rooted x) t c
     go (inl z) =
         let n : t ≡ 0 = no-square t (2 ^ 1074) (pow-pos 1074) (le-trans h (le-of-eq (ap (λ (k : ℕ). k * (c * c)) z ∙ zero-mul (c * c)))) in
         subst (λ (k : ℕ). Beyond (rooted x) k c) (sym n)
-        (subst (λ (y : Float). Beyond y 0 c) (rooted-zero x false (2 ^ 1074) (pow-pos 1074) (subst (λ (k : ℕ). HasValue x false k (2 ^ 1074)) z hx)) (zero-beyond x false a (2 ^ 1074) c hx))
+        (subst (λ (y : Float). Beyond y 0 c) (rooted-zero x false (2 ^ 1074) (pow-pos 1074) (subst (λ (k : ℕ). HasValue x false k (2 ^ 1074)) z hx))
+        (zero-beyond x false a (2 ^ 1074) c hx))
     go (inr A) =
         let v = w .q * 2 ^ w .j in
         let y = round binary64 false t c in
-        let hy : HasValue y false v (2 ^ 1074) = rescale y false t c v (2 ^ 1074) C (w .is) (round-exact binary64 false t c (w .q) (w .j) C (w .digits) (w .under) (w .is)) in
+        let hy : HasValue y false v (2 ^ 1074) =
+        rescale y false t c v (2 ^ 1074) C (w .is) (round-exact binary64 false t c (w .q) (w .j) C (w .digits) (w .under) (w .is)) in
         let z = rooted-finite x a F A hx in
         let n = rooted-nearest x y a v (z .0) F (round-fits binary64 false t c) A hx hy (z .1) in
         let down-to : v * v ≤ a * 2 ^ 1074 =
         le-of-mul-le-mul-right
-        (le-trans (le-of-eq (sym (mul-assoc (t * t) (2 ^ 1074) (2 ^ 1074) ∙ mul-mul-mul-comm t t (2 ^ 1074) (2 ^ 1074) ∙ ap (λ (k : ℕ). k * k) (w .is) ∙ mul-mul-mul-comm v c v c)))
+        (le-trans
+        (le-of-eq
+        (sym (mul-assoc (t * t) (2 ^ 1074) (2 ^ 1074) ∙ mul-mul-mul-comm t t (2 ^ 1074) (2 ^ 1074) ∙ ap (λ (k : ℕ). k * k) (w .is)
+        ∙ mul-mul-mul-comm v c v c)))
         (le-trans (mul-le-mul-right (2 ^ 1074) h) (le-of-eq (mul-right-comm a (c * c) (2 ^ 1074)))))
         (mul-pos C C) in
-        beyond-of-value (rooted x) false (z .0) (2 ^ 1074) t c (pow-pos 1074) (z .1) (le-trans (le-of-eq (w .is)) (mul-le-mul-right c (most (z .0) v (a * 2 ^ 1074) down-to (n .0))))
+        beyond-of-value (rooted x) false (z .0) (2 ^ 1074) t c (pow-pos 1074) (z .1)
+        (le-trans (le-of-eq (w .is)) (mul-le-mul-right c (most (z .0) v (a * 2 ^ 1074) down-to (n .0))))
 
 -- the upper bound, at 0 too
 zero-within : (x : Float) (s : Bool) (c t d : ℕ) → 0 < c → HasValue x s 0 c → Within x t d
 zero-within x s c t d C h = within-of-value x s 0 c t d C h (le-trans (le-of-eq (zero-mul d)) zero-le)
 
-pub rooted-bound : (x : Float) (a t c : ℕ) → T (fits binary64 x) → HasValue x false a (2 ^ 1074) → 0 < c → Value binary64 t c → a * (c * c) ≤ t * t * 2 ^ 1074 → Within (rooted x) t c
+pub rooted-bound : (x : Float) (a t c : ℕ) → T (fits binary64 x) → HasValue x false a (2 ^ 1074) → 0 < c → Value binary64 t c → a * (c * c) ≤ t * t * 2 ^ 1074
+    → Within (rooted x) t c
 rooted-bound x a t c F hx C w h = go (eq-zero-or-pos a)
   where
     go : (a ≡ 0) ⊎ (0 < a) → Within (rooted x) t c
@@ -173,7 +185,8 @@ fit f s m e t =
 -- 2 ^ e in units of 2 ^ -l
 placed : (e : ℤ) (l : ℕ) → down e ≤ 2 ^ l → (j : ℕ) × (up e * 2 ^ l ≡ 2 ^ j * down e)
 placed (pos k) l h = (k + l, sym (pow-add 2 k l) ∙ sym (mul-one (2 ^ (k + l))))
-placed (negsuc k) l h = (l - suc k, one-mul (2 ^ l) ∙ sym (sym (pow-add 2 (l - suc k) (suc k)) ∙ ap (λ (x : ℕ). 2 ^ x) (back l (suc k) (pow-le-back (suc k) l h))))
+placed (negsuc k) l h =
+    (l - suc k, one-mul (2 ^ l) ∙ sym (sym (pow-add 2 (l - suc k) (suc k)) ∙ ap (λ (x : ℕ). 2 ^ x) (back l (suc k) (pow-le-back (suc k) l h))))
 
 fit-value : (f : Format) (m : ℕ) (e : ℤ) → Fit f m e → Value f (m * up e) (down e)
 fit-value f m e t =
@@ -185,7 +198,9 @@ fit-value f m e t =
       j = j;
       digits = t .digits;
       under = lt-of-mul-lt-mul-right (down e) (lt-of-le-of-lt (le-of-eq (sym is)) (lt-of-lt-of-le (mul-lt-mul-of-pos-right (t .most) (pow-pos (low f)))
-          (le-of-eq (mul-right-comm (2 ^ suc (emax f)) (down e) (2 ^ low f) ∙ ap (λ (x : ℕ). x * down e) (mul-comm (2 ^ suc (emax f)) (2 ^ low f) ∙ sym (pow-add 2 (low f) (suc (emax f))))))));
+          (le-of-eq
+          (mul-right-comm (2 ^ suc (emax f)) (down e) (2 ^ low f)
+          ∙ ap (λ (x : ℕ). x * down e) (mul-comm (2 ^ suc (emax f)) (2 ^ low f) ∙ sym (pow-add 2 (low f) (suc (emax f))))))));
       is = is;
     }
 
@@ -234,7 +249,8 @@ widened a c v = record {
   j = v .j + 925;
   digits = lt-of-lt-of-le (v .digits) (lit≤ tt);
   under = lt-of-le-of-lt (le-of-eq (more (v .q) (v .j))) (lt-of-lt-of-le (mul-lt-mul-of-pos-right (v .under) (pow-pos 925)) (lit≤ tt));
-  is = sym (mul-assoc a (2 ^ 149) (2 ^ 925)) ∙ ap (λ (x : ℕ). x * 2 ^ 925) (v .is) ∙ mul-right-comm (v .q * 2 ^ v .j) c (2 ^ 925) ∙ ap (λ (x : ℕ). x * c) (sym (more (v .q) (v .j)));
+  is = sym (mul-assoc a (2 ^ 149) (2 ^ 925)) ∙ ap (λ (x : ℕ). x * 2 ^ 925) (v .is) ∙ mul-right-comm (v .q * 2 ^ v .j) c (2 ^ 925)
+      ∙ ap (λ (x : ℕ). x * c) (sym (more (v .q) (v .j)));
 }
   where
     more : (q j : ℕ) → q * 2 ^ (j + 925) ≡ q * 2 ^ j * 2 ^ 925
@@ -270,21 +286,31 @@ or-i-r true b t = tt
 or-i-r false b t = t
 
 test-le : (a b : ℕ) → a ≤ b → T (ltb a b || (eqb a b && true))
-test-le a b h = elim (eq-or-lt-of-le h) [ inl p ↦ or-i-r (ltb a b) (eqb a b && true) (and-i (eqb a b) true (eq→eqb p) tt) | inr q ↦ or-i-l (ltb a b) (eqb a b && true) (lt→ltb a b q) ]
+test-le a b h =
+    elim (eq-or-lt-of-le h)
+    [ inl p ↦ or-i-r (ltb a b) (eqb a b && true) (and-i (eqb a b) true (eq→eqb p) tt) | inr q ↦ or-i-l (ltb a b) (eqb a b && true) (lt→ltb a b q) ]
 
 test-ge : (a b : ℕ) → b ≤ a → T (ltb b a || (eqb a b && true))
-test-ge a b h = elim (eq-or-lt-of-le h) [ inl p ↦ or-i-r (ltb b a) (eqb a b && true) (and-i (eqb a b) true (eq→eqb (sym p)) tt) | inr q ↦ or-i-l (ltb b a) (eqb a b && true) (lt→ltb b a q) ]
+test-ge a b h =
+    elim (eq-or-lt-of-le h)
+    [ inl p ↦ or-i-r (ltb b a) (eqb a b && true) (and-i (eqb a b) true (eq→eqb (sym p)) tt) | inr q ↦ or-i-l (ltb b a) (eqb a b && true) (lt→ltb b a q) ]
 
 test-signs : (a b : ℕ) → T (ltb 0 (a + b) || (eqb a b && (false || eqb a 0)))
 test-signs a b = go (eq-zero-or-pos (a + b))
   where
     go : (a + b ≡ 0) ⊎ (0 < a + b) → T (ltb 0 (a + b) || (eqb a b && (false || eqb a 0)))
-    go (inl z) = or-i-r (ltb 0 (a + b)) (eqb a b && (false || eqb a 0)) (and-i (eqb a b) (eqb a 0) (eq→eqb {a = a} {b = b} (omega arith)) (eq→eqb {a = a} {b = 0} (omega arith)))
+    go (inl z) =
+        or-i-r (ltb 0 (a + b)) (eqb a b && (false || eqb a 0))
+        (and-i (eqb a b) (eqb a 0) (eq→eqb {a = a} {b = b} (omega arith)) (eq→eqb {a = a} {b = 0} (omega arith)))
     go (inr p) = or-i-l (ltb 0 (a + b)) (eqb a b && (false || eqb a 0)) (lt→ltb 0 (a + b) p)
 
 pub within-between : (x : Float) (m : ℕ) (e : ℤ) → Within x (m * up e) (down e) → T (le x (fin false m e) && le (fin true m e) x)
 unfolding le
 within-between nan m e w = w
 within-between (inf s) m e w = absurd w
-within-between (fin false n d) m e w = and-i (le (fin false n d) (fin false m e)) (le (fin true m e) (fin false n d)) (test-le (n * up d * down e) (m * up e * down d) w) (test-signs (m * up e * down d) (n * up d * down e))
-within-between (fin true n d) m e w = and-i (le (fin true n d) (fin false m e)) (le (fin true m e) (fin true n d)) (test-signs (n * up d * down e) (m * up e * down d)) (test-ge (m * up e * down d) (n * up d * down e) w)
+within-between (fin false n d) m e w =
+    and-i (le (fin false n d) (fin false m e)) (le (fin true m e) (fin false n d)) (test-le (n * up d * down e) (m * up e * down d) w)
+    (test-signs (m * up e * down d) (n * up d * down e))
+within-between (fin true n d) m e w =
+    and-i (le (fin true n d) (fin false m e)) (le (fin true m e) (fin true n d)) (test-signs (n * up d * down e) (m * up e * down d))
+    (test-ge (m * up e * down d) (n * up d * down e) w)

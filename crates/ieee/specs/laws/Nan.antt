@@ -45,7 +45,9 @@ no-nan-bits f n e = subst (λ (b : Bool). T (not b)) (sym (nanBits-above f n ∙
 
 -- and what is no NaN has a pattern up to the infinity's
 pub number-below : (f : Format) (x : Float) → T (fits f x) → T (not (isNan x)) → toBits f x % top f ≤ ones f * hid f
-number-below f x F N = ltb-false (ones f * hid f) (toBits f x % top f) (sym (nanBits-above f (toBits f x)) ∙ nanBits-is f (toBits f x) ∙ ap isNan (ofBits-toBits f x F) ∙ is-false (isNan x) N)
+number-below f x F N =
+    ltb-false (ones f * hid f) (toBits f x % top f)
+    (sym (nanBits-above f (toBits f x)) ∙ nanBits-is f (toBits f x) ∙ ap isNan (ofBits-toBits f x F) ∙ is-false (isNan x) N)
 
 -- what a cast between the formats asks
 pub castable : (f : Format) (x : Float) → T (fits f x) → T (not (isNan x)) → T (fits f x && not (isNan x))

@@ -44,7 +44,8 @@ placed m h = go (eq-zero-or-pos m)
         let b : j < 53 = pow-lt-back j 53 (lt-of-le-of-lt (t .2) h) in
         let c = shiftOf m in
         record {
-          high = lt-of-lt-of-le (mul-lt-mul-of-pos-right (t .3) (pow-pos c)) (le-trans (le-of-eq (sym (pow-add 2 (suc j) c))) (pow-mono {i = suc j + c} {j = 62} (omega arith)));
+          high = lt-of-lt-of-le (mul-lt-mul-of-pos-right (t .3) (pow-pos c))
+              (le-trans (le-of-eq (sym (pow-add 2 (suc j) c))) (pow-mono {i = suc j + c} {j = 62} (omega arith)));
           low = λ _. le-trans (pow-mono {i = 61} {j = j + c} (omega arith)) (le-trans (le-of-eq (pow-add 2 j c)) (mul-le-mul-right (2 ^ c) (t .2)));
           full = λ f. let d : 52 < suc j = pow-lt-back 52 (suc j) (lt-of-le-of-lt f (t .3)) in omega arith;
           most = omega arith;

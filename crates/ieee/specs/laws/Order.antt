@@ -1,13 +1,16 @@
--- Floats with no NaN and no sign bit, `Plain`, have the order of numbers: by their key, strict, total and transitive, and equal ones are identical. Sums and squares are such floats. Assumes nothing.
+-- Floats with no NaN and no sign bit, `Plain`, have the order of numbers: by their key, strict, total and transitive, and equal ones are identical. Sums and
+-- squares are such floats. Assumes nothing.
 use mathlib.Core.Path.{_≡_, refl, ap, sym, _∙_, subst}
 use mathlib.Core.Bool.{Bool, true, false, cond, not, _&&_, _||_, Bool·beq}
 use Prim.Native.Nat.{ℕ, zero, suc, _+_, _*_, _-_, _/_, _%_, _^_, _≤_, _<_, compare}
-use native.Mathlib.Nat.{mul-assoc, mul-comm, mul-right-comm, mul-one, one-mul, div-one, mul-div-cancel, mul-le-mul-right, mul-lt-mul-of-pos-right, lt-of-mul-lt-mul-right, le-of-mul-le-mul-right, eq-of-mul-eq-mul-right, mul-pos}
+use native.Mathlib.Nat.{mul-assoc, mul-comm, mul-right-comm, mul-one, one-mul, div-one, mul-div-cancel, mul-le-mul-right, mul-lt-mul-of-pos-right}
+use native.Mathlib.Nat.{lt-of-mul-lt-mul-right, le-of-mul-le-mul-right, eq-of-mul-eq-mul-right, mul-pos}
 use native.Mathlib.Omega.{arith}
 use lib.Dec.{T, ltb, leb, eqb, leb→le, ltb→lt, eqb→eq}
 use lib.IntN.{ℤ, pos, negsuc}
 use lib.Pow.{pow-add, pow-pos}
-use lib.Ieee.{Float, nan, inf, fin, Format, prec, emax, low, up, down, lt, eq, add, mul, sum, round, units, odd, fits, toBits, ofBits, isNan, size, hid, nearest}
+use lib.Ieee.{Float, nan, inf, fin, Format, prec, emax, low, up, down, lt, eq, add, mul, sum, round, units, odd, fits, toBits, ofBits, isNan, size, hid}
+use lib.Ieee.{nearest}
 use lib.Ieee.Bits.{ofBits-toBits}
 use lib.Ieee.Fits.{and-l, and-r, up-pos, down-pos}
 use borrow.Author.Tests.{ltb-true, ltb-false, lt-ltb, le-ltb}
@@ -63,7 +66,8 @@ key-exact f s m e t = exact (m * up e) (low f) e (down-small f s m e t)
 
 -- over a common denominator
 over : (f : Format) (s : Bool) (m : ℕ) (e d : ℤ) → T (fits f (fin s m e)) → m * up e * down d * 2 ^ low f ≡ key f (fin s m e) * (down e * down d)
-over f s m e d x = mul-right-comm (m * up e) (down d) (2 ^ low f) ∙ ap (λ (z : ℕ). z * down d) (sym (key-exact f s m e x)) ∙ mul-assoc (key f (fin s m e)) (down e) (down d)
+over f s m e d x = mul-right-comm (m * up e) (down d) (2 ^ low f) ∙ ap (λ (z : ℕ). z * down d) (sym (key-exact f s m e x))
+    ∙ mul-assoc (key f (fin s m e)) (down e) (down d)
 
 key-under : (f : Format) (s : Bool) (m : ℕ) (e : ℤ) → T (fits f (fin s m e)) → key f (fin s m e) < 2 ^ suc (emax f) * 2 ^ low f
 key-under f s m e t =

@@ -1,7 +1,9 @@
 -- `rooted` sees only the value of a float, and what it makes of one in bits and in units. Assumes nothing.
 use mathlib.Core.Path.{_≡_, refl, sym, ap, _∙_, subst}
 use Prim.Native.Nat.{ℕ, zero, suc, _+_, _-_, _*_, _/_, _%_, _^_, _≤_, _<_, min}
-use native.Mathlib.Nat.{mul-one, mul-assoc, mul-comm, mul-left-comm, mul-right-comm, mul-mul-mul-comm, add-mul, one-mul, pow-succ', le-of-eq, le-trans, lt-of-lt-of-le, lt-of-le-of-lt, lt-irrefl, zero-lt-suc, zero-mul, mul-pos, mul-le-mul-right, mul-lt-mul-of-pos-right, pow-le-pow-left, mul-div-cancel}
+use native.Mathlib.Nat.{mul-one, mul-assoc, mul-comm, mul-left-comm, mul-right-comm, mul-mul-mul-comm, add-mul, one-mul, pow-succ', le-of-eq, le-trans}
+use native.Mathlib.Nat.{lt-of-lt-of-le, lt-of-le-of-lt, lt-irrefl, zero-lt-suc, zero-mul, mul-pos, mul-le-mul-right, mul-lt-mul-of-pos-right, pow-le-pow-left}
+use native.Mathlib.Nat.{mul-div-cancel}
 use native.Mathlib.Omega.{arith}
 use mathlib.Core.Logic.{_⊎_, inl, inr}
 use mathlib.Core.Bool.{Bool, true, false, not, cond, true≢false, false≢true}
@@ -39,14 +41,16 @@ isqrt-is n = isqrtIn-is (size n) n (lt-of-lt-of-le (size-lt n) (pow-le-pow-left 
 
 -- ---- `rooted` sees only the value
 not-none : (m u c a d : ℕ) → m * u * c ≡ a * d → 0 < a → 0 < d → m ≡ 0 → ⊥
-not-none m u c a d e A D z = lt-irrefl 0 (subst (λ (x : ℕ). 0 < x) (sym e ∙ ap (λ (x : ℕ). x * u * c) z ∙ ap (λ (x : ℕ). x * c) (zero-mul u) ∙ zero-mul c) (mul-pos A D))
+not-none m u c a d e A D z =
+    lt-irrefl 0 (subst (λ (x : ℕ). 0 < x) (sym e ∙ ap (λ (x : ℕ). x * u * c) z ∙ ap (λ (x : ℕ). x * c) (zero-mul u) ∙ zero-mul c) (mul-pos A D))
 
 pub rooted-zero : (x : Float) (s : Bool) (c : ℕ) → 0 < c → HasValue x s 0 c → x ≡ rooted x
 unfolding rooted
 rooted-zero nan s c C h = absurd h
 rooted-zero (inf t) s c C h = absurd h
 rooted-zero (fin t zero e) s c C h = refl
-rooted-zero (fin t (suc m) e) s c C h = absurd (lt-irrefl 0 (subst (λ (x : ℕ). 0 < x) (h .1 ∙ zero-mul (down e)) (mul-pos (mul-pos (zero-lt-suc m) (up-pos e)) C)))
+rooted-zero (fin t (suc m) e) s c C h =
+    absurd (lt-irrefl 0 (subst (λ (x : ℕ). 0 < x) (h .1 ∙ zero-mul (down e)) (mul-pos (mul-pos (zero-lt-suc m) (up-pos e)) C)))
 
 pub rooted-negative : (x : Float) (a c : ℕ) → 0 < a → HasValue x true a c → nan ≡ rooted x
 unfolding rooted
@@ -110,7 +114,8 @@ half-up R S p u e lo hi = go (split-half R)
         closest-down (2 * S + 1) u (omega arith) ∙ q ∙ omega arith
     go (inr k) =
         let j = R / 2 in
-        let a : R * p ≡ j * p * 2 + p = ap (λ (x : ℕ). x * p) k ∙ add-mul (j * 2) 1 p ∙ ap (λ (x : ℕ). x + 1 * p) (mul-right-comm j 2 p) ∙ ap (λ (x : ℕ). j * p * 2 + x) (one-mul p) in
+        let a : R * p ≡ j * p * 2 + p = ap (λ (x : ℕ). x * p) k ∙ add-mul (j * 2) 1 p ∙ ap (λ (x : ℕ). x + 1 * p) (mul-right-comm j 2 p)
+        ∙ ap (λ (x : ℕ). j * p * 2 + x) (one-mul p) in
         let f = fours j in
         let s = step in
         let t = 2 * (S - R * p) + 1 + 2 * p in
@@ -121,14 +126,17 @@ half-up R S p u e lo hi = go (split-half R)
         closest-up (2 * S + 1) u (omega arith) ∙ ap (λ (x : ℕ). x + 1) q ∙ omega arith
 
 -- ---- the pattern of the root: w is m with its leading digit at 63 or 62, and R the 54 digits of the root of w * 2 ^ 44
-module _ (m y c h R : ℕ) (low : 2 ^ 62 ≤ m * 2 ^ c) (high : m * 2 ^ c < 2 ^ 64) (place : y + 84 ≡ c + 2 * h) (lo : R * R ≤ m * 2 ^ c * 2 ^ 44) (hi : m * 2 ^ c * 2 ^ 44 < (R + 1) * (R + 1)) where
+module _ (m y c h R : ℕ) (low : 2 ^ 62 ≤ m * 2 ^ c) (high : m * 2 ^ c < 2 ^ 64) (place : y + 84 ≡ c + 2 * h) (lo : R * R ≤ m * 2 ^ c * 2 ^ 44)
+    (hi : m * 2 ^ c * 2 ^ 44 < (R + 1) * (R + 1)) where
   abbrev S : ℕ
   S = isqrt (m * 2 ^ y * 4 ^ 64)
 
   all : m * 2 ^ y * 4 ^ 64 ≡ m * 2 ^ c * 2 ^ 44 * (2 ^ h * 2 ^ h)
   all =
       mul-assoc m (2 ^ y) (2 ^ 128)
-      ∙ ap (λ (x : ℕ). m * x) (sym (pow-add 2 y 128) ∙ ap (λ (x : ℕ). 2 ^ x) sum ∙ pow-add 2 (c + 44) (h + h) ∙ ap (λ (x : ℕ). x * 2 ^ (h + h)) (pow-add 2 c 44) ∙ ap (λ (x : ℕ). 2 ^ c * 2 ^ 44 * x) (pow-add 2 h h))
+      ∙ ap (λ (x : ℕ). m * x)
+      (sym (pow-add 2 y 128) ∙ ap (λ (x : ℕ). 2 ^ x) sum ∙ pow-add 2 (c + 44) (h + h) ∙ ap (λ (x : ℕ). x * 2 ^ (h + h)) (pow-add 2 c 44)
+      ∙ ap (λ (x : ℕ). 2 ^ c * 2 ^ 44 * x) (pow-add 2 h h))
       ∙ sym (mul-assoc m (2 ^ c * 2 ^ 44) (2 ^ h * 2 ^ h))
       ∙ ap (λ (x : ℕ). x * (2 ^ h * 2 ^ h)) (sym (mul-assoc m (2 ^ c) (2 ^ 44)))
     where
@@ -143,12 +151,15 @@ module _ (m y c h R : ℕ) (low : 2 ^ 62 ≤ m * 2 ^ c) (high : m * 2 ^ c < 2 ^ 
 
   from : R * 2 ^ h ≤ S
   from =
-      let a : R * 2 ^ h * (R * 2 ^ h) ≤ m * 2 ^ y * 4 ^ 64 = le-trans (le-of-eq (square R)) (le-trans (mul-le-mul-right (2 ^ h * 2 ^ h) lo) (le-of-eq (sym all))) in
+      let a : R * 2 ^ h * (R * 2 ^ h) ≤ m * 2 ^ y * 4 ^ 64 =
+      le-trans (le-of-eq (square R)) (le-trans (mul-le-mul-right (2 ^ h * 2 ^ h) lo) (le-of-eq (sym all))) in
       let b : R * 2 ^ h < S + 1 = square-lt (R * 2 ^ h) (S + 1) (lt-of-le-of-lt a (isqrt-is (m * 2 ^ y * 4 ^ 64) .1)) in
       omega arith
 
   to : S < (R + 1) * 2 ^ h
-  to = square-lt S ((R + 1) * 2 ^ h) (lt-of-le-of-lt (le-trans (isqrt-is (m * 2 ^ y * 4 ^ 64) .0) (le-of-eq all)) (lt-of-lt-of-le (mul-lt-mul-of-pos-right hi pos) (le-of-eq (sym (square (R + 1))))))
+  to = square-lt S ((R + 1) * 2 ^ h)
+      (lt-of-le-of-lt (le-trans (isqrt-is (m * 2 ^ y * 4 ^ 64) .0) (le-of-eq all))
+      (lt-of-lt-of-le (mul-lt-mul-of-pos-right hi pos) (le-of-eq (sym (square (R + 1))))))
 
   pub R-low : 2 ^ 53 ≤ R
   R-low = let a : 2 ^ 53 < R + 1 = square-lt (2 ^ 53) (R + 1) (omega arith) in omega arith
@@ -188,5 +199,7 @@ module _ (m y c h R : ℕ) (low : 2 ^ 62 ≤ m * 2 ^ c) (high : m * 2 ^ c < 2 ^ 
       let r = R-high in
       let l : (R + 1) / 2 < 2 ^ 54 = omega arith in
       subst (λ (z : Float). HasValue z false ((R + 1) / 2 * 2 ^ (474 + h)) (2 ^ 1074))
-      (sym (ap (λ (x : ℕ). round binary64 false x (2 ^ 602)) (sym (mul-one (2 * S + 1))) ∙ round-units binary64 (2 * S + 1) 0 602 (474 + h) (h + 2) (omega arith) S-high (λ _. S-low) false ∙ ap (λ (x : ℕ). units binary64 false x (474 + h)) q))
+      (sym (ap (λ (x : ℕ). round binary64 false x (2 ^ 602)) (sym (mul-one (2 * S + 1)))
+      ∙ round-units binary64 (2 * S + 1) 0 602 (474 + h) (h + 2) (omega arith) S-high (λ _. S-low) false
+      ∙ ap (λ (x : ℕ). units binary64 false x (474 + h)) q))
       (units-val binary64 false ((R + 1) / 2) (474 + h) (lt-of-lt-of-le (shl-lt 54 (474 + h) l) (pow-mono {i = 54 + (474 + h)} {j = 2098} (omega arith))))

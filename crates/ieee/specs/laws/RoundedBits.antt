@@ -1,9 +1,12 @@
--- The bit pattern of a rounded value, in one formula for either format: of q * 2 ^ k units it is k times the weight of the exponent's field, plus q, and no more than the infinity's.
+-- The bit pattern of a rounded value, in one formula for either format: of q * 2 ^ k units it is k times the weight of the exponent's field, plus q, and no
+-- more than the infinity's.
 -- A q that was rounded up to 2 ^ prec carries into the field by itself. Before that, `closest` by one test. Assumes nothing.
 use mathlib.Core.Path.{_≡_, refl, sym, ap, _∙_, subst}
 use mathlib.Core.Logic.{_⊎_, inl, inr}
 use Prim.Native.Nat.{ℕ, zero, suc, _+_, _-_, _*_, _/_, _%_, _^_, _≤_, _<_, min, compare, Ordering, Ordering·lt, Ordering·eq, Ordering·gt}
-use native.Mathlib.Nat.{le-trans, le-of-eq, lt-of-lt-of-le, lt-of-le-of-lt, eq-or-lt-of-le, one-mul, mul-assoc, mul-comm, mul-div-cancel, mul-le-mul-right, le-of-mul-le-mul-right, mul-lt-mul-of-pos-right, mul-pos, div-lt-iff-lt-mul, le-div-iff-mul-le, add-assoc, add-mul, suc-mul, zero-lt-suc, pow-succ', div-eq-of-lt, mod-eq-of-lt}
+use native.Mathlib.Nat.{le-trans, le-of-eq, lt-of-lt-of-le, lt-of-le-of-lt, eq-or-lt-of-le, one-mul, mul-assoc, mul-comm, mul-div-cancel, mul-le-mul-right}
+use native.Mathlib.Nat.{le-of-mul-le-mul-right, mul-lt-mul-of-pos-right, mul-pos, div-lt-iff-lt-mul, le-div-iff-mul-le, add-assoc, add-mul, suc-mul}
+use native.Mathlib.Nat.{zero-lt-suc, pow-succ', div-eq-of-lt, mod-eq-of-lt}
 use native.Mathlib.Omega.{arith}
 use mathlib.Core.Bool.{Bool, true, false, not, cond}
 use lib.Dec.{T, ltb, eqb, isLe, isEq, leb→le, nleb→lt, eqb→eq, eqb-refl, ltb→lt, nltb→le, lit≤}
@@ -62,7 +65,8 @@ word p q k P small full = go (eq-or-lt-of-le small)
     go (inl e) =
         let h = 2 ^ (p - 1) in
         let t : q ≡ 2 * h = e ∙ pow-twice p (above-half p P) in
-        let a : q * 2 ^ k ≡ h * 2 ^ suc k = ap (λ (x : ℕ). x * 2 ^ k) (t ∙ mul-comm 2 h) ∙ mul-assoc h 2 (2 ^ k) ∙ ap (λ (x : ℕ). h * x) (sym (pow-succ' 2 k)) in
+        let a : q * 2 ^ k ≡ h * 2 ^ suc k = ap (λ (x : ℕ). x * 2 ^ k) (t ∙ mul-comm 2 h) ∙ mul-assoc h 2 (2 ^ k)
+        ∙ ap (λ (x : ℕ). h * x) (sym (pow-succ' 2 k)) in
         ap (λ (x : ℕ). (size x - p) * h + x / 2 ^ (size x - p)) a
         ∙ word-lt p h (suc k) P (pow-lt (pre p P)) (λ _. le-of-eq refl)
         ∙ carry k h q t
@@ -83,7 +87,10 @@ under-top p m q k P M small full h =
 
     room : (k : ℕ) → (0 < k → 2 ^ (p - 1) ≤ q) → q * 2 ^ k < 2 ^ (m + p - 2 + suc m) → k + 2 ≤ 2 * m + 1
     room zero f h = omega arith
-    room (suc k) f h = more (suc k) (pow-lt-back (p - 1 + suc k) (m + p - 2 + suc m) (lt-of-le-of-lt (le-trans (le-of-eq (pow-add 2 (p - 1) (suc k))) (mul-le-mul-right (2 ^ suc k) (f (zero-lt-suc k)))) h))
+    room (suc k) f h =
+        more (suc k)
+        (pow-lt-back (p - 1 + suc k) (m + p - 2 + suc m)
+        (lt-of-le-of-lt (le-trans (le-of-eq (pow-add 2 (p - 1) (suc k))) (mul-le-mul-right (2 ^ suc k) (f (zero-lt-suc k)))) h))
 
 -- and from there on no less
 over-top : (p m q k : ℕ) → 2 ≤ p → 1 ≤ m → q ≤ 2 ^ p → (0 < k → 2 ^ (p - 1) ≤ q) → 2 ^ (m + p - 2 + suc m) ≤ q * 2 ^ k
@@ -91,7 +98,8 @@ over-top : (p m q k : ℕ) → 2 ≤ p → 1 ≤ m → q ≤ 2 ^ p → (0 < k �
 over-top p m q k P M small full h =
     let w = 2 ^ (p - 1) in
     let t : 2 ^ p ≡ 2 * w = pow-twice p (above-half p P) in
-    let g : 2 * m ≤ k + 1 = far k (pow-le-back (m + p - 2 + suc m) (p + k) (le-trans h (le-trans (mul-le-mul-right (2 ^ k) small) (le-of-eq (sym (pow-add 2 p k)))))) in
+    let g : 2 * m ≤ k + 1 =
+    far k (pow-le-back (m + p - 2 + suc m) (p + k) (le-trans h (le-trans (mul-le-mul-right (2 ^ k) small) (le-of-eq (sym (pow-add 2 p k)))))) in
     let f : w ≤ q = full (pos k g) in
     go (eq-or-lt-of-le g) w t f
   where
@@ -131,12 +139,14 @@ min-r a b h = omega arith
 -- a value of q * 2 ^ k units, of which the format keeps q
 pub value-bits : (f : Format) (s : Bool) (x : Float) (q k : ℕ) → q ≤ 2 ^ prec f → (0 < k → hid f ≤ q) → HasValue x s (q * 2 ^ k) (2 ^ low f)
     → toBits f x ≡ cond s (top f) 0 + (k * hid f + q)
-value-bits f s x q k small full v = toBits-val f s x (q * 2 ^ k) v ∙ add-assoc (cond s (top f) 0) _ _ ∙ ap (λ (n : ℕ). cond s (top f) 0 + n) (word (prec f) q k (two f) small full)
+value-bits f s x q k small full v = toBits-val f s x (q * 2 ^ k) v ∙ add-assoc (cond s (top f) 0) _ _
+    ∙ ap (λ (n : ℕ). cond s (top f) 0 + n) (word (prec f) q k (two f) small full)
 
 pub units-bits : (f : Format) (s : Bool) (q k : ℕ) → q ≤ 2 ^ prec f → (0 < k → hid f ≤ q)
     → toBits f (units f s q k) ≡ cond s (top f) 0 + min (k * hid f + q) (ones f * hid f)
 unfolding units
-units-bits f s q k small full = go (ltb (q * 2 ^ k) (2 ^ (low f + suc (emax f)))) (ltb→lt (q * 2 ^ k) (2 ^ (low f + suc (emax f)))) (nltb→le (q * 2 ^ k) (2 ^ (low f + suc (emax f))))
+units-bits f s q k small full =
+    go (ltb (q * 2 ^ k) (2 ^ (low f + suc (emax f)))) (ltb→lt (q * 2 ^ k) (2 ^ (low f + suc (emax f)))) (nltb→le (q * 2 ^ k) (2 ^ (low f + suc (emax f))))
   where
     go : (b : Bool) → (T b → q * 2 ^ k < 2 ^ (low f + suc (emax f))) → (T (not b) → 2 ^ (low f + suc (emax f)) ≤ q * 2 ^ k)
         → toBits f (cond b (odd (suc (prec f)) s q k (low f)) (inf s)) ≡ cond s (top f) 0 + min (k * hid f + q) (ones f * hid f)
@@ -155,10 +165,14 @@ near-test Ordering·eq q a b h k e n = let l : a ≡ b = e tt in (λ x. omega ar
 near-test Ordering·gt q a b h k e n = let l : b < a = k tt in (λ x. omega arith, λ x. omega arith)
 
 pub closest-up : (m u : ℕ) → u < m % u * 2 + m / u % 2 → closest m u ≡ m / u + 1
-closest-up m u = near-test (compare (m % u * 2) u) (m / u) (m % u * 2) u (leb→le _ _) (nleb→lt _ _) (eqb→eq _ _) (λ (e : m % u * 2 ≡ u). subst (λ (x : ℕ). T (eqb (m % u * 2) x)) e (eqb-refl (m % u * 2))) .0
+closest-up m u =
+    near-test (compare (m % u * 2) u) (m / u) (m % u * 2) u (leb→le _ _) (nleb→lt _ _) (eqb→eq _ _)
+    (λ (e : m % u * 2 ≡ u). subst (λ (x : ℕ). T (eqb (m % u * 2) x)) e (eqb-refl (m % u * 2))) .0
 
 pub closest-down : (m u : ℕ) → m % u * 2 + m / u % 2 ≤ u → closest m u ≡ m / u
-closest-down m u = near-test (compare (m % u * 2) u) (m / u) (m % u * 2) u (leb→le _ _) (nleb→lt _ _) (eqb→eq _ _) (λ (e : m % u * 2 ≡ u). subst (λ (x : ℕ). T (eqb (m % u * 2) x)) e (eqb-refl (m % u * 2))) .1
+closest-down m u =
+    near-test (compare (m % u * 2) u) (m / u) (m % u * 2) u (leb→le _ _) (nleb→lt _ _) (eqb→eq _ _)
+    (λ (e : m % u * 2 ≡ u). subst (λ (x : ℕ). T (eqb (m % u * 2) x)) e (eqb-refl (m % u * 2))) .1
 
 -- what is less than half of the divisor goes to 0
 pub closest-small : (m u : ℕ) → m * 2 < u → closest m u ≡ 0
@@ -172,7 +186,8 @@ closest-small m u h =
     half m u h = omega arith
 
 -- `round` by its number of dropped digits
-pub round-at : (f : Format) (s : Bool) (num den k : ℕ) → size (num * 2 ^ low f / den) - prec f ≡ k → round f s num den ≡ units f s (closest (num * 2 ^ low f) (den * 2 ^ k)) k
+pub round-at : (f : Format) (s : Bool) (num den k : ℕ) → size (num * 2 ^ low f / den) - prec f ≡ k
+    → round f s num den ≡ units f s (closest (num * 2 ^ low f) (den * 2 ^ k)) k
 round-at f s num den k e = round-is f s num den ∙ ap (λ (k : ℕ). units f s (closest (num * 2 ^ low f) (den * 2 ^ k)) k) e
 
 -- ---- m * 2 ^ y / 2 ^ l rounded: r digits of m are dropped, and k is how far the exponent is above the lowest
@@ -187,10 +202,16 @@ module _ (f : Format) (m y l k r : ℕ) (place : y + low f + r ≡ l + k) (hi : 
   dropped =
       let n = m * 2 ^ y * 2 ^ low f in
       let p = prec f in
-      let cross : (a : ℕ) → 2 ^ (a + r) * 2 ^ (y + low f) ≡ 2 ^ (a + k) * 2 ^ l = λ a. sym (pow-add 2 (a + r) (y + low f)) ∙ ap (λ (x : ℕ). 2 ^ x) (reach a) ∙ pow-add 2 (a + k) l in
-      let up : n < 2 ^ (p + k) * 2 ^ l = lt-of-le-of-lt (le-of-eq whole) (lt-of-lt-of-le (mul-lt-mul-of-pos-right hi (pow-pos (y + low f))) (le-of-eq (cross p))) in
-      let down : 0 < k → 2 ^ (p - 1 + k) * 2 ^ l ≤ n = λ h. le-trans (le-of-eq (sym (cross (p - 1)))) (le-trans (mul-le-mul-right (2 ^ (y + low f)) (lo h)) (le-of-eq (sym whole))) in
-      all-kept (size (n / 2 ^ l)) p k (size-le (n / 2 ^ l) (p + k) (div-lt-iff-lt-mul (pow-pos l) .1 up)) (λ h. size-gt (n / 2 ^ l) (p - 1 + k) (le-div-iff-mul-le (pow-pos l) .1 (down h))) (two f)
+      let cross : (a : ℕ)
+      → 2 ^ (a + r) * 2 ^ (y + low f) ≡ 2 ^ (a + k) * 2 ^ l = λ a. sym (pow-add 2 (a + r) (y + low f)) ∙ ap (λ (x : ℕ). 2 ^ x) (reach a)
+      ∙ pow-add 2 (a + k) l in
+      let up : n < 2 ^ (p + k) * 2 ^ l =
+      lt-of-le-of-lt (le-of-eq whole) (lt-of-lt-of-le (mul-lt-mul-of-pos-right hi (pow-pos (y + low f))) (le-of-eq (cross p))) in
+      let down : 0 < k
+      → 2 ^ (p - 1 + k) * 2 ^ l ≤ n =
+      λ h. le-trans (le-of-eq (sym (cross (p - 1)))) (le-trans (mul-le-mul-right (2 ^ (y + low f)) (lo h)) (le-of-eq (sym whole))) in
+      all-kept (size (n / 2 ^ l)) p k (size-le (n / 2 ^ l) (p + k) (div-lt-iff-lt-mul (pow-pos l) .1 up))
+      (λ h. size-gt (n / 2 ^ l) (p - 1 + k) (le-div-iff-mul-le (pow-pos l) .1 (down h))) (two f)
 
   kept : closest (m * 2 ^ y * 2 ^ low f) (2 ^ l * 2 ^ k) ≡ closest m (2 ^ r)
   kept =
@@ -202,7 +223,9 @@ module _ (f : Format) (m y l k r : ℕ) (place : y + low f + r ≡ l + k) (hi : 
   kept-le = le-trans (nearest-le (m / 2 ^ r) (compare (m % 2 ^ r * 2) (2 ^ r))) (shr-lt (prec f) r hi)
 
   kept-ge : 0 < k → hid f ≤ closest m (2 ^ r)
-  kept-ge h = le-trans (le-div-iff-mul-le (pow-pos r) .1 (le-trans (le-of-eq (sym (pow-add 2 (prec f - 1) r))) (lo h))) (nearest-ge (m / 2 ^ r) (compare (m % 2 ^ r * 2) (2 ^ r)))
+  kept-ge h =
+      le-trans (le-div-iff-mul-le (pow-pos r) .1 (le-trans (le-of-eq (sym (pow-add 2 (prec f - 1) r))) (lo h)))
+      (nearest-ge (m / 2 ^ r) (compare (m % 2 ^ r * 2) (2 ^ r)))
 
   pub round-units : (s : Bool) → round f s (m * 2 ^ y) (2 ^ l) ≡ units f s (closest m (2 ^ r)) k
   round-units s = round-at f s (m * 2 ^ y) (2 ^ l) k dropped ∙ ap (λ (q : ℕ). units f s q k) kept

@@ -1,4 +1,5 @@
--- How far rounding moves a fraction. In units of the format's smallest value `grid f a c` is a / c rounded. Where the bound B / 1 = 2 ^ (prec + j) of those units is not passed,
+-- How far rounding moves a fraction. In units of the format's smallest value `grid f a c` is a / c rounded. Where the bound B / 1 = 2 ^ (prec + j) of those
+-- units is not passed,
 -- the two differ by half of 2 ^ j units at most. And a value of the format that the fraction reaches is reached by the result too. Assumes nothing.
 use mathlib.Core.Path.{_≡_, sym, ap, _∙_, subst}
 use mathlib.Core.Logic.{_⊎_, inl, inr}
@@ -32,7 +33,8 @@ kept-ge p n den P K =
     let u = den * 2 ^ k in
     let w = n / den in
     let a : 2 ^ (p - 1) * 2 ^ k ≤ w = le-trans (le-of-eq (sym (pow-add 2 (p - 1) k))) (size-reaches w (p - 1 + k) (all-in-use (size w) p P K)) in
-    le-trans (subst (λ (x : ℕ). 2 ^ (p - 1) ≤ x) (div-div-eq-div-mul n den (2 ^ k)) (le-div-iff-mul-le (pow-pos k) .1 a)) (nearest-ge (n / u) (compare (n % u * 2) u))
+    le-trans (subst (λ (x : ℕ). 2 ^ (p - 1) ≤ x) (div-div-eq-div-mul n den (2 ^ k)) (le-div-iff-mul-le (pow-pos k) .1 a))
+    (nearest-ge (n / u) (compare (n % u * 2) u))
 
 -- ---- a value that the fraction reaches is reached by the result
 pub grid-ge : (p n den q j : ℕ) → 0 < p → 0 < den → q < 2 ^ p → q * 2 ^ j * den ≤ n → q * 2 ^ j ≤ kept p n den * 2 ^ drop p n den
@@ -51,7 +53,8 @@ grid-ge p n den q j P D small h = go (le-or-lt (drop p n den) j)
         let r = q * 2 ^ (j - k) in
         let e : r * 2 ^ k ≡ q * 2 ^ j = pow-split q j k l in
         let U : 0 < u = mul-pos D (pow-pos k) in
-        let n-ge : r * u ≤ n = le-trans (le-of-eq (ap (λ (x : ℕ). r * x) (mul-comm den (2 ^ k)) ∙ sym (mul-assoc r (2 ^ k) den) ∙ ap (λ (x : ℕ). x * den) e)) h in
+        let n-ge : r * u ≤ n =
+        le-trans (le-of-eq (ap (λ (x : ℕ). r * x) (mul-comm den (2 ^ k)) ∙ sym (mul-assoc r (2 ^ k) den) ∙ ap (λ (x : ℕ). x * den) e)) h in
         let c : r ≤ closest n u = le-trans (le-of-eq (sym (closest-whole r u U))) (closest-mono (r * u) u n u U U (mul-le-mul-right u n-ge)) in
         le-trans (le-of-eq (sym e)) (mul-le-mul-right (2 ^ k) c)
     go (inr l) =
@@ -76,7 +79,8 @@ round-value f s a c h =
     subst (λ (z : Float). HasValue z s (grid f a c) (2 ^ low f)) (sym (round-is f s a c))
     (units-val f s (kept (prec f) (a * 2 ^ low f) c) (drop (prec f) (a * 2 ^ low f) c) h)
 
--- THE ROUNDING LEMMA. A fraction num / den of at most 2 ^ (prec + j) of the format's smallest values, 2 ^ -low, which is below the overflow, rounds to a finite g / 2 ^ low with its sign,
+-- THE ROUNDING LEMMA. A fraction num / den of at most 2 ^ (prec + j) of the format's smallest values, 2 ^ -low, which is below the overflow, rounds to a finite
+-- g / 2 ^ low with its sign,
 -- and g / 2 ^ low differs from num / den by half of 2 ^ (j - low) at most, that is by half a unit in the last place of the numbers just below the bound.
 pub record Rounded (f : Format) (s : Bool) (num den j : ℕ) (x : Float) : Type 0 where
   pub g : ℕ

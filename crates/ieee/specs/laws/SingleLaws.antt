@@ -1,4 +1,5 @@
--- An f64 whose exponent's field is from 897 to 1149, rounded to f32: of its bits the last 29 are dropped, a tie to even, and nothing else changes. Assumes nothing.
+-- An f64 whose exponent's field is from 897 to 1149, rounded to f32: of its bits the last 29 are dropped, a tie to even, and nothing else changes. Assumes
+-- nothing.
 use mathlib.Core.Path.{_≡_, refl, sym, ap, _∙_, subst}
 use mathlib.Core.Logic.{_⊎_, inl, inr}
 use Prim.Native.Nat.{ℕ, _+_, _-_, _*_, _/_, _%_, _^_, _≤_, _<_, min}
@@ -100,15 +101,19 @@ module _ (x : Float) (b : ℕ) (s : Bool) (e m : ℕ) (k : Known b s e m) (v : H
   word-bits : cutOf b % 2 ^ 30 + cutOf b / 2 ^ 33 * 2 ^ 30 ≡ toBits binary32 (narrowed x)
   word-bits =
       as-word (cutOf b) e (cutOf m) s (k .low) (k .high) full small (cut-bits b e m s k)
-      ∙ sym (ap (toBits binary32) is-units ∙ units-bits binary32 s (cutOf m) (e - 897) small (λ _. full) ∙ ap (λ (n : ℕ). cond s (2 ^ 31) 0 + n) (uncapped e (cutOf m) (k .high) small))
+      ∙ sym (ap (toBits binary32) is-units ∙ units-bits binary32 s (cutOf m) (e - 897) small (λ _. full)
+      ∙ ap (λ (n : ℕ). cond s (2 ^ 31) 0 + n) (uncapped e (cutOf m) (k .high) small))
 
   under : cutOf m * 2 ^ (e - 897) < 2 ^ 277
-  under = lt-of-le-of-lt (mul-le-mul-right (2 ^ (e - 897)) small) (lt-of-le-of-lt (le-of-eq (sym (pow-add 2 24 (e - 897)))) (pow-lt {i = 24 + (e - 897)} {j = 277} (omega arith)))
+  under = lt-of-le-of-lt (mul-le-mul-right (2 ^ (e - 897)) small)
+      (lt-of-le-of-lt (le-of-eq (sym (pow-add 2 24 (e - 897)))) (pow-lt {i = 24 + (e - 897)} {j = 277} (omega arith)))
 
   same : cutOf m * 2 ^ (e - 897) * 2 ^ 1074 ≡ cutOf m * 2 ^ 29 * 2 ^ (e - 1) * 2 ^ 149
   same =
       mul-assoc (cutOf m) (2 ^ (e - 897)) (2 ^ 1074)
-      ∙ ap (λ (n : ℕ). cutOf m * n) (sym (pow-add 2 (e - 897) 1074) ∙ ap (λ (n : ℕ). 2 ^ n) (omega arith) ∙ pow-add 2 (29 + (e - 1)) 149 ∙ ap (λ (n : ℕ). n * 2 ^ 149) (pow-add 2 29 (e - 1)))
+      ∙ ap (λ (n : ℕ). cutOf m * n)
+      (sym (pow-add 2 (e - 897) 1074) ∙ ap (λ (n : ℕ). 2 ^ n) (omega arith) ∙ pow-add 2 (29 + (e - 1)) 149
+      ∙ ap (λ (n : ℕ). n * 2 ^ 149) (pow-add 2 29 (e - 1)))
       ∙ sym (mul-assoc (cutOf m) (2 ^ 29 * 2 ^ (e - 1)) (2 ^ 149))
       ∙ ap (λ (n : ℕ). n * 2 ^ 149) (sym (mul-assoc (cutOf m) (2 ^ 29) (2 ^ (e - 1))))
 

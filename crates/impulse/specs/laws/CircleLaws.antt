@@ -60,7 +60,8 @@ module _ {A : Type 0} (d : A) (size : ℕ) where
       go : Dec (k ≡ n) → (k < n → n ≤ k + size → getD (circle d size n g) (k % size) d ≡ g k) → length (circle d size n g) ≡ size → n % size < size
           → getD (set (circle d size n g) (n % size) (g n)) (k % size) d ≡ g k
       go (yes e) r len m = rw e (getD-set-same (circle d size n g) (n % size) (g n) d (omega arith))
-      go (no e) r len m = getD-set-other (circle d size n g) (n % size) (k % size) (g n) d (apart size k n (omega arith) (omega arith)) ∙ r (omega arith) (omega arith)
+      go (no e) r len m = getD-set-other (circle d size n g) (n % size) (k % size) (g n) d (apart size k n (omega arith) (omega arith))
+          ∙ r (omega arith) (omega arith)
 
   -- with any default: what a program reads of floats has `nan` there
   pub circle-read-any : (e : A) (n : ℕ) (g : ℕ → A) (k : ℕ) → k < n → n ≤ k + size → getD (circle d size n g) (k % size) e ≡ g k

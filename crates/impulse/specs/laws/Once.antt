@@ -1,4 +1,5 @@
--- Each sample is marked at most once in a ring: the spans of a ring climb, and end before what is not judged. So a ring's count is at most the judged. Assumes nothing.
+-- Each sample is marked at most once in a ring: the spans of a ring climb, and end before what is not judged. So a ring's count is at most the judged. Assumes
+-- nothing.
 use mathlib.Core.Path.{_≡_, refl, sym, subst}
 use mathlib.Core.Bool.{Bool, true, false, cond, false≢true}
 use mathlib.Core.List.{List, [], _∷_, _++_}
@@ -55,7 +56,8 @@ module _ (s : Setting) (F : ℕ → Bool) (xs : List ℕ) where
 
   abbrev closing : Bool → Bool → ℕ → List Event
   closing c m j =
-      cond c (cond m (mended (start F j) (before F j) (take (before F j) (drop (start F j) xs))) (kept (start F j) (before F j) (ltb (s .run) (before F j))) ∷ []) []
+      cond c (cond m (mended (start F j) (before F j) (take (before F j) (drop (start F j) xs))) (kept (start F j) (before F j) (ltb (s .run) (before F j))) ∷
+      []) []
 
   at-step : (r : Mark) (j e : ℕ) (p c m : Bool) → closes F j ≡ c → e ≤ bound r F j
       → Climbs e (marksOf r (doubts p j ++ closing c m j)) × (endOf e (marksOf r (doubts p j ++ closing c m j)) ≤ bound r F (suc j))
@@ -111,10 +113,12 @@ module _ (s : Setting) (F : ℕ → Bool) (xs : List ℕ) where
       let ps = marksOf r (events s F xs j) in
       let qs = marksOf r (eventsAt s F xs j) in
       let more = marks-append r (events s F xs j) (eventsAt s F xs j) in
-      let t = at-step r j (endOf 0 ps) (paused (s .block) F (blockOf s j)) (closes F j) (mendable s (touches s F (start F j) (before F j)) (before F j)) refl (i .ended) in
+      let t = at-step r j (endOf 0 ps) (paused (s .block) F (blockOf s j)) (closes F j) (mendable s (touches s F (start F j) (before F j)) (before F j)) refl
+      (i .ended) in
       record {
         climb = subst (Climbs 0) (sym more) (climbs-append 0 ps qs (i .climb) (t .0));
-        ended = subst (λ (l : List Span). endOf 0 l ≤ bound r F (suc j)) (sym more) (subst (λ (n : ℕ). n ≤ bound r F (suc j)) (sym (end-append 0 ps qs)) (t .1));
+        ended = subst (λ (l : List Span). endOf 0 l ≤ bound r F (suc j)) (sym more)
+            (subst (λ (n : ℕ). n ≤ bound r F (suc j)) (sym (end-append 0 ps qs)) (t .1));
       }
 
   -- so a ring's count is at most the number of judged samples

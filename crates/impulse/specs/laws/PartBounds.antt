@@ -1,4 +1,5 @@
--- Bounds of the stage's floats: usable parts are within 2 ^ 57, so a mended part is within 2 ^ 59, and a power within 2 ^ 115 with a clear sign bit. Assumes nothing.
+-- Bounds of the stage's floats: usable parts are within 2 ^ 57, so a mended part is within 2 ^ 59, and a power within 2 ^ 115 with a clear sign bit. Assumes
+-- nothing.
 use mathlib.Core.Path.{_≡_, refl, sym, subst}
 use mathlib.Core.Bool.{false, not}
 use Prim.Native.Nat.{ℕ, _+_, _*_, _^_, _≤_, _<_}
@@ -65,7 +66,8 @@ limited x w =
 pub within-limit : (w : ℕ) → WordWithin (2 ^ 59) w → T (withinLimit w)
 unfolding withinLimit
 within-limit w h =
-    and-i (le (magnitude (sampleOf w .re)) partLimit) (le (magnitude (sampleOf w .im)) partLimit) (limited (sampleOf w .re) (h .0)) (limited (sampleOf w .im) (h .1))
+    and-i (le (magnitude (sampleOf w .re)) partLimit) (le (magnitude (sampleOf w .im)) partLimit) (limited (sampleOf w .re) (h .0))
+    (limited (sampleOf w .im) (h .1))
 
 -- ---- a mended sample
 
@@ -77,14 +79,19 @@ count-beyond k h =
 
 fraction-within : (t n : ℕ) → t < n → n ≤ 32 → Within (fraction t n) 1 1
 fraction-within t n h k =
-    div-within binary32 (ofInt binary32 (pos (t + 1))) (ofInt binary32 (pos (n + 1))) (t + 1) 1 (n + 1) 1 1 1 (lit< tt) (omega arith) (lit< tt) (whole-value binary32 1 (lit< tt)) (omega arith)
+    div-within binary32 (ofInt binary32 (pos (t + 1))) (ofInt binary32 (pos (n + 1))) (t + 1) 1 (n + 1) 1 1 1 (lit< tt) (omega arith) (lit< tt)
+    (whole-value binary32 1 (lit< tt)) (omega arith)
     (ofInt-within binary32 (t + 1) (t + 1) (whole-value binary32 (t + 1) (omega arith)) (omega arith)) (count-beyond n k)
 
-part-mended : (l r q : Float) → Within l (2 ^ 57) 1 → Within r (2 ^ 57) 1 → Within q 1 1 → Within (add binary32 l (mul binary32 (sub binary32 r l) q)) (2 ^ 59) 1
+part-mended : (l r q : Float) → Within l (2 ^ 57) 1 → Within r (2 ^ 57) 1 → Within q 1 1
+    → Within (add binary32 l (mul binary32 (sub binary32 r l) q)) (2 ^ 59) 1
 part-mended l r q wl wr wq =
-    let wd : Within (sub binary32 r l) (2 ^ 58) 1 = sub-within binary32 r l (2 ^ 57) (2 ^ 57) (2 ^ 58) 1 (lit< tt) (scaled-value binary32 1 58 (lit< tt) (lit≤ tt)) (lit≤ tt) wr wl in
-    let wp : Within (mul binary32 (sub binary32 r l) q) (2 ^ 58) 1 = mul-within binary32 (sub binary32 r l) q (2 ^ 58) 1 1 1 (2 ^ 58) (lit< tt) (lit< tt) (scaled-value binary32 1 58 (lit< tt) (lit≤ tt)) (lit≤ tt) wd wq in
-    add-within binary32 l (mul binary32 (sub binary32 r l) q) (2 ^ 57) (2 ^ 58) (2 ^ 59) 1 (lit< tt) (scaled-value binary32 1 59 (lit< tt) (lit≤ tt)) (lit≤ tt) wl wp
+    let wd : Within (sub binary32 r l) (2 ^ 58) 1 =
+    sub-within binary32 r l (2 ^ 57) (2 ^ 57) (2 ^ 58) 1 (lit< tt) (scaled-value binary32 1 58 (lit< tt) (lit≤ tt)) (lit≤ tt) wr wl in
+    let wp : Within (mul binary32 (sub binary32 r l) q) (2 ^ 58) 1 =
+    mul-within binary32 (sub binary32 r l) q (2 ^ 58) 1 1 1 (2 ^ 58) (lit< tt) (lit< tt) (scaled-value binary32 1 58 (lit< tt) (lit≤ tt)) (lit≤ tt) wd wq in
+    add-within binary32 l (mul binary32 (sub binary32 r l) q) (2 ^ 57) (2 ^ 58) (2 ^ 59) 1 (lit< tt) (scaled-value binary32 1 59 (lit< tt) (lit≤ tt))
+    (lit≤ tt) wl wp
 
 between-parts : (l r : Complex) (t n : ℕ) → Parts32 (between l r t n)
 unfolding between sum
@@ -98,7 +105,8 @@ between-within l r t n h k wl wr =
     let q = fraction-within t n h k in
     (part-mended (l .re) (r .re) (fraction t n) (wl .0) (wr .0) q, part-mended (l .im) (r .im) (fraction t n) (wl .1) (wr .1) q)
 
-pub mended-within : (l r t n : ℕ) → t < n → n ≤ 32 → WordWithin (2 ^ 57) l → WordWithin (2 ^ 57) r → WordWithin (2 ^ 59) (wordOf (between (sampleOf l) (sampleOf r) t n))
+pub mended-within : (l r t n : ℕ) → t < n → n ≤ 32 → WordWithin (2 ^ 57) l → WordWithin (2 ^ 57) r
+    → WordWithin (2 ^ 59) (wordOf (between (sampleOf l) (sampleOf r) t n))
 mended-within l r t n h k wl wr =
     subst (PartsWithin (2 ^ 59)) (sym (sample-of-word (between (sampleOf l) (sampleOf r) t n) (between-parts (sampleOf l) (sampleOf r) t n)))
     (between-within (sampleOf l) (sampleOf r) t n h k wl wr)
@@ -109,11 +117,13 @@ pub power-within : (w : ℕ) → WordWithin (2 ^ 57) w → Within (powerOf w) (2
 unfolding powerOf power
 power-within w h =
     let z = sampleOf w in
-    add-within binary32 (mul binary32 (z .re) (z .re)) (mul binary32 (z .im) (z .im)) (2 ^ 114) (2 ^ 114) (2 ^ 115) 1 (lit< tt) (scaled-value binary32 (2 ^ 11) 104 (lit< tt) (lit≤ tt)) (lit≤ tt)
+    add-within binary32 (mul binary32 (z .re) (z .re)) (mul binary32 (z .im) (z .im)) (2 ^ 114) (2 ^ 114) (2 ^ 115) 1 (lit< tt)
+    (scaled-value binary32 (2 ^ 11) 104 (lit< tt) (lit≤ tt)) (lit≤ tt)
     (square (z .re) (h .0)) (square (z .im) (h .1))
   where
     square : (x : Float) → Within x (2 ^ 57) 1 → Within (mul binary32 x x) (2 ^ 114) 1
-    square x v = mul-within binary32 x x (2 ^ 57) 1 (2 ^ 57) 1 (2 ^ 114) (lit< tt) (lit< tt) (scaled-value binary32 (2 ^ 10) 104 (lit< tt) (lit≤ tt)) (lit≤ tt) v v
+    square x v =
+        mul-within binary32 x x (2 ^ 57) 1 (2 ^ 57) 1 (2 ^ 114) (lit< tt) (lit< tt) (scaled-value binary32 (2 ^ 10) 104 (lit< tt) (lit≤ tt)) (lit≤ tt) v v
 
 pub power-sound : (w : ℕ) → WordWithin (2 ^ 57) w → PowerWithin (powerOf w)
 power-sound w h = (power-within w h, power-plain w (within-clean (2 ^ 57) w h))

@@ -1,4 +1,5 @@
--- Each mended place has its original in a record, and no other place differs from its input: so undoing the records returns the input. Of the rules alone. Assumes nothing.
+-- Each mended place has its original in a record, and no other place differs from its input: so undoing the records returns the input. Of the rules alone.
+-- Assumes nothing.
 use mathlib.Core.Path.{_≡_, refl, ap, sym, _∙_}
 use mathlib.Core.Logic.{_⊎_, inl, inr, ⊎-elim}
 use mathlib.Core.Bool.{Bool, true, false, cond, not, _&&_, false≢true}
@@ -14,7 +15,8 @@ use Rattle.rules.specs.Lists.{at, upTo, All}
 use Rattle.rules.specs.laws.ListLaws.{length-upTo, getD-upTo}
 use Rattle.rules.specs.laws.EventLaws.{repairs-append}
 use Rattle.rules.specs.laws.SortLaws.{all-append}
-use Rattle.rules.specs.Impulse.{Setting, lookahead, flagged, judged, before, start, closes, blockOf, paused, touches, mendable, mends, covers, value, uncertain, kept, mended, eventsAt, events, handedOn, happened}
+use Rattle.rules.specs.Impulse.{Setting, lookahead, flagged, judged, before, start, closes, blockOf, paused, touches, mendable, mends, covers, value, uncertain}
+use Rattle.rules.specs.Impulse.{kept, mended, eventsAt, events, handedOn, happened, longestRun}
 use Rattle.rules.specs.Log.{repairWords, repairsOf}
 use Rattle.rules.specs.Undo.{returned, undone, undoneAll}
 use Rattle.rules.specs.laws.Runs.{before-le, hit-says, value-missed}
@@ -24,7 +26,7 @@ use Rattle.rules.specs.laws.Runs.{before-le, hit-says, value-missed}
 -- its originals are the samples of xs from its start on
 pub record Original (xs : List ℕ) (e : List ℕ) : Type 0 where
   pub some : 0 < at e 1
-  pub short : at e 1 ≤ 4
+  pub short : at e 1 ≤ longestRun
   pub inside : at e 0 + at e 1 ≤ length xs
   pub holds : (t : ℕ) → t < at e 1 → at e (2 + t) ≡ at xs (at e 0 + t)
 
@@ -37,7 +39,7 @@ Covered k [] = ⊥
 Covered k (e ∷ es) = In k e ⊎ Covered k es
 
 -- the record of a run of at most four
-pub run-original : (xs : List ℕ) (a n : ℕ) → 0 < n → n ≤ 4 → a + n ≤ length xs → Original xs (repairWords a n (take n (drop a xs)))
+pub run-original : (xs : List ℕ) (a n : ℕ) → 0 < n → n ≤ longestRun → a + n ≤ length xs → Original xs (repairWords a n (take n (drop a xs)))
 unfolding repairWords
 run-original xs a n z w h =
     record {
@@ -49,9 +51,9 @@ run-original xs a n z w h =
           let d = length-drop a xs in
           let l = length-take-le n (drop a xs) (omega arith) in
           let two : 2 + t ≡ suc (suc t) = omega arith in
-          ap (at (a ∷ n ∷ take 4 (take n (drop a xs) ++ replicate 4 0))) two
-          ∙ getD-take 4 (take n (drop a xs) ++ replicate 4 0) t 0 (omega arith)
-          ∙ List·getD-append (take n (drop a xs)) (replicate 4 0) 0 t (omega arith)
+          ap (at (a ∷ n ∷ take longestRun (take n (drop a xs) ++ replicate longestRun 0))) two
+          ∙ getD-take longestRun (take n (drop a xs) ++ replicate longestRun 0) t 0 (omega arith)
+          ∙ List·getD-append (take n (drop a xs)) (replicate longestRun 0) 0 t (omega arith)
           ∙ getD-take n (drop a xs) t 0 q
           ∙ getD-drop a xs t 0;
     }
@@ -80,7 +82,9 @@ module _ (s : Setting) (F : ℕ → Bool) (xs : List ℕ) where
       originals = take (before F j) (drop (start F j) xs)
 
       go : (p c m : Bool)
-          → repairsOf (cond p (uncertain j ∷ []) [] ++ cond c (cond m (mended (start F j) (before F j) originals) (kept (start F j) (before F j) (ltb (s .run) (before F j))) ∷ []) [])
+          → repairsOf
+          (cond p (uncertain j ∷ []) []
+          ++ cond c (cond m (mended (start F j) (before F j) originals) (kept (start F j) (before F j) (ltb (s .run) (before F j))) ∷ []) [])
           ≡ cond (c && m) (recordAt j ∷ []) []
       go true true true = refl
       go true true false = refl
@@ -122,11 +126,13 @@ module _ (s : Setting) (F : ℕ → Bool) (xs : List ℕ) where
       go false n p q e = absurd (false≢true e)
 
   -- each record is the input's, where a record has room for the longest run
-  pub all-original : s .run ≤ 4 → (j : ℕ) → j ≤ length xs → All (Original xs) (repairsOf (events s F xs j))
+  pub all-original : s .run ≤ longestRun → (j : ℕ) → j ≤ length xs → All (Original xs) (repairsOf (events s F xs j))
   unfolding events repairsOf
   all-original r zero h = tt
   all-original r (suc j) h =
-      rw (repairs-next j) (all-append (Original xs) (repairsOf (events s F xs j)) (cond (mends s F j) (recordAt j ∷ []) []) (all-original r j (omega arith)) (go (mends s F j) refl))
+      rw (repairs-next j)
+      (all-append (Original xs) (repairsOf (events s F xs j)) (cond (mends s F j) (recordAt j ∷ []) []) (all-original r j (omega arith))
+      (go (mends s F j) refl))
     where
       go : (b : Bool) → mends s F j ≡ b → All (Original xs) (cond b (recordAt j ∷ []) [])
       go true e =
@@ -219,7 +225,8 @@ module _ (xs : List ℕ) (first : ℕ) where
   all-length [] ys = refl
   all-length (e ∷ es) ys = all-length es (undone first e (at e 1) ys) ∙ undone-length e (at e 1) ys
 
-  all-at : (es : List (List ℕ)) → All (Original xs) es → (ys : List ℕ) (i : ℕ) → i < length ys → Right ys i ⊎ Covered (first + i) es → Right (undoneAll first es ys) i
+  all-at : (es : List (List ℕ)) → All (Original xs) es → (ys : List ℕ) (i : ℕ) → i < length ys → Right ys i ⊎ Covered (first + i) es
+      → Right (undoneAll first es ys) i
   unfolding undoneAll
   all-at [] o ys i h (inl r) = r
   all-at [] o ys i h (inr c) = absurd c
@@ -247,15 +254,17 @@ module _ (xs : List ℕ) (first : ℕ) where
       all-at es o ys i k (d i k) ∙ sym (getD-take (length ys) (drop first xs) i 0 k ∙ getD-drop first xs i 0))
 
 -- any slice of what the stage hands on
-pub undo-slice : (s : Setting) → s .run ≤ 4 → (xs ys : List ℕ) (first : ℕ) → first + length ys ≤ length xs
+pub undo-slice : (s : Setting) → s .run ≤ longestRun → (xs ys : List ℕ) (first : ℕ) → first + length ys ≤ length xs
     → ((i : ℕ) → i < length ys → at ys i ≡ value s (flagged s xs) xs (judged s (length xs)) (first + i))
     → undoneAll first (repairsOf (happened s xs)) ys ≡ take (length ys) (drop first xs)
 unfolding happened
 undo-slice s r xs ys first w same =
-    undo-returns xs first (repairsOf (events s (flagged s xs) xs (judged s (length xs)))) ys (all-original s (flagged s xs) xs r (judged s (length xs)) (omega arith)) w
+    undo-returns xs first (repairsOf (events s (flagged s xs) xs (judged s (length xs)))) ys
+    (all-original s (flagged s xs) xs r (judged s (length xs)) (omega arith)) w
     (λ i h. ⊎-elim (λ e. inl (same i h ∙ e)) (λ c. inr c) (raw-or-recorded s (flagged s xs) xs (judged s (length xs)) (first + i)))
 
-pub undo-handed : (s : Setting) → s .run ≤ 4 → (xs : List ℕ) → undoneAll 0 (repairsOf (happened s xs)) (handedOn s xs) ≡ take (length (handedOn s xs)) xs
+pub undo-handed : (s : Setting) → s .run ≤ longestRun → (xs : List ℕ)
+    → undoneAll 0 (repairsOf (happened s xs)) (handedOn s xs) ≡ take (length (handedOn s xs)) xs
 unfolding handedOn
 undo-handed s r xs = go (s .apply) refl
   where

@@ -1,4 +1,5 @@
--- The stage in one statement: over any usable samples, in any setting that is offered, the machine run from fresh is the rules, and its state is sound. Assumes nothing.
+-- The stage in one statement: over any usable samples, in any setting that is offered, the machine run from fresh is the rules, and its state is sound. Assumes
+-- nothing.
 use mathlib.Core.Path.{_≡_, sym, subst}
 use mathlib.Core.List.{List, [], _∷_}
 use Prim.Native.Nat.{ℕ, _^_}

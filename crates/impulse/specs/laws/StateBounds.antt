@@ -1,4 +1,5 @@
--- What number 5 tests holds of every state that usable samples lead to: the pending and left parts, the window's powers and their signs, the sorted list, the open run, the counters. Assumes nothing.
+-- What number 5 tests holds of every state that usable samples lead to: the pending and left parts, the window's powers and their signs, the sorted list, the
+-- open run, the counters. Assumes nothing.
 use mathlib.Core.Path.{_≡_, refl, ap, sym, _∙_, subst}
 use mathlib.Core.Bool.{Bool, true, false, cond, _&&_}
 use mathlib.Core.List.{List, [], _∷_}
@@ -17,7 +18,8 @@ use Rattle.rules.specs.Lists.{at, All}
 use Rattle.rules.specs.Guard.{usable}
 use Rattle.rules.specs.Sort.{insert, remove, sort}
 use Rattle.rules.specs.laws.SortLaws.{all-take, all-getD, Ordered, insert-comm, remove-insert, sort-good, sort-snoc, sort-length, plain-order}
-use Rattle.rules.specs.Impulse.{Setting, width, lookahead, powerOf, flagged, judged, before, start, mends, between, leftOf, mendedAt, covers, value, newestBlock}
+use Rattle.rules.specs.Impulse.{Setting, width, lookahead, powerOf, flagged, judged, before, start, mends, between, leftOf, mendedAt, covers, value}
+use Rattle.rules.specs.Impulse.{newestBlock}
 use Rattle.rules.specs.laws.Runs.{before-le, count-le, hit-says}
 use Rattle.impulse.specs.declared.Run.{Run}
 use Rattle.impulse.specs.declared.Open.{Open}
@@ -166,7 +168,8 @@ open-ends s F j r = go (ltb 0 (before F j)) refl
         subst (λ (q : Run). (0 < q .len) × (q .start + q .len ≡ j)) same (h, omega arith)
     go false t e = let z : _≡_ {A = ℕ} 0 1 = cc in absurd (omega arith)
 
-left-keeps : (P : ℕ → Type 0) (F : ℕ → Bool) (xs : List ℕ) → ((i : ℕ) → i < length xs → P (at xs i)) → (j : ℕ) → j ≤ length xs → (x : ℕ) → leftAt F xs j ≡ Neighbour x → P x
+left-keeps : (P : ℕ → Type 0) (F : ℕ → Bool) (xs : List ℕ) → ((i : ℕ) → i < length xs → P (at xs i)) → (j : ℕ) → j ≤ length xs → (x : ℕ)
+    → leftAt F xs j ≡ Neighbour x → P x
 unfolding leftAt
 left-keeps P F xs each j h x = go (eqb (start F j) 0) refl
   where

@@ -17,8 +17,10 @@ use Rattle.rules.specs.Lists.{at, indicator, All}
 use Rattle.rules.specs.laws.ListLaws.{length-map}
 use Rattle.rules.specs.Sort.{insert, remove, sort}
 use Rattle.rules.specs.laws.SortLaws.{all-take, all-drop, all-getD, all-map, map-snoc, Ordered, sort-length, insert-length, sort-snoc, remove-insert}
-use Rattle.rules.specs.Impulse.{Setting, width, lookahead, powerOf, reference, standsOut, window, flagged, judged, before, start, blockOf, pauses, paused, touches, mendable, mends, leftOf, mendedAt, covers, value, newestBlock, flagsIn}
-use Rattle.rules.specs.laws.Runs.{before-le, before-on, before-off, start-on, start-off, enter-paused, enter-flags, tally-flags, touches-more, hit-says, value-hit, value-miss, value-raw, value-fixed}
+use Rattle.rules.specs.Impulse.{Setting, width, lookahead, powerOf, reference, standsOut, window, flagged, judged, before, start, blockOf, paused, touches}
+use Rattle.rules.specs.Impulse.{mendable, mends, leftOf, mendedAt, covers, value, newestBlock, flagsIn}
+use Rattle.rules.specs.laws.Runs.{before-le, before-on, before-off, start-on, start-off, enter-paused, enter-flags, tally-flags, touches-more, hit-says}
+use Rattle.rules.specs.laws.Runs.{value-hit, value-miss, value-raw, value-fixed}
 use Rattle.impulse.specs.declared.Run.{Run}
 use Rattle.impulse.specs.declared.Open.the-variants.{Running, Closed}
 use Rattle.impulse.specs.declared.Left.the-variants.{Neighbour, Missing}
@@ -26,11 +28,13 @@ use Rattle.impulse.specs.declared.Gate.{Gate}
 use Rattle.impulse.specs.declared.Answer.{Answer}
 use Rattle.impulse.specs.declared.Answer.the-variants.{Released, Nothing}
 use Rattle.impulse_window.specs.Ordered.{ordered, mean}
-use Rattle.impulse.specs.Machine.{arrived, entered, grown, readRun, mendedWord, writeRun, neighbourOr, going, keptRun, mendedRun, closing, closingPending, ending, endingPending, Judgement, decided, judge, released, windowWith, sortedWith, pendingWith, verdict, push, flaggedBy}
+use Rattle.impulse.specs.Machine.{arrived, withMending, withBlock, nextBlock, withFlagged, entered, grown, readRun, mendedWord, writeRun, neighbourOr}
+use Rattle.impulse.specs.Machine.{going, keptRun, mendedRun, closing, closingPending, ending, endingPending, Judgement, decided, judge, released}
+use Rattle.impulse.specs.Machine.{windowWith, sortedWith, pendingWith, verdict, push, flaggedBy}
 use Rattle.impulse.specs.Circle.{circle}
 use Rattle.impulse.specs.laws.CircleLaws.{circle-push, circle-length, circle-read, circle-read-any, circle-blank, circle-is, circle-same, around, apart}
 use Rattle.impulse.specs.laws.RunLaws.{read-run, write-length, write-other, write-in}
-use Rattle.impulse.specs.State.{runBefore, openAt, leftAt, gateIn, gateAt, endingAt, newestPowers, padded, stateAt, answerAt, outcomeAt}
+use Rattle.impulse.specs.State.{runBefore, openAt, leftAt, blockAt, gateIn, gateAt, endingAt, newestPowers, padded, stateAt, answerAt, outcomeAt}
 
 -- ---- the window
 
@@ -50,7 +54,8 @@ padded-full : (w : ℕ) (l : List Float) → length l ≡ w → padded w l ≡ l
 padded-full w l h = let z : w - length l ≡ 0 = omega arith in rw z (append-nil l)
 
 -- one more in front of the zeros
-padded-more : (w : ℕ) (l : List Float) (p : Float) → length l < w → insert lt p (take (length l) (padded w l)) ++ drop (length l + 1) (padded w l) ≡ padded w (insert lt p l)
+padded-more : (w : ℕ) (l : List Float) (p : Float) → length l < w
+    → insert lt p (take (length l) (padded w l)) ++ drop (length l + 1) (padded w l) ≡ padded w (insert lt p l)
 padded-more w l p h =
     let more : w - length l ≡ suc (w - suc (length l)) = omega arith in
     let n = insert-length lt p l in
@@ -64,7 +69,8 @@ module _ (good : Float → Type 0) (o : Ordered lt good) (xs : List ℕ) (fine :
   grows : (n : ℕ) → n < length xs → insert lt (powerOf (at xs n)) (sort lt (map powerOf (take n xs))) ≡ sort lt (map powerOf (take (suc n) xs))
   grows n h =
       rw (take-more n h, map-snoc)
-      (sym (sort-snoc o (map powerOf (take n xs)) (powerOf (at xs n)) (all-map good powerOf (take n xs) (all-take (Fine good) n xs fine)) (all-getD (Fine good) xs n 0 fine h)))
+      (sym (sort-snoc o (map powerOf (take n xs)) (powerOf (at xs n)) (all-map good powerOf (take n xs) (all-take (Fine good) n xs fine))
+      (all-getD (Fine good) xs n 0 fine h)))
 
   -- a full window, and a is the oldest's number
   module _ (n a : ℕ) (h : n < length xs) (k : a < n) where
@@ -91,7 +97,8 @@ module _ (good : Float → Type 0) (o : Ordered lt good) (xs : List ℕ) (fine :
         (sym (sort-snoc o (map powerOf (drop (suc a) (take n xs))) (powerOf (at xs n)) rest-good (all-getD (Fine good) xs n 0 fine h)))
 
   -- the sorted window takes the new power, and loses the oldest once it is full
-  pub window-grows : (s : Setting) (n : ℕ) → n < length xs → n < width s → insert lt (powerOf (at xs n)) (sort lt (newestPowers s xs n)) ≡ sort lt (newestPowers s xs (suc n))
+  pub window-grows : (s : Setting) (n : ℕ) → n < length xs → n < width s
+      → insert lt (powerOf (at xs n)) (sort lt (newestPowers s xs n)) ≡ sort lt (newestPowers s xs (suc n))
   window-grows s n h w =
       let c : n - width s ≡ 0 = omega arith in
       let d : suc n - width s ≡ 0 = omega arith in
@@ -123,7 +130,8 @@ module _ (good : Float → Type 0) (o : Ordered lt good) (xs : List ℕ) (fine :
       next = sort-length lt (newestPowers s xs (suc n)) ∙ newest-length s xs (suc n) h
 
       go : (b : Bool) → ltb n (width s) ≡ b
-          → cond b (insert lt p (take n (padded (width s) S)) ++ drop (n + 1) (padded (width s) S)) (insert lt p (take (width s - 1) (remove lt old (padded (width s) S))))
+          → cond b (insert lt p (take n (padded (width s) S)) ++ drop (n + 1) (padded (width s) S))
+          (insert lt p (take (width s - 1) (remove lt old (padded (width s) S))))
           ≡ padded (width s) (sort lt (newestPowers s xs (suc n)))
       go true e =
           let w = ltb-true n (width s) e in
@@ -232,34 +240,15 @@ module _ (s : Setting) (F : ℕ → Bool) (xs : List ℕ) (l : 0 < s .block) whe
   unfolding entered
   entered-is n j = go (eqb (blockOf s j) (newestBlock s j)) refl
     where
-      other : Gate
-      other =
-          record {
-            apply = s .apply;
-            blocklen = s .block;
-            received = n;
-            run = openAt s F j;
-            left = leftAt F xs j;
-            block = blockOf s j;
-            flagged = 0;
-            paused = pauses (s .block) (paused (s .block) F (newestBlock s j)) (flagsIn s F (newestBlock s j) j);
-          }
+      before-it : Gate
+      before-it = gateAt s F xs n j
 
-      go : (b : Bool) → eqb (blockOf s j) (newestBlock s j) ≡ b → cond b (gateAt s F xs n j) other ≡ gateIn s F xs n j (blockOf s j)
+      go : (b : Bool) → eqb (blockOf s j) (newestBlock s j) ≡ b
+          → cond b before-it (withBlock before-it (nextBlock before-it (blockOf s j))) ≡ gateIn s F xs n j (blockOf s j)
       go true e = ap (gateIn s F xs n j) (sym (eqb-true (blockOf s j) (newestBlock s j) e))
       go false e =
           let differ = eqb-false (blockOf s j) (newestBlock s j) e in
-          λ i.
-          record {
-            apply = s .apply;
-            blocklen = s .block;
-            received = n;
-            run = openAt s F j;
-            left = leftAt F xs j;
-            block = blockOf s j;
-            flagged = sym (enter-flags s F l j differ) i;
-            paused = enter-paused s F l j differ i;
-          }
+          λ i. withBlock before-it (record { number = blockOf s j; flagged = sym (enter-flags s F l j differ) i; paused = enter-paused s F l j differ i })
 
   -- what stands in pending when n + 1 have come and j are judged
   abbrev pend : ℕ → ℕ → List ℕ
@@ -290,7 +279,8 @@ module _ (s : Setting) (F : ℕ → Bool) (xs : List ℕ) (l : 0 < s .block) whe
     written = writeRun (lookahead s) (pend n j) (leftOf xs (start F j) (at xs j)) (at xs j) (start F j) (before F j) (before F j)
 
     -- a place outside the run keeps what it has
-    outside : (k : ℕ) → before F j ≤ s .run → k < suc n → suc n ≤ k + lookahead s → covers F j k ≡ false → (i : ℕ) → i < before F j → k % lookahead s ≢ (start F j + i) % lookahead s
+    outside : (k : ℕ) → before F j ≤ s .run → k < suc n → suc n ≤ k + lookahead s → covers F j k ≡ false → (i : ℕ) → i < before F j
+        → k % lookahead s ≢ (start F j + i) % lookahead s
     outside k short h w c i q =
         let b = before-le F j in
         let other : k ≢ start F j + i = λ e. false≢true (sym c ∙ rw (le-leb (start F j) k (omega arith), lt-ltb k j (omega arith))) in
@@ -318,11 +308,13 @@ module _ (s : Setting) (F : ℕ → Bool) (xs : List ℕ) (l : 0 < s .block) whe
             let b = before-le F j in
             let e : start F j + (k - start F j) ≡ k = omega (arith, t .from) in
             subst (λ (x : ℕ). getD written (x % lookahead s) 0 ≡ mendedWord (leftOf xs (start F j) (at xs j)) (at xs j) (k - start F j) (before F j)) e
-            (write-in (lookahead s) (pend n j) (leftOf xs (start F j) (at xs j)) (at xs j) (start F j) (before F j) (before F j) (k - start F j) len (omega arith)
+            (write-in (lookahead s) (pend n j) (leftOf xs (start F j) (at xs j)) (at xs j) (start F j) (before F j) (before F j) (k - start F j) len
+            (omega arith)
             (omega (arith, t .from, t .upto)))
             ∙ sym (value-hit s F xs j k (hits k true c) ∙ mended-word F xs j k)
         reads k h w false c =
-            write-other (lookahead s) (pend n j) (leftOf xs (start F j) (at xs j)) (at xs j) (start F j) (before F j) (before F j) (k % lookahead s) (outside k short h w c)
+            write-other (lookahead s) (pend n j) (leftOf xs (start F j) (at xs j)) (at xs j) (start F j) (before F j) (before F j) (k % lookahead s)
+            (outside k short h w c)
             ∙ circle-read 0 (lookahead s) (suc n) (value s F xs j) k h w
             ∙ sym (value-miss s F xs j k (hits k false c))
 
@@ -342,8 +334,10 @@ module _ (s : Setting) (F : ℕ → Bool) (xs : List ℕ) (l : 0 < s .block) whe
     closing-is e t = rw (e, t) (go able refl)
       where
         go : (b : Bool) → able ≡ b
-            → cond b (mendedRun (start F j) (before F j) (readRun (lookahead s) (pend n j) (start F j) (before F j))) (keptRun (start F j) (before F j) (ltb (s .run) (before F j)))
-            ≡ cond b (mendedRun (start F j) (before F j) (take (before F j) (drop (start F j) xs))) (keptRun (start F j) (before F j) (ltb (s .run) (before F j)))
+            → cond b (mendedRun (start F j) (before F j) (readRun (lookahead s) (pend n j) (start F j) (before F j)))
+            (keptRun (start F j) (before F j) (ltb (s .run) (before F j)))
+            ≡ cond b (mendedRun (start F j) (before F j) (take (before F j) (drop (start F j) xs)))
+            (keptRun (start F j) (before F j) (ltb (s .run) (before F j)))
         go true m = ap (mendedRun (start F j) (before F j)) (pend-run (mendable-short s (touches s F (start F j) (before F j)) (before F j) m))
         go false m = refl
 
@@ -355,7 +349,8 @@ module _ (s : Setting) (F : ℕ → Bool) (xs : List ℕ) (l : 0 < s .block) whe
         mends-is b m = rw (e, t) m
 
         go : (b : Bool) → able ≡ b
-            → cond b (writeRun (lookahead s) (pend n j) (neighbourOr (leftAt F xs j) (at xs j)) (at xs j) (start F j) (before F j) (before F j)) (pend n j) ≡ pend n (suc j)
+            → cond b (writeRun (lookahead s) (pend n j) (neighbourOr (leftAt F xs j) (at xs j)) (at xs j) (start F j) (before F j) (before F j)) (pend n j)
+            ≡ pend n (suc j)
         go true m =
             ap (λ (x : ℕ). writeRun (lookahead s) (pend n j) x (at xs j) (start F j) (before F j) (before F j)) (left-is s F xs j (at xs j))
             ∙ pend-mended (mendable-short s (touches s F (start F j) (before F j)) (before F j) m) (mends-is true m)
@@ -374,62 +369,51 @@ module _ (s : Setting) (F : ℕ → Bool) (xs : List ℕ) (l : 0 < s .block) whe
     unfolding openAt mends
     ending-pending e = go (ltb 0 (before F j)) refl
       where
-        go : (b : Bool) → ltb 0 (before F j) ≡ b → endingPending s (cond b (Running (runBefore s F j)) Closed) (leftAt F xs j) (at xs j) (pend n j) ≡ pend n (suc j)
+        go : (b : Bool) → ltb 0 (before F j) ≡ b
+            → endingPending s (cond b (Running (runBefore s F j)) Closed) (leftAt F xs j) (at xs j) (pend n j) ≡ pend n (suc j)
         go true t = closing-pending e t
         go false t = let m : mends s F j ≡ false = rw (e, t) in pend-same n j m
 
     -- what the rules say of the judging of j
     abbrev judgementAt : Judgement
-    judgementAt = record { gate = gateAt s F xs (suc n) (suc j); uncertain = paused (s .block) F (blockOf s j); ended = endingAt s F xs j; pending = pend n (suc j) }
+    judgementAt =
+        record { gate = gateAt s F xs (suc n) (suc j); uncertain = paused (s .block) F (blockOf s j); ended = endingAt s F xs j; pending = pend n (suc j) }
 
-    tally : (b : Bool) → F j ≡ b → indicator b + flagsIn s F (blockOf s j) j ≡ flagsIn s F (newestBlock s (suc j)) (suc j)
-    tally b e =
-        let t = tally-flags s F j in
-        let k : suc j - 1 ≡ j = omega arith in
-        ap (λ (c : Bool). indicator c + flagsIn s F (blockOf s j) j) (sym e) ∙ sym t ∙ ap (λ (i : ℕ). flagsIn s F (blockOf s i) (suc j)) (sym k)
+    -- the gate in the block of j
+    abbrev entering : Gate
+    entering = gateIn s F xs (suc n) j (blockOf s j)
 
-    pub decided-is : (flag : Bool) → F j ≡ flag → decided s (gateIn s F xs (suc n) j (blockOf s j)) j (pend n j) flag ≡ judgementAt
+    -- the block when j is judged too, and its flag counted
+    block-is : (flag : Bool) (flags : ℕ) → F j ≡ flag → flags ≡ indicator flag + flagsIn s F (blockOf s j) j
+        → withFlagged (entering .block) flags ≡ blockAt s F (suc j) (newestBlock s (suc j))
+    block-is flag flags e count =
+        let k : j ≡ suc j - 1 = omega arith in
+        let t = count ∙ ap (λ (c : Bool). indicator c + flagsIn s F (blockOf s j) j) (sym e) ∙ sym (tally-flags s F j) in
+        ap (withFlagged (entering .block)) t ∙ ap (λ (i : ℕ). blockAt s F (suc j) (blockOf s i)) k
+
+    pub decided-is : (flag : Bool) → F j ≡ flag → decided s entering j (pend n j) flag ≡ judgementAt
     unfolding mends endingAt
     decided-is true e =
         let m : mends s F j ≡ false = rw e in
         let going-on : endingAt s F xs j ≡ going = rw e in
         let b = before-on F j e in
-        let k : j ≡ suc j - 1 = omega arith in
-        let more : flagsIn s F (blockOf s j) j + 1 ≡ flagsIn s F (newestBlock s (suc j)) (suc j) = let t = tally true e in omega arith in
+        let run = ap (λ (r : Run). Running r) (grown-is s F xs j e) ∙ sym (open-some s F xs (suc j) (omega arith)) in
+        let block = block-is true (flagsIn s F (blockOf s j) j + 1) e (omega arith) in
         λ i.
         record {
-          gate =
-              record {
-                apply = s .apply;
-                blocklen = s .block;
-                received = suc n;
-                run = (ap (λ (r : Run). Running r) (grown-is s F xs j e) ∙ sym (open-some s F xs (suc j) (omega arith))) i;
-                left = left-on s F xs j e i;
-                block = blockOf s (k i);
-                flagged = more i;
-                paused = paused (s .block) F (blockOf s (k i));
-              };
+          gate = withBlock (withMending entering (record { run = run i; left = left-on s F xs j e i })) (block i);
           uncertain = paused (s .block) F (blockOf s j);
           ended = sym going-on i;
           pending = pend-same n j m i;
         }
     decided-is false e =
         let x = pend-right in
-        let k : j ≡ suc j - 1 = omega arith in
-        let same : flagsIn s F (blockOf s j) j ≡ flagsIn s F (newestBlock s (suc j)) (suc j) = let t = tally false e in omega arith in
+        let run = sym (open-none s F xs (suc j) (before-off F j e)) in
+        let left = ap (λ (y : ℕ). Neighbour y) x ∙ left-off s F xs j e in
+        let block = block-is false (flagsIn s F (blockOf s j) j) e (omega arith) in
         λ i.
         record {
-          gate =
-              record {
-                apply = s .apply;
-                blocklen = s .block;
-                received = suc n;
-                run = sym (open-none s F xs (suc j) (before-off F j e)) i;
-                left = (ap (λ (y : ℕ). Neighbour y) x ∙ left-off s F xs j e) i;
-                block = blockOf s (k i);
-                flagged = same i;
-                paused = paused (s .block) F (blockOf s (k i));
-              };
+          gate = withBlock (withMending entering (record { run = run i; left = left i })) (block i);
           uncertain = paused (s .block) F (blockOf s j);
           ended = ending-is e i;
           pending = (ap (λ (y : ℕ). endingPending s (openAt s F j) (leftAt F xs j) y (pend n j)) x ∙ ending-pending e) i;
@@ -437,7 +421,8 @@ module _ (s : Setting) (F : ℕ → Bool) (xs : List ℕ) (l : 0 < s .block) whe
 
 -- ---- the step
 
-module _ (good : Float → Type 0) (o : Ordered lt good) (s : Setting) (l : 0 < s .block) (xs : List ℕ) (fine : All (Fine good) xs) (n : ℕ) (inside : n < length xs) where
+module _ (good : Float → Type 0) (o : Ordered lt good) (s : Setting) (l : 0 < s .block) (xs : List ℕ) (fine : All (Fine good) xs) (n : ℕ)
+    (inside : n < length xs) where
   abbrev F : ℕ → Bool
   F = flagged s xs
 
@@ -485,8 +470,15 @@ module _ (good : Float → Type 0) (o : Ordered lt good) (s : Setting) (l : 0 < 
 
   -- when j is judged
   judge-is : (j : ℕ) → n ≡ j + s .half
-      → judge s (gateAt s F xs (suc n) j) j (powerAt j) (padded (width s) (sort lt (newestPowers s xs (suc n)))) (circle 0 (lookahead s) (suc n) (value s F xs j))
-      ≡ record { gate = gateAt s F xs (suc n) (suc j); uncertain = paused (s .block) F (blockOf s j); ended = endingAt s F xs j; pending = circle 0 (lookahead s) (suc n) (value s F xs (suc j)) }
+      → judge s (gateAt s F xs (suc n) j) j (powerAt j) (padded (width s) (sort lt (newestPowers s xs (suc n))))
+      (circle 0 (lookahead s) (suc n) (value s F xs j))
+      ≡ record {
+        gate = gateAt s F xs (suc n) (suc j);
+        uncertain = paused (s .block) F (blockOf s j);
+        ended = endingAt s F xs j;
+        pending =
+            circle 0 (lookahead s) (suc n) (value s F xs (suc j));
+      }
   unfolding judge
   judge-is j here =
       let sorted = padded (width s) (sort lt (newestPowers s xs (suc n))) in
@@ -508,20 +500,11 @@ module _ (good : Float → Type 0) (o : Ordered lt good) (s : Setting) (l : 0 < 
   received-is : arrived (gateAt s F xs n (judged s n)) ≡ gateAt s F xs (suc n) (judged s n)
   received-is =
       let e : n + 1 ≡ suc n = omega arith in
-      λ i.
-      record {
-        apply = s .apply;
-        blocklen = s .block;
-        received = e i;
-        run = openAt s F (judged s n);
-        left = leftAt F xs (judged s n);
-        block = newestBlock s (judged s n);
-        flagged = flagsIn s F (newestBlock s (judged s n)) (judged s n);
-        paused = paused (s .block) F (newestBlock s (judged s n));
-      }
+      ap (λ (k : ℕ). gateAt s F xs k (judged s n)) e
 
   -- of the gate and the arrays with sample n in them
-  verdict-is : verdict s (gateAt s F xs (suc n) (judged s n)) n (circle zeroF (width s) (suc n) powerAt) (padded (width s) (sort lt (newestPowers s xs (suc n)))) (circle 0 (lookahead s) (suc n) (value s F xs (judged s n)))
+  verdict-is : verdict s (gateAt s F xs (suc n) (judged s n)) n (circle zeroF (width s) (suc n) powerAt)
+      (padded (width s) (sort lt (newestPowers s xs (suc n)))) (circle 0 (lookahead s) (suc n) (value s F xs (judged s n)))
       ≡ verdictAt (ltb n (s .half))
   unfolding verdict
   verdict-is = go (ltb n (s .half)) refl
@@ -534,7 +517,8 @@ module _ (good : Float → Type 0) (o : Ordered lt good) (s : Setting) (l : 0 < 
 
       go : (b : Bool) → ltb n (s .half) ≡ b
           → cond b (record { gate = gateAt s F xs (suc n) (judged s n); uncertain = false; ended = going; pending = pending (judged s n) })
-          (judge s (gateAt s F xs (suc n) (judged s n)) (n - s .half) (getD (circle zeroF (width s) (suc n) powerAt) ((n - s .half) % width s) nan) sorted (pending (judged s n)))
+          (judge s (gateAt s F xs (suc n) (judged s n)) (n - s .half) (getD (circle zeroF (width s) (suc n) powerAt) ((n - s .half) % width s) nan) sorted
+          (pending (judged s n)))
           ≡ verdictAt b
       go true e =
           let h = ltb-true n (s .half) e in
@@ -547,7 +531,8 @@ module _ (good : Float → Type 0) (o : Ordered lt good) (s : Setting) (l : 0 < 
           let own = circle-read-any zeroF (width s) nan (suc n) powerAt j (omega arith) (omega arith) in
           ap (λ (p : Float). judge s (gateAt s F xs (suc n) j) j p sorted (pending j)) own
           ∙ judge-is j (omega arith)
-          ∙ ap (λ (k : ℕ). record { gate = gateAt s F xs (suc n) k; uncertain = paused (s .block) F (blockOf s j); ended = endingAt s F xs j; pending = pending k }) next
+          ∙ ap (λ (k : ℕ). record
+          { gate = gateAt s F xs (suc n) k; uncertain = paused (s .block) F (blockOf s j); ended = endingAt s F xs j; pending = pending k }) next
 
   pub push-is : push s (stateAt s xs n) (at xs n) ≡ outcomeAt s xs n
   unfolding push stateAt

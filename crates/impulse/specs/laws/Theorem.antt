@@ -1,4 +1,5 @@
--- The stage theorem: run from fresh over any input with no NaN part, the machine stands as the rules for that input say, and has handed on and told what they say. So any cutting of the input gives the same. Assumes nothing.
+-- The stage theorem: run from fresh over any input with no NaN part, the machine stands as the rules for that input say, and has handed on and told what they
+-- say. So any cutting of the input gives the same. Assumes nothing.
 use mathlib.Core.Path.{_≡_, refl, ap, sym, _∙_}
 use mathlib.Core.Bool.{Bool, true, false, cond}
 use mathlib.Core.List.{List, [], _∷_, _++_, append-nil, append-assoc}
@@ -16,7 +17,8 @@ use Rattle.rules.specs.Constants.{zeroF}
 use Rattle.rules.specs.Lists.{upTo, at, count, All}
 use Rattle.rules.specs.Sort.{sort}
 use Rattle.rules.specs.laws.SortLaws.{all-append, Ordered, plain-order, power-plain}
-use Rattle.rules.specs.Impulse.{Setting, width, lookahead, powerOf, flagged, judged, before, start, closes, blockOf, paused, touches, mendable, value, Event, uncertain, kept, mended, eventsAt, events, handedOn, happened}
+use Rattle.rules.specs.Impulse.{Setting, width, lookahead, powerOf, flagged, judged, before, start, closes, blockOf, paused, touches, mendable, value, Event}
+use Rattle.rules.specs.Impulse.{uncertain, kept, mended, eventsAt, events, handedOn, happened}
 use Rattle.impulse.specs.declared.ImpulseSuppressor.{ImpulseSuppressor}
 use Rattle.impulse.specs.declared.Answer.the-variants.{Released, Nothing}
 use Rattle.impulse.specs.Machine.{fresh, going, keptRun, mendedRun, Outcome, push}
@@ -77,11 +79,17 @@ handed-step s xs n h = go (s .apply) (ltb n (lookahead s)) refl
 -- what is told when j is judged
 told-is : (s : Setting) (F : ℕ → Bool) (xs : List ℕ) (j : ℕ) → told j (paused (s .block) F (blockOf s j)) (endingEvents (endingAt s F xs j)) ≡ eventsAt s F xs j
 unfolding endingAt eventsAt
-told-is s F xs j = ap (λ (es : List Event). cond (paused (s .block) F (blockOf s j)) (uncertain j ∷ []) [] ++ es) (go (closes F j) (mendable s (touches s F (start F j) (before F j)) (before F j)))
+told-is s F xs j =
+    ap (λ (es : List Event). cond (paused (s .block) F (blockOf s j)) (uncertain j ∷ []) [] ++ es)
+    (go (closes F j) (mendable s (touches s F (start F j) (before F j)) (before F j)))
   where
     go : (c m : Bool)
-        → endingEvents (cond c (cond m (mendedRun (start F j) (before F j) (take (before F j) (drop (start F j) xs))) (keptRun (start F j) (before F j) (ltb (s .run) (before F j)))) going)
-        ≡ cond c (cond m (mended (start F j) (before F j) (take (before F j) (drop (start F j) xs))) (kept (start F j) (before F j) (ltb (s .run) (before F j))) ∷ []) []
+        → endingEvents
+        (cond c (cond m (mendedRun (start F j) (before F j) (take (before F j) (drop (start F j) xs)))
+        (keptRun (start F j) (before F j) (ltb (s .run) (before F j)))) going)
+        ≡ cond c
+        (cond m (mended (start F j) (before F j) (take (before F j) (drop (start F j) xs))) (kept (start F j) (before F j) (ltb (s .run) (before F j))) ∷
+        []) []
     go true true = refl
     go true false = refl
     go false m = refl
@@ -114,7 +122,8 @@ module _ (good : Float → Type 0) (o : Ordered lt good) (s : Setting) (l : 0 < 
   pub record Led (n : ℕ) : Type 0 where
     pub state : after (step s) (stateAt s xs n) (drop n xs) ≡ stateAt s xs (length xs)
     pub out : handed s xs n ++ outs (step s) (emit s) (stateAt s xs n) (drop n xs) ≡ handed s xs (length xs)
-    pub told : events s (flagged s xs) xs (judged s n) ++ outs (step s) (news s) (stateAt s xs n) (drop n xs) ≡ events s (flagged s xs) xs (judged s (length xs))
+    pub told : events s (flagged s xs) xs (judged s n) ++ outs (step s) (news s) (stateAt s xs n) (drop n xs)
+        ≡ events s (flagged s xs) xs (judged s (length xs))
 
   leads : (d n : ℕ) → n + d ≡ length xs → Led n
   leads zero n e =
@@ -140,9 +149,12 @@ module _ (good : Float → Type 0) (o : Ordered lt good) (s : Setting) (l : 0 < 
             ∙ r .out);
         told =
             rw more
-            (ap (λ (k : ℕ). events s (flagged s xs) xs (judged s n) ++ (newsOf s k (push s (stateAt s xs n) (at xs n)) ++ outs (step s) (news s) (step s (stateAt s xs n) (at xs n)) (drop (suc n) xs))) (received-is s xs n)
+            (ap (λ (k : ℕ). events s (flagged s xs) xs (judged s n)
+            ++ (newsOf s k (push s (stateAt s xs n) (at xs n))
+            ++ outs (step s) (news s) (step s (stateAt s xs n) (at xs n)) (drop (suc n) xs))) (received-is s xs n)
             ∙ ap (λ (q : Outcome). events s (flagged s xs) xs (judged s n) ++ (newsOf s n q ++ outs (step s) (news s) (q .state) (drop (suc n) xs))) p
-            ∙ sym (append-assoc (events s (flagged s xs) xs (judged s n)) (newsOf s n (outcomeAt s xs n)) (outs (step s) (news s) (stateAt s xs (suc n)) (drop (suc n) xs)))
+            ∙ sym (append-assoc (events s (flagged s xs) xs (judged s n)) (newsOf s n (outcomeAt s xs n))
+            (outs (step s) (news s) (stateAt s xs (suc n)) (drop (suc n) xs)))
             ∙ ap (λ (q : List Event). q ++ outs (step s) (news s) (stateAt s xs (suc n)) (drop (suc n) xs)) (news-step s xs n)
             ∙ r .told);
       }

@@ -19,7 +19,8 @@ use Rattle.impulse_c.proofs.Turns.{ready-fresh, Going, going-first, goi
 use Rattle.impulse_c.proofs.impulse_run.Statement.{statement}
 use Rattle.impulse_c.proofs.impulse_run.Tie as tie
 
-emitted : (s : Setting) (m : ImpulseSuppressor) (x : ℕ) (p : Pushed) → settingOf (m .gate) ≡ s → p ≡ pushedOf (push (settingOf (m .gate)) m x) → given (p .answer) ≡ emit s m x
+emitted : (s : Setting) (m : ImpulseSuppressor) (x : ℕ) (p : Pushed) → settingOf (m .gate) ≡ s → p ≡ pushedOf (push (settingOf (m .gate)) m x)
+    → given (p .answer) ≡ emit s m x
 emitted s m x p e f = ap (λ (q : Pushed). given (q .answer)) f ∙ ap (λ (t : Setting). given (push t m x .answer)) e
 
 given-length : (a : Answer) → length (given a) ≤ 1
@@ -40,8 +41,11 @@ loop-holds : tie.Need-loop-holds Inv-loop μ-loop
 loop-holds c =
     let a = c .before .before .before .before .before .before .before .args in
     let s = standard (a .blocklen) (a .apply) in
-    let f = sym (c .before .before .before .before .fresh .ensures) in
-    (subst (λ (m : ImpulseSuppressor). Going s (emit s) (a .samples .now) (a .words .now) m (a .words .now) 0 0) f (going-first s (emit s) (a .samples .now) (a .words .now) (ready-fresh (a .blocklen) (a .apply) (search needs))), omega arith)
+    let f = sym (c .before .before .before .before .fresh .ensures) in (
+      subst (λ (m : ImpulseSuppressor). Going s (emit s) (a .samples .now) (a .words .now) m (a .words .now) 0 0) f
+          (going-first s (emit s) (a .samples .now) (a .words .now) (ready-fresh (a .blocklen) (a .apply) (search needs))),
+      omega arith,
+    )
 
 mul-push : tie.Need-mul-push Inv-loop μ-loop
 mul-push c = omega arith
@@ -53,7 +57,12 @@ push-requires : tie.Need-push-requires Inv-loop μ-loop
 push-requires c κs = let i = c .before .before .before .before .before .loop in (i .inv .0 .ready .room, i .inv .0 .ready .full)
 
 hand-on-requires : tie.Need-hand-on-requires Inv-loop μ-loop
-hand-on-requires c κs = let i = c .before .before .before .before .before .before .before .before .loop in omega (arith, i .inv .0 .same-length, c .before .before .before .before .before .before .before .before .before .before .before .before .before .before .before .before .pre .2)
+hand-on-requires c κs = let i = c .before .before .before .before .before .before .before .before .loop in
+    omega (
+      arith,
+      i .inv .0 .same-length,
+      c .before .before .before .before .before .before .before .before .before .before .before .before .before .before .before .before .pre .2,
+    )
 
 add-k : tie.Need-add-k Inv-loop μ-loop
 add-k c = omega arith
@@ -63,19 +72,27 @@ loop-less c = omega arith
 
 loop-again : tie.Need-loop-again Inv-loop μ-loop
 loop-again c =
-    let a = c .before .before .before .before .before .before .before .before .before .before .before .before .before .before .before .before .before .before .before .args in
+    let a = c .before .before .before .before .before .before .before .before .before .before .before .before .before .before .before .before .before .before
+    .before .args in
     let i = c .before .before .before .before .before .before .before .before .before .before .before .loop in
     let p = c .before .before .before .before .before .push in
     let q = c .before .before .hand-on .ensures in
     let s = standard (a .blocklen) (a .apply) in
     let m = suppressorOf (i .gate) (i .window) (i .sorted) (i .pending) in
     let x = getD (a .samples .now) (i .k) 0 in
-    let pre = c .before .before .before .before .before .before .before .before .before .before .before .before .before .before .before .before .before .before .before .pre in
+    let more = c .before .before .before .before .before .before .before .before .before .before .loop-test .taken in
+    let written = i .inv .1 in
+    let pre =
+    c .before .before .before .before .before .before .before .before .before .before .before .before .before .before .before .before .before .before
+    .before .pre in
     let is = emitted s m x (p .result) (i .inv .0 .ready .setting) (p .ensures .0) in
     let n = given-length (push s m x .answer) in (
-      going-step s (emit s) (a .samples .now) (a .words .now) m (suppressorOf (p .result .gate) (p .last .1 .1 .0) (p .last .1 .1 .1 .0) (p .last .1 .1 .1 .1 .0)) (i .words) (c .before .before .hand-on .last .0) (i .out) (c .before .before .hand-on .result) (i .k) (i .inv .0)
-          (omega arith) (omega (arith, pre .1)) (omega (arith, n, pre .2, i .inv .0 .same-length))
-          (next-state (i .gate) (i .window) (i .sorted) (i .pending) x (p .result) (p .last .1 .1 .0) (p .last .1 .1 .1 .0) (p .last .1 .1 .1 .1 .0) (p .ensures .0) (p .ensures .1 .0) (p .ensures .1 .1 .0) (p .ensures .1 .1 .1))
+      going-step s (emit s) (a .samples .now) (a .words .now) m
+          (suppressorOf (p .result .gate) (p .last .1 .1 .0) (p .last .1 .1 .1 .0) (p .last .1 .1 .1 .1 .0)) (i .words) (c .before .before .hand-on .last .0)
+          (i .out) (c .before .before .hand-on .result) (i .k) (i .inv .0)
+          more (omega (arith, pre .1)) (omega (arith, n, pre .2, i .inv .0 .same-length))
+          (next-state (i .gate) (i .window) (i .sorted) (i .pending) x (p .result) (p .last .1 .1 .0) (p .last .1 .1 .1 .0) (p .last .1 .1 .1 .1 .0)
+          (p .ensures .0) (p .ensures .1 .0) (p .ensures .1 .1 .0) (p .ensures .1 .1 .1))
           (q .1 ∙ ap (placed (i .words) (i .out)) is) (q .0 ∙ ap (λ (l : List ℕ). i .out + length l) is),
       omega (arith, n, q .0, ap length is),
     )
@@ -89,7 +106,8 @@ returns c =
     let a = c .before .before .before .before .before .before .before .before .before .args in
     let i = c .before .loop in
     let s = standard (a .blocklen) (a .apply) in
-    going-last s (emit s) (a .samples .now) (a .words .now) (suppressorOf (i .gate) (i .window) (i .sorted) (i .pending)) (i .words) (i .out) (i .k) (i .inv .0) (omega arith) (omega (arith, i .inv .0 .same-length, c .before .before .before .before .before .before .before .before .before .pre .2))
+    going-last s (emit s) (a .samples .now) (a .words .now) (suppressorOf (i .gate) (i .window) (i .sorted) (i .pending)) (i .words) (i .out) (i .k) (i .inv .0)
+    (omega arith) (omega (arith, i .inv .0 .same-length, c .before .before .before .before .before .before .before .before .before .pre .2))
 
 pub impulse-run-spec : {M : Type 1} → statement M
 impulse-run-spec =

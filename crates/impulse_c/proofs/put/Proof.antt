@@ -10,7 +10,9 @@ use Rattle.impulse_c.specs.Trace.{recordOf, placed}
 use Rattle.impulse_c.proofs.put.Statement.{statement}
 use Rattle.impulse_c.proofs.put.Tie as tie
 
-ten : (l : List ℕ) (i v0 v1 v2 v3 v4 v5 v6 v7 v8 v9 : ℕ) → i + 10 ≤ length l → set (set (set (set (set (set (set (set (set (set l i v0) (i + 1) v1) (i + 2) v2) (i + 3) v3) (i + 4) v4) (i + 5) v5) (i + 6) v6) (i + 7) v7) (i + 8) v8) (i + 9) v9 ≡ placed l i (v0 ∷ v1 ∷ v2 ∷ v3 ∷ v4 ∷ v5 ∷ v6 ∷ v7 ∷ v8 ∷ v9 ∷ [])
+ten : (l : List ℕ) (i v0 v1 v2 v3 v4 v5 v6 v7 v8 v9 : ℕ) → i + 10 ≤ length l
+    → set (set (set (set (set (set (set (set (set (set l i v0) (i + 1) v1) (i + 2) v2) (i + 3) v3) (i + 4) v4) (i + 5) v5) (i + 6) v6) (i + 7) v7) (i + 8) v8)
+    (i + 9) v9 ≡ placed l i (v0 ∷ v1 ∷ v2 ∷ v3 ∷ v4 ∷ v5 ∷ v6 ∷ v7 ∷ v8 ∷ v9 ∷ [])
 ten l i v0 v1 v2 v3 v4 v5 v6 v7 v8 v9 h =
     let e1 : i + 1 ≡ suc i = omega arith in
     let e2 : i + 2 ≡ suc (suc i) = omega arith in
@@ -132,8 +134,11 @@ returns : tie.Need-returns
 unfolding recordOf
 returns c =
     let a = c .before .before .before .before .before .args in
-    let t = c .before .before .before .told .ensures in
-    (refl, simp (t, c .bit .ensures, c .before .released-word .ensures, c .before .before .is-released .ensures) (ten (a .words .now) (a .at) _ _ _ _ _ _ _ _ _ _ (search needs)))
+    let t = c .before .before .before .told .ensures in (
+      refl,
+      simp (t, c .bit .ensures, c .before .released-word .ensures, c .before .before .is-released .ensures)
+          (ten (a .words .now) (a .at) _ _ _ _ _ _ _ _ _ _ (search needs)),
+    )
 
 pub put-spec : {M : Type 1} → statement M
 put-spec =

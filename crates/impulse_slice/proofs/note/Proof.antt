@@ -13,10 +13,12 @@ two-most : (j : ℕ) (doubt : Bool) → eventsSize (doubts j doubt) ≤ 2
 two-most j true = omega arith
 two-most j false = omega arith
 
-doubted : (spanCapacity repairCapacity : ℕ) (x y : Noted) (j : ℕ) (doubt : Bool) → y ≡ noteAll spanCapacity repairCapacity x (doubts j doubt) → Roomy spanCapacity repairCapacity (2 ^ 60) x → Roomy spanCapacity repairCapacity (2 ^ 61) y
+doubted : (spanCapacity repairCapacity : ℕ) (x y : Noted) (j : ℕ) (doubt : Bool) → y ≡ noteAll spanCapacity repairCapacity x (doubts j doubt)
+    → Roomy spanCapacity repairCapacity (2 ^ 60) x → Roomy spanCapacity repairCapacity (2 ^ 61) y
 doubted spanCapacity repairCapacity x y j doubt e r =
     subst (λ (z : Noted). Roomy spanCapacity repairCapacity (2 ^ 61) z) (sym e)
-    (roomy-up spanCapacity repairCapacity (2 ^ 60 + eventsSize (doubts j doubt)) (2 ^ 61) (noteAll spanCapacity repairCapacity x (doubts j doubt)) (omega (arith, two-most j doubt)) (roomy-all spanCapacity repairCapacity (2 ^ 60) x (doubts j doubt) r))
+    (roomy-up spanCapacity repairCapacity (2 ^ 60 + eventsSize (doubts j doubt)) (2 ^ 61) (noteAll spanCapacity repairCapacity x (doubts j doubt))
+    (omega (arith, two-most j doubt)) (roomy-all spanCapacity repairCapacity (2 ^ 60) x (doubts j doubt) r))
 
 note-doubt-requires : tie.Need-note-doubt-requires
 note-doubt-requires c κs = search needs
@@ -25,8 +27,11 @@ note-ended-requires : tie.Need-note-ended-requires
 note-ended-requires c κs =
     let st = c .before .before .before .before .before .before .before .before in
     let a = st .args in
-    let d = c .before .before .before .before .note-doubt in
-    (doubted (a .cap) (a .room) (notedOf (a .notes) (a .spans .now) (a .repairs .now)) (notedOf (d .result) (d .last .1 .1 .1 .0) (a .repairs .now)) (a .j) (a .doubt) (d .ensures (a .room) (a .repairs .now)) (st .pre .0), st .pre .1 .1)
+    let d = c .before .before .before .before .note-doubt in (
+      doubted (a .cap) (a .room) (notedOf (a .notes) (a .spans .now) (a .repairs .now)) (notedOf (d .result) (d .last .1 .1 .1 .0) (a .repairs .now)) (a .j)
+          (a .doubt) (d .ensures (a .room) (a .repairs .now)) (st .pre .0),
+      st .pre .1 .1,
+    )
 
 same-length : tie.Need-same-length
 same-length c = search needs

@@ -16,7 +16,7 @@ returns c repairCapacity rs = simp (not-true (c .before .before .args .doubt) (c
 
 mark-requires : tie.Need-mark-requires
 mark-requires c κs =
-    let st = c .before .before .before .before .before in
+    let st = c .before .before .before .before in
     let a = st .args in
     bounded-fits _ _ _ _ (spanOf (a .j) 1) (st .pre .0) (lit< tt) (omega arith) (omega (arith, st .pre .1))
 
@@ -25,10 +25,11 @@ same-length c = search needs
 
 returns-2 : tie.Need-returns-2
 returns-2 c repairCapacity rs =
-    let st = c .before .before .before .before .before .before .before .before in
+    let st = c .before .before .before .before .before .before .before in
     let a = st .args in
-    simp (not-false (a .doubt) (c .before .before .before .before .before .before .if1 .left))
-    (doubt-noted (a .cap) repairCapacity (a .notes) (c .before .before .mark .result) (a .spans .now) (c .before .before .mark .last .1 .0) rs (a .j) (c .before .before .mark .ensures))
+    simp (not-false (a .doubt) (c .before .before .before .before .before .if1 .left))
+    (doubt-noted (a .cap) repairCapacity (a .notes) (c .before .before .mark .result) (a .spans .now) (c .before .before .mark .last .1 .0) rs (a .j)
+    (c .before .before .mark .ensures))
 
 pub note-doubt-spec : {M : Type 1} → statement M
 note-doubt-spec = tie.close (tie.spec returns mark-requires same-length returns-2)

@@ -13,7 +13,7 @@ counted-requires c κs = search needs
 
 mark-requires : tie.Need-mark-requires
 mark-requires c κs =
-    let st = c .before .before .before .before .before in
+    let st = c .before .before .before .before in
     let a = st .args in
     bounded-fits _ _ _ _ (spanOf (a .start) (a .len)) (st .pre .0) (lit< tt) (omega (arith, st .pre .1 .1)) (omega (arith, st .pre .1 .1))
 
@@ -22,11 +22,12 @@ same-length c = search needs
 
 returns : tie.Need-returns
 returns c repairCapacity rs =
-    let st = c .before .before .before .before .before .before .before .before in
+    let st = c .before .before .before .before .before .before .before in
     let a = st .args in
     let m = c .before .before .mark in
     let n = c .before .before .before .before .counted in
-    kept-noted (a .cap) repairCapacity (a .notes) (m .result) (a .spans .now) (m .last .1 .0) rs (a .start) (a .len) (n .result) (a .long) (n .ensures) (m .ensures)
+    kept-noted (a .cap) repairCapacity (a .notes) (m .result) (a .spans .now) (m .last .1 .0) rs (a .start) (a .len) (n .result) (a .long) (n .ensures)
+    (m .ensures)
 
 pub note-kept-spec : {M : Type 1} → statement M
 note-kept-spec = tie.close (tie.spec counted-requires mark-requires same-length returns)

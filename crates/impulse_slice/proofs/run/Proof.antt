@@ -12,19 +12,26 @@ use Rattle.impulse_slice.proofs.run.Statement.{statement}
 use Rattle.impulse_slice.proofs.run.Tie as tie
 
 abbrev Inv-loop : tie.InvT-loop
-Inv-loop samples₀ held window₀ sorted₀ pending₀ spans₀ spanCapacity repairs₀ repairCapacity gate₀ said₀ out₀ k₀ samples window sorted pending spans repairs gate said out k =
-    Going spanCapacity repairCapacity held (suppressorOf gate₀ window₀ sorted₀ pending₀) (notedOf said₀ spans₀ repairs₀) samples₀ (suppressorOf gate window sorted pending) (notedOf said spans repairs) samples out k
+Inv-loop samples₀ held window₀ sorted₀ pending₀ spans₀ spanCapacity repairs₀ repairCapacity gate₀ said₀ out₀ k₀ samples window sorted pending spans repairs gate
+    said out k =
+    Going spanCapacity repairCapacity held (suppressorOf gate₀ window₀ sorted₀ pending₀) (notedOf said₀ spans₀ repairs₀) samples₀
+    (suppressorOf gate window sorted pending) (notedOf said spans repairs) samples out k
     × (length spans ≡ length spans₀)
     × (length repairs ≡ length repairs₀)
 
 abbrev μ-loop : tie.MeasureT-loop
-μ-loop samples₀ held window₀ sorted₀ pending₀ spans₀ spanCapacity repairs₀ repairCapacity gate₀ said₀ out₀ k₀ samples window sorted pending spans repairs gate said out k = length samples₀ - k
+μ-loop samples₀ held window₀ sorted₀ pending₀ spans₀ spanCapacity repairs₀ repairCapacity gate₀ said₀ out₀ k₀ samples window sorted pending spans repairs gate
+    said out k = length samples₀ - k
 
 loop-holds : tie.Need-loop-holds Inv-loop μ-loop
 loop-holds c =
     let st = c .before .before .before in
-    let a = st .args in
-    (going-first (a .cap) (a .room) (a .held) (suppressorOf (a .first) (a .window .now) (a .sorted .now) (a .pending .now)) (notedOf (a .notes) (a .spans .now) (a .repairs .now)) (a .samples .now) (st .pre .0), refl, refl)
+    let a = st .args in (
+      going-first (a .cap) (a .room) (a .held) (suppressorOf (a .first) (a .window .now) (a .sorted .now) (a .pending .now))
+          (notedOf (a .notes) (a .spans .now) (a .repairs .now)) (a .samples .now) (st .pre .0),
+      refl,
+      refl,
+    )
 
 take-requires : tie.Need-take-requires Inv-loop μ-loop
 take-requires c κs =
@@ -51,7 +58,9 @@ take-requires c κs =
 
 add-k : tie.Need-add-k Inv-loop μ-loop
 add-k c =
-    let st = c .before .before .before .before .before .before .before .before .before .before .before .before .before .before .before .before .before .before .before .before in
+    let st =
+    c .before .before .before .before .before .before .before .before .before .before .before .before .before .before .before .before .before .before
+    .before .before in
     let a = st .args in
     let l = c .before .before .before .before .before .before .before .before .before .before .before .before .before .before .before .before .loop in
     let m₀ = suppressorOf (a .first) (a .window .now) (a .sorted .now) (a .pending .now) in
@@ -59,11 +68,18 @@ add-k c =
     let m = suppressorOf (l .gate) (l .window) (l .sorted) (l .pending) in
     let n = notedOf (l .said) (l .spans) (l .repairs) in
     let same = length-same (a .cap) (a .room) (a .held) m₀ n₀ (a .samples .now) m n (l .samples) (l .out) (l .k) (l .inv .0) in
-    omega (arith, same, st .good .0, c .before .before .before .before .before .before .before .before .before .before .before .before .before .before .before .loop-test .taken)
+    omega (
+      arith,
+      same,
+      st .good .0,
+      c .before .before .before .before .before .before .before .before .before .before .before .before .before .before .before .loop-test .taken,
+    )
 
 loop-less : tie.Need-loop-less Inv-loop μ-loop
 loop-less c =
-    let st = c .before .before .before .before .before .before .before .before .before .before .before .before .before .before .before .before .before .before .before .before in
+    let st =
+    c .before .before .before .before .before .before .before .before .before .before .before .before .before .before .before .before .before .before
+    .before .before in
     let a = st .args in
     let l = c .before .before .before .before .before .before .before .before .before .before .before .before .before .before .before .before .loop in
     let m₀ = suppressorOf (a .first) (a .window .now) (a .sorted .now) (a .pending .now) in
@@ -71,11 +87,17 @@ loop-less c =
     let m = suppressorOf (l .gate) (l .window) (l .sorted) (l .pending) in
     let n = notedOf (l .said) (l .spans) (l .repairs) in
     let same = length-same (a .cap) (a .room) (a .held) m₀ n₀ (a .samples .now) m n (l .samples) (l .out) (l .k) (l .inv .0) in
-    omega (arith, same, c .before .before .before .before .before .before .before .before .before .before .before .before .before .before .before .loop-test .taken)
+    omega (
+      arith,
+      same,
+      c .before .before .before .before .before .before .before .before .before .before .before .before .before .before .before .loop-test .taken,
+    )
 
 loop-again : tie.Need-loop-again Inv-loop μ-loop
 loop-again c =
-    let st = c .before .before .before .before .before .before .before .before .before .before .before .before .before .before .before .before .before .before .before .before in
+    let st =
+    c .before .before .before .before .before .before .before .before .before .before .before .before .before .before .before .before .before .before
+    .before .before in
     let a = st .args in
     let l = c .before .before .before .before .before .before .before .before .before .before .before .before .before .before .before .before .loop in
     let m₀ = suppressorOf (a .first) (a .window .now) (a .sorted .now) (a .pending .now) in
@@ -85,7 +107,12 @@ loop-again c =
     let t = c .before .before .before .before .before .before .before .before .take in
     let g = l .inv .0 in
     let same = length-same (a .cap) (a .room) (a .held) m₀ n₀ (a .samples .now) m n (l .samples) (l .out) (l .k) g in
-    let h : l .k < length (a .samples .now) = omega (arith, same, c .before .before .before .before .before .before .before .before .before .before .before .before .before .before .before .loop-test .taken) in (
+    let h : l .k < length (a .samples .now) =
+    omega (
+      arith,
+      same,
+      c .before .before .before .before .before .before .before .before .before .before .before .before .before .before .before .loop-test .taken,
+    ) in (
       going-next (a .cap) (a .room) (a .held) m₀ n₀ (a .samples .now) m n (l .samples) (l .out) (l .k) g
           (suppressorOf (t .result .gate) (t .last .1 .1 .1 .1 .0) (t .last .1 .1 .1 .1 .1 .0) (t .last .1 .1 .1 .1 .1 .1 .0))
           (notedOf (t .result .notes) (t .last .1 .1 .1 .1 .1 .1 .1 .1 .0) (t .last .1 .1 .1 .1 .1 .1 .1 .1 .1 .1 .0))

@@ -27,12 +27,19 @@ note-requires c κs =
     let st = c .before .before .before .before .before .before .before .before .before .before .before .before in
     let a = st .args in
     let p = c .before .before .before .push in
-    let j = c .before .before .before .before .before .before .before .before .next-judged .ensures in
-    (st .pre .1 .1 .1, (omega (arith, j, st .pre .1 .0 .early), ended-early (a .gate) (a .window .now) (a .sorted .now) (a .pending .now) (getD (a .samples .now) (a .k) 0) (p .result) (p .ensures .0) (st .pre .1 .0)))
+    let j = c .before .before .before .before .before .before .before .before .next-judged .ensures in (
+      st .pre .1 .1 .1,
+      (
+        omega (arith, j, st .pre .1 .0 .early),
+        ended-early (a .gate) (a .window .now) (a .sorted .now) (a .pending .now) (getD (a .samples .now) (a .k) 0) (p .result) (p .ensures .0)
+            (st .pre .1 .0),
+      ),
+    )
 
 put-requires : tie.Need-put-requires
 put-requires c κs =
-    let st = c .before .before .before .before .before .before .before .before .before .before .before .before .before .before .before .before .before .before in
+    let st =
+    c .before .before .before .before .before .before .before .before .before .before .before .before .before .before .before .before .before .before in
     omega (arith, st .pre .0 .0, st .pre .0 .1)
 
 same-length : tie.Need-same-length
@@ -46,17 +53,22 @@ same-length-3 c = search needs
 
 returns : tie.Need-returns
 returns c =
-    let st = c .before .before .before .before .before .before .before .before .before .before .before .before .before .before .before .before .before .before .before .before .before in
+    let st =
+    c .before .before .before .before .before .before .before .before .before .before .before .before .before .before .before .before .before .before
+    .before .before .before in
     let a = st .args in
-    let j = c .before .before .before .before .before .before .before .before .before .before .before .before .before .before .before .before .before .next-judged in
+    let j = c .before .before .before .before .before .before .before .before .before .before .before .before .before .before .before .before .before
+    .next-judged in
     let p = c .before .before .before .before .before .before .before .before .before .before .before .before .push in
     let n = c .before .before .before .before .before .before .before .before .note in
     let q = c .before .before .put .ensures in
     let x = getD (a .samples .now) (a .k) 0 in
     let is = emitted (a .gate) (a .window .now) (a .sorted .now) (a .pending .now) x (p .result) (p .ensures .0) in (
-      next-state (a .gate) (a .window .now) (a .sorted .now) (a .pending .now) x (p .result) (p .ensures .0) (p .last .1 .1 .0) (p .last .1 .1 .1 .0) (p .last .1 .1 .1 .1 .0) (p .ensures .1 .0) (p .ensures .1 .1 .0) (p .ensures .1 .1 .1),
+      next-state (a .gate) (a .window .now) (a .sorted .now) (a .pending .now) x (p .result) (p .ensures .0) (p .last .1 .1 .0) (p .last .1 .1 .1 .0)
+          (p .last .1 .1 .1 .1 .0) (p .ensures .1 .0) (p .ensures .1 .1 .0) (p .ensures .1 .1 .1),
       (
-        said (a .gate) (a .window .now) (a .sorted .now) (a .pending .now) x (p .result) (p .ensures .0) (a .cap) (a .room) (notedOf (a .notes) (a .spans .now) (a .repairs .now)) _ (j .result) (j .ensures) (n .ensures),
+        said (a .gate) (a .window .now) (a .sorted .now) (a .pending .now) x (p .result) (p .ensures .0) (a .cap) (a .room)
+            (notedOf (a .notes) (a .spans .now) (a .repairs .now)) _ (j .result) (j .ensures) (n .ensures),
         (
           q .0 ∙ ap (λ (l : List ℕ). a .out + length l) is,
           q .1 ∙ ap (placed (a .samples .now) (a .out)) is,

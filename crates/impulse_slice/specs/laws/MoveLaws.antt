@@ -1,4 +1,5 @@
--- How a push moves the open run: one that ends is told whole, another grows by one at most. So what is told and what is open rise by three at most. Assumes nothing.
+-- How a push moves the open run: one that ends is told whole, another grows by one at most. So what is told and what is open rise by three at most. Assumes
+-- nothing.
 use mathlib.Core.Path.{subst}
 use mathlib.Core.Bool.{Bool, true, false, cond}
 use mathlib.Core.List.{List}
@@ -11,11 +12,13 @@ use Rattle.rules.specs.Impulse.{Setting, width, lookahead, mendable}
 use Rattle.impulse.specs.declared.Run.{Run}
 use Rattle.impulse.specs.declared.Open.{Open}
 use Rattle.impulse.specs.declared.Open.the-variants.{Running, Closed}
+use Rattle.impulse.specs.declared.Mending.{Mending}
 use Rattle.impulse.specs.declared.Gate.{Gate}
 use Rattle.impulse.specs.declared.Answer.{Answer}
 use Rattle.impulse.specs.declared.Answer.the-variants.{Released, Nothing}
 use Rattle.impulse.specs.declared.ImpulseSuppressor.{ImpulseSuppressor}
-use Rattle.impulse.specs.Machine.{arrived, entered, grown, readRun, Ending, going, keptRun, mendedRun, closing, ending, Judgement, decided, judge, windowWith, sortedWith, pendingWith, verdict, push, flaggedBy}
+use Rattle.impulse.specs.Machine.{arrived, entered, grown, readRun, Ending, going, keptRun, mendedRun, closing, ending, Judgement, decided, judge, windowWith}
+use Rattle.impulse.specs.Machine.{sortedWith, pendingWith, verdict, push, flaggedBy}
 use Rattle.impulse.specs.View.{repairOf, endedOf, endingEvents, told, given}
 use Rattle.impulse.specs.Room.{runEnd}
 use Rattle.impulse.specs.laws.RoomLaws.{entered-keeps}
@@ -40,7 +43,9 @@ closing-moves : (s : Setting) (r : Run) (l : List ℕ) → Moves (Running r) (cl
 unfolding closing repairOf
 closing-moves s r l = go (mendable s (r .paused) (r .len))
   where
-    go : (b : Bool) → Moves (Running r) (cond b (mendedRun (r .start) (r .len) (readRun (lookahead s) l (r .start) (r .len))) (keptRun (r .start) (r .len) (ltb (s .run) (r .len)))) Closed
+    go : (b : Bool)
+        → Moves (Running r)
+        (cond b (mendedRun (r .start) (r .len) (readRun (lookahead s) l (r .start) (r .len))) (keptRun (r .start) (r .len) (ltb (s .run) (r .len)))) Closed
     go true = record { size = omega arith; last = omega arith }
     go false = record { size = omega arith; last = omega arith }
 
@@ -48,25 +53,29 @@ ending-moves : (s : Setting) (o : Open) (l : List ℕ) → Moves o (ending s o l
 ending-moves s Closed l = record { size = omega arith; last = omega arith }
 ending-moves s (Running r) l = closing-moves s r l
 
-judge-moves : (s : Setting) (g : Gate) (j : ℕ) (p : Float) (sorted : List Float) (l : List ℕ) → Moves (g .run) (judge s g j p sorted l .ended) (judge s g j p sorted l .gate .run)
+judge-moves : (s : Setting) (g : Gate) (j : ℕ) (p : Float) (sorted : List Float) (l : List ℕ)
+    → Moves (g .mending .run) (judge s g j p sorted l .ended) (judge s g j p sorted l .gate .mending .run)
 unfolding judge
 judge-moves s g j p sorted l =
-    subst (λ (o : Open). Moves o (judge s g j p sorted l .ended) (judge s g j p sorted l .gate .run)) (entered-keeps g j .run)
+    subst (λ (o : Mending). Moves (o .run) (judge s g j p sorted l .ended) (judge s g j p sorted l .gate .mending .run)) (entered-keeps g j .mending)
     (go (entered g j) (flaggedBy (width s) (s .trim) (entered g j .received) sorted p))
   where
-    go : (h : Gate) (b : Bool) → Moves (h .run) (decided s h j l b .ended) (decided s h j l b .gate .run)
-    go h true = grown-moves (h .run) j (h .paused)
-    go h false = ending-moves s (h .run) l
+    go : (h : Gate) (b : Bool) → Moves (h .mending .run) (decided s h j l b .ended) (decided s h j l b .gate .mending .run)
+    go h true = grown-moves (h .mending .run) j (h .block .paused)
+    go h false = ending-moves s (h .mending .run) l
 
-pub push-moves : (s : Setting) (m : ImpulseSuppressor) (x : ℕ) → Moves (m .gate .run) (push s m x .ended) (push s m x .state .gate .run)
+pub push-moves : (s : Setting) (m : ImpulseSuppressor) (x : ℕ) → Moves (m .gate .mending .run) (push s m x .ended) (push s m x .state .gate .mending .run)
 unfolding push verdict
 push-moves s m x =
     go (ltb (m .gate .received) (s .half))
-    (judge s (arrived (m .gate)) (m .gate .received - s .half) (getD (windowWith s m x) ((m .gate .received - s .half) % width s) nan) (sortedWith s m x) (pendingWith s m x))
-    (judge-moves s (arrived (m .gate)) (m .gate .received - s .half) (getD (windowWith s m x) ((m .gate .received - s .half) % width s) nan) (sortedWith s m x) (pendingWith s m x))
+    (judge s (arrived (m .gate)) (m .gate .received - s .half) (getD (windowWith s m x) ((m .gate .received - s .half) % width s) nan) (sortedWith s m x)
+    (pendingWith s m x))
+    (judge-moves s (arrived (m .gate)) (m .gate .received - s .half) (getD (windowWith s m x) ((m .gate .received - s .half) % width s) nan) (sortedWith s m x)
+    (pendingWith s m x))
   where
-    go : (b : Bool) (d : Judgement) → Moves (m .gate .run) (d .ended) (d .gate .run)
-        → let v = cond b (record { gate = arrived (m .gate); uncertain = false; ended = going; pending = pendingWith s m x }) d in Moves (m .gate .run) (v .ended) (v .gate .run)
+    go : (b : Bool) (d : Judgement) → Moves (m .gate .mending .run) (d .ended) (d .gate .mending .run)
+        → let v = cond b (record { gate = arrived (m .gate); uncertain = false; ended = going; pending = pendingWith s m x }) d in
+        Moves (m .gate .mending .run) (v .ended) (v .gate .mending .run)
     go true d q = record { size = omega arith; last = omega arith }
     go false d q = q
 
@@ -78,7 +87,8 @@ told-size j false going = omega arith
 told-size j false (keptRun a n long) = omega arith
 told-size j false (mendedRun a n os) = omega arith
 
-pub news-size : (s : Setting) (m : ImpulseSuppressor) (x : ℕ) → eventsSize (news s m x) + runLength (push s m x .state .gate .run) ≤ runLength (m .gate .run) + 3
+pub news-size : (s : Setting) (m : ImpulseSuppressor) (x : ℕ)
+    → eventsSize (news s m x) + runLength (push s m x .state .gate .mending .run) ≤ runLength (m .gate .mending .run) + 3
 news-size s m x = omega (arith, told-size (m .gate .received - s .half) (push s m x .uncertain) (push s m x .ended), push-moves s m x .size)
 
 -- ---- what a push hands on

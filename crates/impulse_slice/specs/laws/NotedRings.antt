@@ -1,4 +1,5 @@
--- What events come to, ring by ring: an impulse ring has the marks of its own, every other stands still; the repairs are recorded in order, and the long runs are counted. Assumes nothing.
+-- What events come to, ring by ring: an impulse ring has the marks of its own, every other stands still; the repairs are recorded in order, and the long runs
+-- are counted. Assumes nothing.
 use mathlib.Core.Path.{_≡_, refl, ap, sym, _∙_, subst}
 use mathlib.Core.List.{List, [], _∷_, foldl, foldl-append}
 use Prim.Native.Nat.{ℕ, _+_, _<_}
@@ -8,7 +9,8 @@ use lib.Dec.{lit<}
 use borrow.Author.Tests.{ne-eqb}
 use Rattle.rules.specs.Impulse.{Event, uncertain, kept, mended}
 use Rattle.rules.specs.Log as rules
-use Rattle.rules.specs.Log.{Span, Mark, ringNumber, impulse, Repaired, Flagged, Corrected, Uncertain, spanOf, mark, append, marksOf, marksOfEvent, repairsOf, longRuns, Sound}
+use Rattle.rules.specs.Log.{Span, Mark, ringNumber, impulse, Repaired, Flagged, Corrected, Uncertain, spanOf, mark, append, marksOf, marksOfEvent, repairsOf}
+use Rattle.rules.specs.Log.{longRuns, Sound}
 use Rattle.rules.specs.laws.MarkLaws.{mark-sound}
 use Rattle.log.specs.View.{Logged, marksAt, markedAt}
 use Rattle.log.specs.laws.LogLaws.{marked-twelve, marked-same, marked-other}
@@ -55,19 +57,25 @@ module _ (spanCapacity repairCapacity : ℕ) where
   event-rings : (x : Noted) (e : Event) → Rings spanCapacity (x .logged) → Rings spanCapacity (noteEvent spanCapacity repairCapacity x e .logged)
   event-rings x e r = rw (event-logged x e) (marked-rings spanCapacity (x .logged) (ringOf e) (spanIn e) r (let f = few e in omega arith))
 
-  event-same : (x : Noted) (e : Event) → Rings spanCapacity (x .logged) → marksAt spanCapacity (noteEvent spanCapacity repairCapacity x e .logged) (ringOf e) ≡ mark spanCapacity (marksAt spanCapacity (x .logged) (ringOf e)) (spanIn e)
+  event-same : (x : Noted) (e : Event) → Rings spanCapacity (x .logged)
+      → marksAt spanCapacity (noteEvent spanCapacity repairCapacity x e .logged) (ringOf e)
+      ≡ mark spanCapacity (marksAt spanCapacity (x .logged) (ringOf e)) (spanIn e)
   event-same x e r =
       let h : ringOf e < 12 = (let f = few e in omega arith) in
-      ap (λ (y : Logged). marksAt spanCapacity y (ringOf e)) (event-logged x e) ∙ marked-same spanCapacity (x .logged) (ringOf e) (spanIn e) (r .twelve) (r .sound (ringOf e) h) h
+      ap (λ (y : Logged). marksAt spanCapacity y (ringOf e)) (event-logged x e)
+      ∙ marked-same spanCapacity (x .logged) (ringOf e) (spanIn e) (r .twelve) (r .sound (ringOf e) h) h
 
-  event-other : (x : Noted) (e : Event) (k : ℕ) → Rings spanCapacity (x .logged) → (k ≡ ringOf e → ⊥) → marksAt spanCapacity (noteEvent spanCapacity repairCapacity x e .logged) k ≡ marksAt spanCapacity (x .logged) k
+  event-other : (x : Noted) (e : Event) (k : ℕ) → Rings spanCapacity (x .logged) → (k ≡ ringOf e → ⊥)
+      → marksAt spanCapacity (noteEvent spanCapacity repairCapacity x e .logged) k ≡ marksAt spanCapacity (x .logged) k
   event-other x e k r d =
       let h : ringOf e < 12 = (let f = few e in omega arith) in
-      ap (λ (y : Logged). marksAt spanCapacity y k) (event-logged x e) ∙ marked-other spanCapacity (x .logged) (ringOf e) (spanIn e) (r .twelve) (r .sound (ringOf e) h) h k d
+      ap (λ (y : Logged). marksAt spanCapacity y k) (event-logged x e)
+      ∙ marked-other spanCapacity (x .logged) (ringOf e) (spanIn e) (r .twelve) (r .sound (ringOf e) h) h k d
 
   -- an impulse ring
   event-marks : (x : Noted) (m : Mark) (e : Event) → Rings spanCapacity (x .logged)
-      → marksAt spanCapacity (noteEvent spanCapacity repairCapacity x e .logged) (ringNumber impulse m) ≡ foldl (mark spanCapacity) (marksAt spanCapacity (x .logged) (ringNumber impulse m)) (marksOfEvent m e)
+      → marksAt spanCapacity (noteEvent spanCapacity repairCapacity x e .logged) (ringNumber impulse m)
+      ≡ foldl (mark spanCapacity) (marksAt spanCapacity (x .logged) (ringNumber impulse m)) (marksOfEvent m e)
   event-marks x Repaired (mended a n os) r = event-same x (mended a n os) r
   event-marks x Repaired (kept a n long) r = event-other x (kept a n long) 0 r (λ q. omega arith)
   event-marks x Repaired (uncertain j) r = event-other x (uncertain j) 0 r (λ q. omega arith)
@@ -89,7 +97,8 @@ module _ (spanCapacity repairCapacity : ℕ) where
   noted-rings x (e ∷ es) r = noted-rings (noteEvent spanCapacity repairCapacity x e) es (event-rings x e r)
 
   pub noted-marks : (x : Noted) (m : Mark) (es : List Event) → Rings spanCapacity (x .logged)
-      → marksAt spanCapacity (noteAll spanCapacity repairCapacity x es .logged) (ringNumber impulse m) ≡ foldl (mark spanCapacity) (marksAt spanCapacity (x .logged) (ringNumber impulse m)) (marksOf m es)
+      → marksAt spanCapacity (noteAll spanCapacity repairCapacity x es .logged) (ringNumber impulse m)
+      ≡ foldl (mark spanCapacity) (marksAt spanCapacity (x .logged) (ringNumber impulse m)) (marksOf m es)
   unfolding noteAll marksOf
   noted-marks x m [] r = refl
   noted-marks x m (e ∷ es) r =
@@ -98,17 +107,21 @@ module _ (spanCapacity repairCapacity : ℕ) where
       ∙ sym (foldl-append (mark spanCapacity) (marksAt spanCapacity (x .logged) (ringNumber impulse m)) (marksOfEvent m e) (marksOf m es))
 
   -- a ring that no event goes to
-  noted-still : (x : Noted) (k : ℕ) (es : List Event) → ((e : Event) → k ≡ ringOf e → ⊥) → Rings spanCapacity (x .logged) → marksAt spanCapacity (noteAll spanCapacity repairCapacity x es .logged) k ≡ marksAt spanCapacity (x .logged) k
+  noted-still : (x : Noted) (k : ℕ) (es : List Event) → ((e : Event) → k ≡ ringOf e → ⊥) → Rings spanCapacity (x .logged)
+      → marksAt spanCapacity (noteAll spanCapacity repairCapacity x es .logged) k ≡ marksAt spanCapacity (x .logged) k
   unfolding noteAll
   noted-still x k [] d r = refl
   noted-still x k (e ∷ es) d r = noted-still (noteEvent spanCapacity repairCapacity x e) k es d (event-rings x e r) ∙ event-other x e k r (d e)
 
   -- any ring, by its number
-  pub noted-at : (x : Noted) (k : ℕ) (es : List Event) → Rings spanCapacity (x .logged) → marksAt spanCapacity (noteAll spanCapacity repairCapacity x es .logged) k ≡ foldl (mark spanCapacity) (marksAt spanCapacity (x .logged) k) (marksFor k es)
+  pub noted-at : (x : Noted) (k : ℕ) (es : List Event) → Rings spanCapacity (x .logged)
+      → marksAt spanCapacity (noteAll spanCapacity repairCapacity x es .logged) k
+      ≡ foldl (mark spanCapacity) (marksAt spanCapacity (x .logged) k) (marksFor k es)
   noted-at x k es r = go (ℕ-discrete k 0) (ℕ-discrete k 1) (ℕ-discrete k 3)
     where
       At : ℕ → Type 0
-      At i = marksAt spanCapacity (noteAll spanCapacity repairCapacity x es .logged) i ≡ foldl (mark spanCapacity) (marksAt spanCapacity (x .logged) i) (marksFor i es)
+      At i = marksAt spanCapacity (noteAll spanCapacity repairCapacity x es .logged) i
+          ≡ foldl (mark spanCapacity) (marksAt spanCapacity (x .logged) i) (marksFor i es)
 
       none : (k ≡ 0 → ⊥) → (k ≡ 1 → ⊥) → (k ≡ 3 → ⊥) → (e : Event) → k ≡ ringOf e → ⊥
       none a b c (mended i n os) q = a q
@@ -121,7 +134,8 @@ module _ (spanCapacity repairCapacity : ℕ) where
       go (no a) (no b) (yes e) = subst At (sym e) (noted-marks x Uncertain es r)
       go (no a) (no b) (no c) = simp (ne-eqb k 0 a, ne-eqb k 1 b, ne-eqb k 3 c) (noted-still x k es (none a b c) r)
 
-  pub noted-repairs : (x : Noted) (es : List Event) → noteAll spanCapacity repairCapacity x es .repairs ≡ foldl (append repairCapacity) (x .repairs) (repairsOf es)
+  pub noted-repairs : (x : Noted) (es : List Event)
+      → noteAll spanCapacity repairCapacity x es .repairs ≡ foldl (append repairCapacity) (x .repairs) (repairsOf es)
   unfolding noteAll repairsOf
   noted-repairs x [] = refl
   noted-repairs x (uncertain j ∷ es) = noted-repairs (noteEvent spanCapacity repairCapacity x (uncertain j)) es

@@ -8,7 +8,7 @@ use lib.Dec.{lit<}
 use Rattle.rules.specs.Lists.{indicator}
 use Rattle.rules.specs.Impulse.{Event, uncertain, kept, mended}
 use Rattle.rules.specs.Log as rules
-use Rattle.rules.specs.Log.{ringNumber, impulse, Repaired, Flagged, Uncertain, spanOf, append, repairWords}
+use Rattle.rules.specs.Log.{ringNumber, impulse, Repaired, Flagged, Uncertain, spanOf, append, repairWords, repairWidth}
 use Rattle.rules.specs.laws.RingLaws.{append-sound, append-drops}
 use Rattle.log.specs.View.{Logged, markedAt}
 use Rattle.log.specs.laws.CheckLaws.{marked-bounded}
@@ -25,20 +25,29 @@ module _ (spanCapacity repairCapacity : ℕ) where
   unfolding noteAll
   note-none x = refl
 
-  pub note-append : (x : Noted) (es fs : List Event) → noteAll spanCapacity repairCapacity x (es ++ fs) ≡ noteAll spanCapacity repairCapacity (noteAll spanCapacity repairCapacity x es) fs
+  pub note-append : (x : Noted) (es fs : List Event)
+      → noteAll spanCapacity repairCapacity x (es ++ fs) ≡ noteAll spanCapacity repairCapacity (noteAll spanCapacity repairCapacity x es) fs
   unfolding noteAll
   note-append x es fs = foldl-append (noteEvent spanCapacity repairCapacity) x es fs
 
   -- a repair's words have four originals, whether the event has them all or the run's alone
-  pub filled-same : (x : Noted) (e : Ending) → noteAll spanCapacity repairCapacity x (filledEvents (endedOf e)) ≡ noteAll spanCapacity repairCapacity x (endingEvents e)
+  pub filled-same : (x : Noted) (e : Ending)
+      → noteAll spanCapacity repairCapacity x (filledEvents (endedOf e)) ≡ noteAll spanCapacity repairCapacity x (endingEvents e)
   unfolding noteAll repairOf
   filled-same x going = refl
   filled-same x (keptRun a n long) = refl
   filled-same x (mendedRun a n os) =
       let w = repair-words a n os in
-      λ i. record { logged = markedAt spanCapacity (x .logged) (ringNumber impulse Repaired) (spanOf a n); repairs = append repairCapacity (x .repairs) (w i); longruns = x .longruns }
+      λ i. record {
+        logged = markedAt spanCapacity (x .logged) (ringNumber impulse Repaired) (spanOf a n);
+        repairs =
+            append repairCapacity (x .repairs) (w i);
+        longruns = x .longruns;
+      }
 
-  pub said-same : (x : Noted) (j : ℕ) (doubt : Bool) (e : Ending) → noteAll spanCapacity repairCapacity x (doubts j doubt ++ filledEvents (endedOf e)) ≡ noteAll spanCapacity repairCapacity x (doubts j doubt ++ endingEvents e)
+  pub said-same : (x : Noted) (j : ℕ) (doubt : Bool) (e : Ending)
+      → noteAll spanCapacity repairCapacity x (doubts j doubt ++ filledEvents (endedOf e))
+      ≡ noteAll spanCapacity repairCapacity x (doubts j doubt ++ endingEvents e)
   said-same x j doubt e =
       note-append x (doubts j doubt) (filledEvents (endedOf e))
       ∙ filled-same (noteAll spanCapacity repairCapacity x (doubts j doubt)) e
@@ -69,10 +78,13 @@ one-most true = omega arith
 one-most false = omega arith
 
 module _ (spanCapacity repairCapacity : ℕ) where
-  marked-up : (b k : ℕ) (x : Logged) (s : rules.Span) → k < 12 → Bounded spanCapacity b x → Bounded spanCapacity (b + (s .len + 1)) (markedAt spanCapacity x k s)
-  marked-up b k x s h d = bounded-up spanCapacity (b + 1 + s .len) (b + (s .len + 1)) (markedAt spanCapacity x k s) (omega arith) (marked-bounded spanCapacity b x k s d h)
+  marked-up : (b k : ℕ) (x : Logged) (s : rules.Span) → k < 12 → Bounded spanCapacity b x
+      → Bounded spanCapacity (b + (s .len + 1)) (markedAt spanCapacity x k s)
+  marked-up b k x s h d =
+      bounded-up spanCapacity (b + 1 + s .len) (b + (s .len + 1)) (markedAt spanCapacity x k s) (omega arith) (marked-bounded spanCapacity b x k s d h)
 
-  pub roomy-event : (b : ℕ) (x : Noted) (e : Event) → Roomy spanCapacity repairCapacity b x → Roomy spanCapacity repairCapacity (b + eventSize e) (noteEvent spanCapacity repairCapacity x e)
+  pub roomy-event : (b : ℕ) (x : Noted) (e : Event) → Roomy spanCapacity repairCapacity b x
+      → Roomy spanCapacity repairCapacity (b + eventSize e) (noteEvent spanCapacity repairCapacity x e)
   roomy-event b x (uncertain j) r =
       record {
         spans = marked-up b (ringNumber impulse Uncertain) (x .logged) (spanOf j 1) (lit< tt) (r .spans);
@@ -90,14 +102,16 @@ module _ (spanCapacity repairCapacity : ℕ) where
   roomy-event b x (mended a n os) r =
       record {
         spans = marked-up b (ringNumber impulse Repaired) (x .logged) (spanOf a n) (lit< tt) (r .spans);
-        repairs = append-sound 6 repairCapacity (x .repairs) (repairWords a n os) (r .repairs);
-        dropped = omega (arith, r .dropped, append-drops 6 repairCapacity (x .repairs) (repairWords a n os) (r .repairs));
+        repairs = append-sound repairWidth repairCapacity (x .repairs) (repairWords a n os) (r .repairs);
+        dropped = omega (arith, r .dropped, append-drops repairWidth repairCapacity (x .repairs) (repairWords a n os) (r .repairs));
         longruns = omega (arith, r .longruns);
       }
 
-  pub roomy-all : (b : ℕ) (x : Noted) (es : List Event) → Roomy spanCapacity repairCapacity b x → Roomy spanCapacity repairCapacity (b + eventsSize es) (noteAll spanCapacity repairCapacity x es)
+  pub roomy-all : (b : ℕ) (x : Noted) (es : List Event) → Roomy spanCapacity repairCapacity b x
+      → Roomy spanCapacity repairCapacity (b + eventsSize es) (noteAll spanCapacity repairCapacity x es)
   unfolding noteAll
   roomy-all b x [] r = roomy-up spanCapacity repairCapacity b (b + 0) x (omega arith) r
   roomy-all b x (e ∷ es) r =
-      roomy-up spanCapacity repairCapacity (b + eventSize e + eventsSize es) (b + (eventSize e + eventsSize es)) (noteAll spanCapacity repairCapacity (noteEvent spanCapacity repairCapacity x e) es) (omega arith)
+      roomy-up spanCapacity repairCapacity (b + eventSize e + eventsSize es) (b + (eventSize e + eventsSize es))
+      (noteAll spanCapacity repairCapacity (noteEvent spanCapacity repairCapacity x e) es) (omega arith)
       (roomy-all (b + eventSize e) (noteEvent spanCapacity repairCapacity x e) es (roomy-event b x e r))

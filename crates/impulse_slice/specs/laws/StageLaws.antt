@@ -31,7 +31,8 @@ sorted-step : (s : Setting) (m : ImpulseSuppressor) (x : ℕ) → 0 < width s �
 unfolding push
 sorted-step s m x z h = ordered-length (width s) (m .gate .received) (getD (m .window) (m .gate .received % width s) nan) (powerOf x) (m .sorted) z h
 
-pub sorted-after : (s : Setting) (m : ImpulseSuppressor) (xs : List ℕ) → 0 < width s → length (m .sorted) ≡ width s → length (stateAfter s m xs .sorted) ≡ width s
+pub sorted-after : (s : Setting) (m : ImpulseSuppressor) (xs : List ℕ) → 0 < width s → length (m .sorted) ≡ width s
+    → length (stateAfter s m xs .sorted) ≡ width s
 sorted-after s m [] z h = h
 sorted-after s m (x ∷ xs) z h = sorted-after s (step s m x) xs z (sorted-step s m x z h)
 
@@ -48,7 +49,8 @@ size-append : (es fs : List Event) → eventsSize (es ++ fs) ≡ eventsSize es +
 size-append [] fs = omega arith
 size-append (e ∷ es) fs = omega (arith, size-append es fs)
 
-pub told-size : (s : Setting) (m : ImpulseSuppressor) (xs : List ℕ) → eventsSize (told s m xs) + runLength (stateAfter s m xs .gate .run) ≤ runLength (m .gate .run) + 3 * length xs
+pub told-size : (s : Setting) (m : ImpulseSuppressor) (xs : List ℕ)
+    → eventsSize (told s m xs) + runLength (stateAfter s m xs .gate .mending .run) ≤ runLength (m .gate .mending .run) + 3 * length xs
 told-size s m [] = omega arith
 told-size s m (x ∷ xs) = omega (arith, size-append (news s m x) (told s (step s m x) xs), news-size s m x, told-size s (step s m x) xs)
 
@@ -57,22 +59,27 @@ run-short Closed n h = omega arith
 run-short (Running r) n h = omega arith
 
 -- a state with room, counters that are in range, and so many samples: the notes have room for as many again
-pub roomy-after : (spanCapacity repairCapacity : ℕ) (n : Noted) (s : Setting) (m : ImpulseSuppressor) (xs : List ℕ) → (0 < length xs → Room (m .gate) × (m .gate .received + length xs ≤ 2 ^ 50))
+pub roomy-after : (spanCapacity repairCapacity : ℕ) (n : Noted) (s : Setting) (m : ImpulseSuppressor) (xs : List ℕ)
+    → (0 < length xs → Room (m .gate) × (m .gate .received + length xs ≤ 2 ^ 50))
     → Roomy spanCapacity repairCapacity (2 ^ 52) n → Roomy spanCapacity repairCapacity (2 ^ 53) (noteAll spanCapacity repairCapacity n (told s m xs))
-roomy-after spanCapacity repairCapacity n s m [] h r = subst (λ (x : Noted). Roomy spanCapacity repairCapacity (2 ^ 53) x) (sym (note-none spanCapacity repairCapacity n)) (roomy-up spanCapacity repairCapacity (2 ^ 52) (2 ^ 53) n (omega arith) r)
+roomy-after spanCapacity repairCapacity n s m [] h r =
+    subst (λ (x : Noted). Roomy spanCapacity repairCapacity (2 ^ 53) x) (sym (note-none spanCapacity repairCapacity n))
+    (roomy-up spanCapacity repairCapacity (2 ^ 52) (2 ^ 53) n (omega arith) r)
 roomy-after spanCapacity repairCapacity n s m (x ∷ xs) h r =
     let some : 0 < length (x ∷ xs) = omega arith in
     let k = h some .1 in
     let b = h some .0 .behind in
-    let e = run-short (m .gate .run) (m .gate .received) b in
+    let e = run-short (m .gate .mending .run) (m .gate .received) b in
     let t = told-size s m (x ∷ xs) in
-    roomy-up spanCapacity repairCapacity (2 ^ 52 + eventsSize (told s m (x ∷ xs))) (2 ^ 53) (noteAll spanCapacity repairCapacity n (told s m (x ∷ xs))) (omega (arith, k, e, t))
+    roomy-up spanCapacity repairCapacity (2 ^ 52 + eventsSize (told s m (x ∷ xs))) (2 ^ 53) (noteAll spanCapacity repairCapacity n (told s m (x ∷ xs)))
+    (omega (arith, k, e, t))
     (roomy-all spanCapacity repairCapacity (2 ^ 52) n (told s m (x ∷ xs)) r)
 
 -- the same, of the samples behind the first `held`
 pub roomy-run : (spanCapacity repairCapacity : ℕ) (n : Noted) (s : Setting) (m : ImpulseSuppressor) (held : ℕ) (xs : List ℕ)
     → (held < length xs → Room (m .gate) × (m .gate .received + (length xs - held) ≤ 2 ^ 50))
-    → Roomy spanCapacity repairCapacity (2 ^ 52) n → Roomy spanCapacity repairCapacity (2 ^ 53) (noteAll spanCapacity repairCapacity n (told s m (drop held xs)))
+    → Roomy spanCapacity repairCapacity (2 ^ 52) n
+    → Roomy spanCapacity repairCapacity (2 ^ 53) (noteAll spanCapacity repairCapacity n (told s m (drop held xs)))
 roomy-run spanCapacity repairCapacity n s m held xs may r =
     let l = length-drop held xs in
     roomy-after spanCapacity repairCapacity n s m (drop held xs)

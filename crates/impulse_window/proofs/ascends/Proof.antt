@@ -1,6 +1,6 @@
 -- `impulse_window::ascends` meets its contract: the powers passed ascend. Assumes nothing.
 use mathlib.Core.Path.{_≡_, sym, _∙_}
-use Prim.Native.Nat.{suc, _-_, _≤_}
+use Prim.Native.Nat.{suc, _-_, _<_}
 use native.Mathlib.Omega.{arith}
 use lib.Ieee.{nan, le, ofBits}
 use lib.ListN.{take}
@@ -8,6 +8,7 @@ use lib.Seq.{take-all}
 use borrow.Author.Needs.{needs}
 use Rattle.rules.specs.Constants.{zeroF}
 use Rattle.rules.specs.Lists.{All}
+use Rattle.rules.specs.Impulse.{windowSize}
 use Rattle.impulse_window.specs.Rising.{climbs, Held}
 use Rattle.impulse_window.proofs.Blends.{climbs-one, held-more, further}
 use Rattle.impulse_window.proofs.ascends.Statement.{statement}
@@ -15,10 +16,10 @@ use Rattle.impulse_window.proofs.ascends.Tie as tie
 
 abbrev Inv-loop : tie.InvT-loop
 Inv-loop sorted rising₀ k₀ rising k =
-    (k ≤ 32) × (rising ≡ climbs le zeroF (take (suc k) sorted)) × All Held (take (suc k) sorted)
+    (k < windowSize) × (rising ≡ climbs le zeroF (take (suc k) sorted)) × All Held (take (suc k) sorted)
 
 abbrev μ-loop : tie.MeasureT-loop
-μ-loop sorted rising₀ k₀ rising k = 32 - k
+μ-loop sorted rising₀ k₀ rising k = windowSize - k
 
 element-copy-out-at-most : tie.Need-element-copy-out-at-most Inv-loop μ-loop
 element-copy-out-at-most c = omega arith
@@ -32,9 +33,6 @@ loop-holds c =
     let l = c .before .before .args .sorted .now in
     let e = c .at-most .ensures in
     (omega arith, e .0 ∙ sym (climbs-one le zeroF l nan (omega arith)), held-more l 0 nan (omega arith) tt (e .1 .1))
-
-sub-loop : tie.Need-sub-loop Inv-loop μ-loop
-sub-loop c = omega arith
 
 mul-at-most : tie.Need-mul-at-most Inv-loop μ-loop
 mul-at-most c = omega arith
@@ -84,7 +82,6 @@ ascends-spec =
     element-copy-out-at-most
     at-most-requires
     loop-holds
-    sub-loop
     mul-at-most
     element-copy-out-at-most-2
     add-at-most

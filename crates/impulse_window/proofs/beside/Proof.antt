@@ -28,7 +28,8 @@ element-copy-out-result-2 : tie.Need-element-copy-out-result-2
 element-copy-out-result-2 c = search needs
 
 returns-2 : tie.Need-returns-2
-returns-2 c = let a = c .before .before .args in ap (λ (i : ℕ). getD (a .sorted .now) i nan) (add-one (a .k)) ∙ sym (without-behind (a .sorted .now) (a .gap) (a .k) nan (search needs))
+returns-2 c = let a = c .before .before .args in
+    ap (λ (i : ℕ). getD (a .sorted .now) i nan) (add-one (a .k)) ∙ sym (without-behind (a .sorted .now) (a .gap) (a .k) nan (search needs))
 
 pub beside-spec : {M : Type 1} → statement M
 beside-spec =

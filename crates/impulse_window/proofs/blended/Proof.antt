@@ -2,19 +2,21 @@
 use mathlib.Core.Path.{_≡_, refl, sym, ap, _∙_}
 use mathlib.Core.Bool.{cond}
 use mathlib.Core.List.{List, [], _∷_}
-use Prim.Native.Nat.{ℕ, suc, _+_, _-_, _≤_, _<_}
+use Prim.Native.Nat.{ℕ, suc, _+_, _-_, _<_}
 use native.Mathlib.Omega.{arith}
 use lib.Ieee.{Float, nan, lt}
 use lib.ListN.{length, getD, set, take, length-set}
 use lib.Seq.{take-all}
 use borrow.Author.Needs.{needs}
+use Rattle.rules.specs.Impulse.{windowSize}
 use Rattle.impulse_window.specs.Rising.{least, most, moved, blended}
 use Rattle.impulse_window.proofs.Blends.{blended-length, blended-first, blended-at, blended-last, filled}
 use Rattle.impulse_window.proofs.blended.Statement.{statement}
 use Rattle.impulse_window.proofs.blended.Tie as tie
 
 -- the next place
-next : (old p : Float) (l out : List Float) (k : ℕ) (v : Float) → k < 31 → (length l ≡ 33) × (length out ≡ 33) → take (suc k) out ≡ take (suc k) (blended old p l)
+next : (old p : Float) (l out : List Float) (k : ℕ) (v : Float) → k + 2 < windowSize → (length l ≡ windowSize) × (length out ≡ windowSize)
+    → take (suc k) out ≡ take (suc k) (blended old p l)
     → v ≡ least (moved old (getD l (k + 1) nan) (getD l (k + 2) nan)) (most (moved old (getD l k nan) (getD l (k + 1) nan)) p)
     → take (suc (k + 1)) (set out (k + 1) v) ≡ take (suc (k + 1)) (blended old p l)
 next old p l out k v h n e f =
@@ -25,21 +27,22 @@ next old p l out k v h n e f =
     rw one (filled out (blended old p l) (suc k) v nan (omega arith) (omega arith) e (w ∙ sym (blended-at old p l k nan (omega arith))))
 
 -- the last place
-whole : (old p : Float) (l out : List Float) (v : Float) → length l ≡ 33 → length out ≡ 33 → take 32 out ≡ take 32 (blended old p l)
-    → v ≡ most (moved old (getD l 31 nan) (getD l 32 nan)) p → set out 32 v ≡ blended old p l
+whole : (old p : Float) (l out : List Float) (v : Float) → length l ≡ windowSize → length out ≡ windowSize
+    → take (windowSize - 1) out ≡ take (windowSize - 1) (blended old p l)
+    → v ≡ most (moved old (getD l (windowSize - 2) nan) (getD l (windowSize - 1) nan)) p → set out (windowSize - 1) v ≡ blended old p l
 whole old p l out v n m e f =
     let g = blended-length old p l in
-    let s = length-set out 32 v in
-    sym (take-all 33 (set out 32 v) (omega arith))
-    ∙ filled out (blended old p l) 32 v nan (omega arith) (omega arith) e (f ∙ sym (blended-last old p l 31 nan n))
-    ∙ take-all 33 (blended old p l) (omega arith)
+    let s = length-set out (windowSize - 1) v in
+    sym (take-all windowSize (set out (windowSize - 1) v) (omega arith))
+    ∙ filled out (blended old p l) (windowSize - 1) v nan (omega arith) (omega arith) e (f ∙ sym (blended-last old p l (windowSize - 2) nan n))
+    ∙ take-all windowSize (blended old p l) (omega arith)
 
 abbrev Inv-loop : tie.InvT-loop
 Inv-loop sorted old p out₀ k₀ out k =
-    (k ≤ 31) × (length out ≡ 33) × (take (suc k) out ≡ take (suc k) (blended old p sorted))
+    (k + 1 < windowSize) × (length out ≡ windowSize) × (take (suc k) out ≡ take (suc k) (blended old p sorted))
 
 abbrev μ-loop : tie.MeasureT-loop
-μ-loop sorted old p out₀ k₀ out k = 31 - k
+μ-loop sorted old p out₀ k₀ out k = windowSize - k
 
 element-copy-out-moved : tie.Need-element-copy-out-moved Inv-loop μ-loop
 element-copy-out-moved c = omega arith
@@ -61,11 +64,9 @@ loop-holds c =
     let a = c .before .before .before .before .args in
     let m = blended (a .old) (a .p) (a .sorted .now) in
     let n = blended-length (a .old) (a .p) (a .sorted .now) in
-    let first = c .least .ensures ∙ ap (λ (x : Float). cond (lt x (a .p)) x (a .p)) (c .before .moved .ensures) ∙ sym (blended-first (a .old) (a .p) (a .sorted .now) nan (omega arith)) in
+    let first = c .least .ensures ∙ ap (λ (x : Float). cond (lt x (a .p)) x (a .p)) (c .before .moved .ensures)
+    ∙ sym (blended-first (a .old) (a .p) (a .sorted .now) nan (omega arith)) in
     (omega arith, refl, filled (c .least .result ∷ []) m 0 (c .least .result) nan (omega arith) (omega arith) refl first)
-
-sub-loop : tie.Need-sub-loop Inv-loop μ-loop
-sub-loop c = omega arith
 
 mul-between : tie.Need-mul-between Inv-loop μ-loop
 mul-between c = omega arith
@@ -116,8 +117,11 @@ loop-again c =
     let m = blended (a .old) (a .p) (a .sorted .now) in
     let n = blended-length (a .old) (a .p) (a .sorted .now) in
     let s = length-set (i .out) (i .k + 1) (c .between .result) in
-    let t = i .inv .1 in
-    (omega arith, omega arith, next (a .old) (a .p) (a .sorted .now) (i .out) (i .k) (c .between .result) (omega arith) (omega arith) (i .inv .2) (c .between .ensures))
+    let t = i .inv .1 in (
+      omega arith,
+      omega arith,
+      next (a .old) (a .p) (a .sorted .now) (i .out) (i .k) (c .between .result) (omega arith) (omega arith) (i .inv .2) (c .between .ensures),
+    )
 
 element-copy-out-moved-3 : tie.Need-element-copy-out-moved-3 Inv-loop μ-loop
 element-copy-out-moved-3 c = omega arith
@@ -138,7 +142,7 @@ returns : tie.Need-returns Inv-loop μ-loop
 returns c =
     let a = c .before .before .before .before .before .before .before .before .before .before .args in
     let i = c .before .before .before .before .before .loop in
-    let e : i .k ≡ 31 = omega arith in
+    let e : i .k ≡ windowSize - 2 = omega arith in
     let v = c .most .ensures ∙ ap (λ (x : Float). cond (lt x (a .p)) (a .p) x) (c .before .moved2 .ensures) in
     whole (a .old) (a .p) (a .sorted .now) (i .out) (c .most .result) (search needs) (i .inv .1) (rw e at (i .inv .2)) v
 
@@ -154,7 +158,6 @@ blended-spec =
     least-requires
     array-write-out
     loop-holds
-    sub-loop
     mul-between
     element-copy-out-between
     add-between

@@ -13,7 +13,8 @@ rank-requires : tie.Need-rank-requires
 rank-requires c κs = search needs
 
 put-requires : tie.Need-put-requires
-put-requires c κs = let a = c .before .before .before .args in (search needs, omega (arith, c .before .rank .ensures, rank-take lt (a .p) (a .i) (without (a .sorted .now) (a .i))), search needs)
+put-requires c κs = let a = c .before .before .before .args in
+    (search needs, omega (arith, c .before .rank .ensures, rank-take lt (a .p) (a .i) (without (a .sorted .now) (a .i))), search needs)
 
 returns : tie.Need-returns
 returns c =

@@ -36,7 +36,8 @@ returns-3 c =
     let a = c .before .before .before .before .args in
     let k : suc (a .k - 1) ≡ a .k = omega arith in
     λ e. subst (λ (n : ℕ). standsOut (mean (take n (a .sorted .now))) (a .p) ≡ false) k
-    (quiet (a .sorted .now) (a .k - 1) (a .p) (c .before .before .before .before .pre .1 (not-false (a .rising) (c .before .before .before .if1 .left))) (omega arith) (omega arith)
+    (quiet (a .sorted .now) (a .k - 1) (a .p) (c .before .before .before .before .pre .1 (not-false (a .rising) (c .before .before .before .if1 .left)))
+    (omega arith) (omega arith)
     (c .is-near .ensures .1) (sym (c .is-near .ensures .0) ∙ e))
 
 pub is-quiet-spec : {M : Type 1} → statement M

@@ -7,6 +7,7 @@ use native.Mathlib.Numerals.{add-one}
 use lib.Ieee.{Float, nan}
 use lib.ListN.{length, getD, set, length-set}
 use borrow.Author.Needs.{needs}
+use Rattle.rules.specs.Impulse.{windowSize}
 use Rattle.impulse_window.specs.Ordering.{without, putIn}
 use Rattle.impulse_window.proofs.Places.{gap-up, gap-filled}
 use Rattle.impulse_window.proofs.lower.Statement.{statement}
@@ -17,7 +18,7 @@ up l l₀ gap k h e = rw add-one (gap-up l k nan h ∙ e)
 
 abbrev Inv-loop : tie.InvT-loop
 Inv-loop sorted₀ gap at p k₀ sorted k =
-    (gap ≤ k) × (k ≤ at) × (length sorted ≡ 33) × (without sorted k ≡ without sorted₀ gap)
+    (gap ≤ k) × (k ≤ at) × (length sorted ≡ windowSize) × (without sorted k ≡ without sorted₀ gap)
 
 abbrev μ-loop : tie.MeasureT-loop
 μ-loop sorted₀ gap at p k₀ sorted k = at - k

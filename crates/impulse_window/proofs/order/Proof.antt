@@ -5,6 +5,7 @@ use lib.Dec.{T}
 use lib.Ieee.{ofBits}
 use borrow.Author.Tests.{lt-ltb, le-ltb}
 use borrow.Author.Needs.{needs}
+use Rattle.rules.specs.Impulse.{windowSize}
 use Rattle.impulse_window.specs.Ordered.{ordered}
 use Rattle.impulse_window.proofs.Blends.{rises}
 use Rattle.impulse_window.proofs.order.Statement.{statement}
@@ -17,7 +18,7 @@ returns : tie.Need-returns
 unfolding ordered
 returns c =
     let a = c .before .before .before .args in
-    (rw (lt-ltb (a .i) 33 (c .before .before .if1 .taken)) (c .grow .ensures), λ e. absurd (subst T (sym e) tt))
+    (rw (lt-ltb (a .i) windowSize (c .before .before .if1 .taken)) (c .grow .ensures), λ e. absurd (subst T (sym e) tt))
 
 ascends-requires : tie.Need-ascends-requires
 ascends-requires c κs = search needs
@@ -36,7 +37,7 @@ unfolding ordered ofBits
 returns-2 c =
     let a = c .before .before .before .before .before .before .before .args in
     let r = c .before .replace .ensures in
-    (rw (le-ltb (a .i) 33 (c .before .before .before .before .before .before .if1 .left)) (r .0), λ e. r .1 (sym (c .at-most .ensures .0) ∙ e))
+    (rw (le-ltb (a .i) windowSize (c .before .before .before .before .before .before .if1 .left)) (r .0), λ e. r .1 (sym (c .at-most .ensures .0) ∙ e))
 
 exchange-requires : tie.Need-exchange-requires
 exchange-requires c κs = search needs
@@ -45,7 +46,7 @@ returns-3 : tie.Need-returns-3
 unfolding ordered
 returns-3 c =
     let a = c .before .before .before .before .before .before .args in
-    (rw (le-ltb (a .i) 33 (c .before .before .before .before .before .if1 .left)) (c .exchange .ensures), λ e. absurd (subst T (sym e) tt))
+    (rw (le-ltb (a .i) windowSize (c .before .before .before .before .before .if1 .left)) (c .exchange .ensures), λ e. absurd (subst T (sym e) tt))
 
 pub order-spec : {M : Type 1} → statement M
 order-spec =

@@ -6,6 +6,7 @@ use native.Mathlib.Omega.{arith}
 use lib.Ieee.{Float, nan}
 use lib.ListN.{length, getD, set, length-set}
 use borrow.Author.Needs.{needs}
+use Rattle.rules.specs.Impulse.{windowSize}
 use Rattle.impulse_window.specs.Ordering.{without, putIn}
 use Rattle.impulse_window.proofs.Places.{gap-down, gap-filled}
 use Rattle.impulse_window.proofs.raise.Statement.{statement}
@@ -17,7 +18,7 @@ down l l₀ gap (suc k) z h e = let d : suc k - 1 ≡ k = omega arith in rw d (g
 
 abbrev Inv-loop : tie.InvT-loop
 Inv-loop sorted₀ gap at p k₀ sorted k =
-    (at ≤ k) × (k ≤ gap) × (length sorted ≡ 33) × (without sorted k ≡ without sorted₀ gap)
+    (at ≤ k) × (k ≤ gap) × (length sorted ≡ windowSize) × (without sorted k ≡ without sorted₀ gap)
 
 abbrev μ-loop : tie.MeasureT-loop
 μ-loop sorted₀ gap at p k₀ sorted k = k - at

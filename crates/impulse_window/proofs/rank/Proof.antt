@@ -1,19 +1,20 @@
 -- `impulse_window::rank` meets its contract: the powers passed are all below p. Assumes nothing.
 use mathlib.Core.Path.{_≡_, sym, ap, _∙_}
 use mathlib.Core.List.{List}
-use Prim.Native.Nat.{ℕ, _-_, _≤_}
+use Prim.Native.Nat.{ℕ, _-_, _≤_, _<_}
 use native.Mathlib.Omega.{arith}
 use native.Mathlib.Numerals.{add-one}
 use lib.Ieee.{Float, nan, lt}
 use lib.ListN.{length, take}
 use borrow.Author.Tests.{not-true, not-false}
+use Rattle.rules.specs.Impulse.{windowSize}
 use Rattle.impulse_window.specs.Ordering.{rank, without}
 use Rattle.impulse_window.proofs.Places.{without-length, rank-more, rank-stops, rank-none}
 use Rattle.impulse_window.proofs.rank.Statement.{statement}
 use Rattle.impulse_window.proofs.rank.Tie as tie
 
--- the array with the gap left out has 32 places
-rest : (l : List Float) (gap : ℕ) → gap ≤ 32 → length l ≡ 33 → length (without l gap) ≡ 32
+-- the array with the gap left out has one place less
+rest : (l : List Float) (gap : ℕ) → gap < windowSize → length l ≡ windowSize → length (without l gap) ≡ windowSize - 1
 rest l gap h e = let n = without-length l gap (omega arith) in omega arith
 
 abbrev Inv-loop : tie.InvT-loop
@@ -55,7 +56,8 @@ returns-2 : tie.Need-returns-2 Inv-loop μ-loop
 returns-2 c =
     let i = c .before .loop in
     let e : c .before .before .args .n ≡ i .k = omega (arith, i .inv .0) in
-    sym (ap (λ (k : ℕ). rank lt (c .before .before .args .p) (take k (without (c .before .before .args .sorted .now) (c .before .before .args .gap)))) e ∙ i .inv .1)
+    sym (ap (λ (k : ℕ). rank lt (c .before .before .args .p) (take k (without (c .before .before .args .sorted .now) (c .before .before .args .gap)))) e
+    ∙ i .inv .1)
 
 pub rank-spec : {M : Type 1} → statement M
 rank-spec =

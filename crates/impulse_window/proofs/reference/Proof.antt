@@ -6,11 +6,12 @@ use lib.IntN.{pos}
 use lib.Seq.{length-take-le}
 use lib.Ieee.{binary64, inFloat}
 use borrow.Author.Needs.{needs}
+use Rattle.rules.specs.Impulse.{windowSize}
 use Rattle.impulse_window.specs.Ordered.{mean}
 use Rattle.impulse_window.proofs.reference.Statement.{statement}
 use Rattle.impulse_window.proofs.reference.Tie as tie
 
-small : (n : ℕ) → n ≤ 33 → T (inFloat binary64 (pos n))
+small : (n : ℕ) → n ≤ windowSize → T (inFloat binary64 (pos n))
 unfolding inFloat
 small n h = le→leb n (2 ^ 53) (omega arith)
 

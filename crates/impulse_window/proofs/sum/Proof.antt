@@ -13,7 +13,8 @@ use Rattle.impulse_window.proofs.Quiet.{fold-snoc}
 use Rattle.impulse_window.proofs.sum.Statement.{statement}
 use Rattle.impulse_window.proofs.sum.Tie as tie
 
-more : (l : List Float) (k : ℕ) (s : Float) → k < length l → s ≡ foldl (add binary64) zeroF (take k l) → add binary64 s (getD l k nan) ≡ foldl (add binary64) zeroF (take (k + 1) l)
+more : (l : List Float) (k : ℕ) (s : Float) → k < length l → s ≡ foldl (add binary64) zeroF (take k l)
+    → add binary64 s (getD l k nan) ≡ foldl (add binary64) zeroF (take (k + 1) l)
 more l k s h e = rw (e, add-one, take-suc l k nan, fold-snoc)
 
 abbrev Inv-loop : tie.InvT-loop

@@ -7,7 +7,7 @@ use borrow.Author.Needs.{needs}
 use Rattle.complex.specs.declared.Complex32.{Complex32}
 use Rattle.complex.specs.View.{view32, make32}
 use Rattle.complex.specs.Complex.{power, sampleOf}
-use Rattle.rules.specs.Impulse.{powerOf}
+use Rattle.rules.specs.Impulse.{windowSize, powerOf}
 use Rattle.impulse_window.specs.Ordered.{ordered}
 use Rattle.impulse_window.proofs.take_in.Statement.{statement}
 use Rattle.impulse_window.proofs.take_in.Tie as tie
@@ -43,8 +43,15 @@ element-write-window c = search needs
 returns : tie.Need-returns
 returns c =
     let a = c .before .before .before .before .before .args in
-    let w = power-is (a .x) (c .before .before .before .before .unpack .result) (c .before .before .before .norm-sqr .result) (c .before .before .before .before .unpack .ensures) (c .before .before .before .norm-sqr .ensures) in
-    (ap (set (a .window .now) (a .i % 33)) w, (c .order .ensures .0 ∙ ap (λ (p : Float). ordered 33 (a .i) (getD (a .window .now) (a .i % 33) nan) p (a .sorted .now)) w, c .order .ensures .1))
+    let w = power-is (a .x) (c .before .before .before .before .unpack .result) (c .before .before .before .norm-sqr .result)
+    (c .before .before .before .before .unpack .ensures) (c .before .before .before .norm-sqr .ensures) in (
+      ap (set (a .window .now) (a .i % windowSize)) w,
+      (
+        c .order .ensures .0
+            ∙ ap (λ (p : Float). ordered windowSize (a .i) (getD (a .window .now) (a .i % windowSize) nan) p (a .sorted .now)) w,
+        c .order .ensures .1,
+      ),
+    )
 
 pub take-in-spec : {M : Type 1} → statement M
 take-in-spec =

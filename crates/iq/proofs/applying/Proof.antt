@@ -22,7 +22,8 @@ authorized-requires c κs = search needs
 
 returns-2 : tie.Need-returns-2
 returns-2 c =
-    c .authorized .ensures ∙ sym (ap (λ z. settled apply (calibratedOf z) (c .before .before .before .before .args .receiver)) (c .before .before .calibration .given .1))
+    c .authorized .ensures
+    ∙ sym (ap (λ z. settled apply (calibratedOf z) (c .before .before .before .before .args .receiver)) (c .before .before .calibration .given .1))
 
 pub applying-spec : {M : Type 1} → statement M
 applying-spec =

@@ -46,8 +46,11 @@ loop-again : tie.Need-loop-again Inv-loop μ-loop
 loop-again c =
     let l = c .before .before .loop in
     let t = c .before .before .before .args .t in
-    let u = mul binary64 t t in
-    (omega arith, ap (λ (x : Float). cosineSeries u (l .k - 1) (sub binary64 one (div binary64 (mul binary64 u (l .c)) x))) (c .nearest-u64-to-f64 .ensures) ∙ sym (cosine-turn u (l .k) (l .c) (c .before .loop-test .taken)) ∙ l .inv .1)
+    let u = mul binary64 t t in (
+      omega arith,
+      ap (λ (x : Float). cosineSeries u (l .k - 1) (sub binary64 one (div binary64 (mul binary64 u (l .c)) x))) (c .nearest-u64-to-f64 .ensures)
+          ∙ sym (cosine-turn u (l .k) (l .c) (c .before .loop-test .taken)) ∙ l .inv .1,
+    )
 
 returns : tie.Need-returns Inv-loop μ-loop
 unfolding cosine

@@ -10,7 +10,8 @@ use Rattle.rules.specs.Iq.{wholeF, sineSeries, cosineSeries}
 pred : (k : ℕ) → suc k - 1 ≡ k
 pred k = omega arith
 
-pub sine-turn : (u : Float) (k : ℕ) (s : Float) → 0 < k → sineSeries u k s ≡ sineSeries u (k - 1) (sub binary64 one (div binary64 (mul binary64 u s) (wholeF (2 * k * (2 * k + 1)))))
+pub sine-turn : (u : Float) (k : ℕ) (s : Float) → 0 < k
+    → sineSeries u k s ≡ sineSeries u (k - 1) (sub binary64 one (div binary64 (mul binary64 u s) (wholeF (2 * k * (2 * k + 1)))))
 unfolding sineSeries
 sine-turn u zero s h = absurd (lt-irrefl 0 h)
 sine-turn u (suc k) s h =
@@ -21,7 +22,8 @@ unfolding sineSeries
 sine-end u zero s h = refl
 sine-end u (suc k) s h = absurd (not-suc-le-zero h)
 
-pub cosine-turn : (u : Float) (k : ℕ) (c : Float) → 0 < k → cosineSeries u k c ≡ cosineSeries u (k - 1) (sub binary64 one (div binary64 (mul binary64 u c) (wholeF ((2 * k - 1) * (2 * k)))))
+pub cosine-turn : (u : Float) (k : ℕ) (c : Float) → 0 < k
+    → cosineSeries u k c ≡ cosineSeries u (k - 1) (sub binary64 one (div binary64 (mul binary64 u c) (wholeF ((2 * k - 1) * (2 * k)))))
 unfolding cosineSeries
 cosine-turn u zero c h = absurd (lt-irrefl 0 h)
 cosine-turn u (suc k) c h =

@@ -20,7 +20,8 @@ returns : tie.Need-returns
 returns c = search needs
 
 correct-groups-requires : tie.Need-correct-groups-requires
-correct-groups-requires c κs = small (view64 (c .before .before .before .before .args .rho)) (c .before .before .is-small .ensures) (not-false _ (c .before .if1 .left))
+correct-groups-requires c κs =
+    small (view64 (c .before .before .before .before .args .rho)) (c .before .before .is-small .ensures) (not-false _ (c .before .if1 .left))
 
 mul-correct-each : tie.Need-mul-correct-each
 mul-correct-each c = search needs

@@ -9,7 +9,13 @@ all-under-requires : tie.Need-all-under-requires
 all-under-requires c κs = search needs
 
 try-group-requires : tie.Need-try-group-requires
-try-group-requires c κs = (c .before .before .before .before .before .before .pre .0, (c .before .before .before .before .before .before .pre .1, (sym (c .before .before .before .all-under .ensures) ∙ c .before .before .if1 .taken, refl)))
+try-group-requires c κs = (
+  c .before .before .before .before .before .before .pre .0,
+  (
+    c .before .before .before .before .before .before .pre .1,
+    (sym (c .before .before .before .all-under .ensures) ∙ c .before .before .if1 .taken, refl),
+  ),
+)
 
 copy-group-requires : tie.Need-copy-group-requires
 copy-group-requires c κs =
@@ -20,7 +26,8 @@ same-length : tie.Need-same-length
 same-length c = search needs
 
 returns : tie.Need-returns
-returns c = c .before .before .copy-group .ensures ∙ c .before .before .before .before .before .before .try-group .ensures (c .before .before .before .before .before .if2 .taken)
+returns c = c .before .before .copy-group .ensures
+    ∙ c .before .before .before .before .before .before .try-group .ensures (c .before .before .before .before .before .if2 .taken)
 
 correct-each-requires : tie.Need-correct-each-requires
 correct-each-requires c κs = search needs

@@ -1,4 +1,5 @@
--- `iq_correction::correct_groups` meets its contract. The invariant: what is written before place k, and what is left from k on, give the same. Assumes nothing.
+-- `iq_correction::correct_groups` meets its contract. The invariant: what is written before place k, and what is left from k on, give the same. Assumes
+-- nothing.
 use mathlib.Core.Path.{_≡_, refl, _∙_}
 use Prim.Native.Nat.{_+_, _-_, _≤_}
 use native.Mathlib.Omega.{arith}

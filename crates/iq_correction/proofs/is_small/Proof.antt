@@ -17,7 +17,8 @@ in-range-requires-2 c κs = search needs
 returns : tie.Need-returns
 returns c =
     c .in-range2 .ensures
-    ∙ sym (ap (λ (t : Bool). t && ranged (neg two) two (c .before .before .before .args .rho .im)) (sym (c .before .before .in-range .ensures) ∙ c .before .if1 .taken))
+    ∙ sym (ap (λ (t : Bool). t && ranged (neg two) two (c .before .before .before .args .rho .im))
+    (sym (c .before .before .in-range .ensures) ∙ c .before .if1 .taken))
 
 returns-2 : tie.Need-returns-2
 returns-2 c = sym (ap (λ (t : Bool). t && ranged (neg two) two (c .before .before .args .rho .im)) (sym (c .before .in-range .ensures) ∙ c .if1 .left))

@@ -30,10 +30,14 @@ by : (i : Iq) (s : Settled) (xs : List ℕ) {ys : List ℕ} → settledOf i ≡ 
 by i s xs e h = h ∙ ap (λ (t : Settled). map (correctedBy t) xs) (sym e)
 
 returns : tie.Need-returns
-returns c = by (c .before .before .before .args .iq) Off (c .before .before .before .args .samples .now) (ap settledOf (c .enum-told .given .1)) (unchanged Off (λ w. refl) _)
+returns c =
+    by (c .before .before .before .args .iq) Off (c .before .before .before .args .samples .now) (ap settledOf (c .enum-told .given .1))
+    (unchanged Off (λ w. refl) _)
 
 returns-2 : tie.Need-returns-2
-returns-2 c = by (c .before .before .before .args .iq) Observing (c .before .before .before .args .samples .now) (ap settledOf (c .enum-told2 .given .1)) (unchanged Observing (λ w. refl) _)
+returns-2 c =
+    by (c .before .before .before .args .iq) Observing (c .before .before .before .args .samples .now) (ap settledOf (c .enum-told2 .given .1))
+    (unchanged Observing (λ w. refl) _)
 
 same-length : tie.Need-same-length
 same-length c = search needs
@@ -44,7 +48,9 @@ returns-3 c =
     by (a .iq) _ (a .samples .now) (ap settledOf (c .before .before .before .before .before .iq .given .1)) (c .before .before .correct-all .ensures)
 
 returns-4 : tie.Need-returns-4
-returns-4 c = by (c .before .before .before .args .iq) Withheld (c .before .before .before .args .samples .now) (ap settledOf (c .enum-told3 .given .1)) (unchanged Withheld (λ w. refl) _)
+returns-4 c =
+    by (c .before .before .before .args .iq) Withheld (c .before .before .before .args .samples .now) (ap settledOf (c .enum-told3 .given .1))
+    (unchanged Withheld (λ w. refl) _)
 
 pub process-spec : {M : Type 1} → statement M
 process-spec =

@@ -49,7 +49,8 @@ returns-3 c =
     let a = c .before .before .before .before .before .before .before .before .before .before .args in
     let k = c .before .before .before .before .before .first-beyond .ensures in
     let u = undo-by (view64 (a .rho)) (a .samples .now) true false
-    (sym (c .before .before .before .before .before .before .before .before .accepted .ensures) ∙ not-false _ (c .before .before .before .before .before .before .before .if1 .left))
+    (sym (c .before .before .before .before .before .before .before .before .accepted .ensures)
+    ∙ not-false _ (c .before .before .before .before .before .before .before .if1 .left))
     (ap (λ n. ltb n (length (a .samples .now))) (sym k) ∙ le-ltb _ _ (c .before .before .before .before .if2 .left)) in
     (u .0, c .before .before .uncorrect-all .ensures ∙ u .1)
 

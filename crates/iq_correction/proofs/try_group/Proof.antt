@@ -42,7 +42,8 @@ loop-less : tie.Need-loop-less Inv-loop μ-loop
 loop-less c = omega arith
 
 loop-again : tie.Need-loop-again Inv-loop μ-loop
-loop-again c = trying-next _ _ _ _ _ _ _ (c .before .before .before .loop-test .taken) (c .before .try-sample .ensures) (c .before .before .before .before .loop .inv)
+loop-again c =
+    trying-next _ _ _ _ _ _ _ (c .before .before .before .loop-test .taken) (c .before .try-sample .ensures) (c .before .before .before .before .loop .inv)
 
 returns : tie.Need-returns Inv-loop μ-loop
 returns c = λ t. trying-end _ _ _ _ _ (c .before .before .before .pre .1 .0) (c .loop-test .left) (ltb-true _ _ t) (c .before .loop .inv)

@@ -14,7 +14,8 @@ use Rattle.iq_correction.proofs.try_sample.Tie as tie
 is : (c : tie.After-sub) → let a = c .before .before .before .before .before .args in view64 (c .sub .result) ≡ exact (view64 (a .rho)) (a .w)
 is c =
     let a = c .before .before .before .before .before .args in
-    exact-by (view64 (a .rho)) (a .w) (c .before .before .before .before .finite-part .ensures) (c .before .before .before .finite-part2 .ensures) (c .before .before .conj .ensures) (c .before .mul .ensures) (c .sub .ensures)
+    exact-by (view64 (a .rho)) (a .w) (c .before .before .before .before .finite-part .ensures) (c .before .before .before .finite-part2 .ensures)
+    (c .before .before .conj .ensures) (c .before .mul .ensures) (c .sub .ensures)
 
 all : (c : tie.After-sub) → Numbers (view64 (c .sub .result))
 all c =
@@ -84,7 +85,8 @@ returns : tie.Need-returns
 returns c =
     let s = c .before .before .before .before .before .before in
     let a = s .before .before .before .before .before in
-    tried (view64 (a .args .rho)) (a .args .w) (a .fits .w .fits) (a .pre .0) (a .pre .1) (is s) (c .before .before .before .rebased .ensures) (c .before .before .rebased2 .ensures) (c .before .part-bits .ensures) (c .part-bits2 .ensures)
+    tried (view64 (a .args .rho)) (a .args .w) (a .fits .w .fits) (a .pre .0) (a .pre .1) (is s) (c .before .before .before .rebased .ensures)
+    (c .before .before .rebased2 .ensures) (c .before .part-bits .ensures) (c .part-bits2 .ensures)
 
 pub try-sample-spec : {M : Type 1} → statement M
 try-sample-spec =

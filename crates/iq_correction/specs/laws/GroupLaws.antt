@@ -181,7 +181,8 @@ part-is b w h =
     let g = b / 2 ^ 63 in
     let n = b % 2 ^ 63 + 0x0fff_ffff + b / 2 ^ 29 % 2 in
     let m = n - 960 * 2 ^ 52 in
-    let c : cutOf b ≡ g * 2 ^ 34 + 960 * 2 ^ 23 + m / 2 ^ 29 = ap (λ (x : ℕ). x / 2 ^ 29) (signed b (b / 2 ^ 29 % 2) w (odd (b / 2 ^ 29)) .sum) ∙ whole g n (s .low) in
+    let c : cutOf b ≡ g * 2 ^ 34 + 960 * 2 ^ 23 + m / 2 ^ 29 = ap (λ (x : ℕ). x / 2 ^ 29) (signed b (b / 2 ^ 29 % 2) w (odd (b / 2 ^ 29)) .sum)
+    ∙ whole g n (s .low) in
     ap (λ (x : ℕ). x / 2 ^ 29 % 2 ^ 30 + g * 2 ^ 31 + 2 ^ 29) (s .left)
     ∙ ap (λ (x : ℕ). x % 2 ^ 30 + g * 2 ^ 31 + 2 ^ 29) (rest g m)
     ∙ digits g (m / 2 ^ 29) (few n (s .low) (s .high))
@@ -196,7 +197,8 @@ part-is b w h =
     few : (n : ℕ) → 960 * 2 ^ 52 ≤ n → n < 960 * 2 ^ 52 + 2 ^ 59 → (n - 960 * 2 ^ 52) / 2 ^ 29 < 2 ^ 30
     few n l h = omega arith
 
-    digits : (g q : ℕ) → q < 2 ^ 30 → (g * 2 ^ 34 + q) % 2 ^ 30 + g * 2 ^ 31 + 2 ^ 29 ≡ (g * 2 ^ 34 + 960 * 2 ^ 23 + q) % 2 ^ 30 + (g * 2 ^ 34 + 960 * 2 ^ 23 + q) / 2 ^ 33 * 2 ^ 30
+    digits : (g q : ℕ) → q < 2 ^ 30
+        → (g * 2 ^ 34 + q) % 2 ^ 30 + g * 2 ^ 31 + 2 ^ 29 ≡ (g * 2 ^ 34 + 960 * 2 ^ 23 + q) % 2 ^ 30 + (g * 2 ^ 34 + 960 * 2 ^ 23 + q) / 2 ^ 33 * 2 ^ 30
     digits g q h = omega arith
 
 pub part-lt : (b r : ℕ) → b < 2 ^ 64 → partBits b r < 2 ^ 31 + 2 ^ 30
@@ -219,7 +221,8 @@ pub clear-r : (a b : ℕ) → Clear (bitOr a b) → Clear b
 clear-r a b = under _ _ (rw (or-mod a b 63) (or-r (a % 2 ^ 63) (b % 2 ^ 63)))
 
 -- ---- the steps
-pub exact-by : (r : Complex) (w : ℕ) {x y : Float} {c t d : Complex64} → x ≡ ofBits binary32 (w % 2 ^ 32) → y ≡ ofBits binary32 (w / 2 ^ 32) → c ≡ make64 (conjugate (record { re = x; im = y }))
+pub exact-by : (r : Complex) (w : ℕ) {x y : Float} {c t d : Complex64} → x ≡ ofBits binary32 (w % 2 ^ 32) → y ≡ ofBits binary32 (w / 2 ^ 32)
+    → c ≡ make64 (conjugate (record { re = x; im = y }))
     → t ≡ make64 (product binary64 r (view64 c)) → d ≡ make64 (difference binary64 (record { re = x; im = y }) (view64 t)) → view64 d ≡ exact r w
 unfolding sampleOf
 exact-by r w {t = t} p q mirrored times less =
@@ -229,7 +232,8 @@ exact-by r w {t = t} p q mirrored times less =
 
 -- the bits of two numbers d, rebased: as words p and q they give the word, if both are clear
 pub tried : (r : Complex) (w : ℕ) {d : Complex64} {a b p q : ℕ} → w < 2 ^ 64 → Small r → FiniteWord w → view64 d ≡ exact r w
-    → a ≡ rebased (toBits binary64 (d .re)) → b ≡ rebased (toBits binary64 (d .im)) → p ≡ partBits (toBits binary64 (d .re)) a → q ≡ partBits (toBits binary64 (d .im)) b
+    → a ≡ rebased (toBits binary64 (d .re)) → b ≡ rebased (toBits binary64 (d .im)) → p ≡ partBits (toBits binary64 (d .re)) a
+    → q ≡ partBits (toBits binary64 (d .im)) b
     → Clear (bitOr a b) → p + q * 2 ^ 32 + 0x2000_0000_2000_0000 ≡ corrected r w
 tried r w {d} {a} {b} {p} {q} W s f e ea eb ep eq c =
     let n = subst (λ (z : Complex). Numbers z) (sym e) (numbers r w W s f) in
@@ -240,10 +244,12 @@ tried r w {d} {a} {b} {p} {q} W s f e ea eb ep eq c =
     joined p q
     ∙ (λ i. x i + y i * 2 ^ 32)
     ∙ ap (λ (z : Complex). patternCut (toBits binary64 (z .re)) + patternCut (toBits binary64 (z .im)) * 2 ^ 32) e
-    ∙ word-is r w (numbers r w W s f) (subst (λ (z : Complex). T (normalIn (toBits binary64 (z .re)))) e (marked _ (toBits-lt binary64 (d .re) (n .re .fit)) g)) (subst (λ (z : Complex). T (normalIn (toBits binary64 (z .im)))) e (marked _ (toBits-lt binary64 (d .im) (n .im .fit)) l))
+    ∙ word-is r w (numbers r w W s f) (subst (λ (z : Complex). T (normalIn (toBits binary64 (z .re)))) e (marked _ (toBits-lt binary64 (d .re) (n .re .fit)) g))
+    (subst (λ (z : Complex). T (normalIn (toBits binary64 (z .im)))) e (marked _ (toBits-lt binary64 (d .im) (n .im .fit)) l))
   where
     joined : (p q : ℕ) → p + q * 2 ^ 32 + 0x2000_0000_2000_0000 ≡ p + 2 ^ 29 + (q + 2 ^ 29) * 2 ^ 32
     joined p q = omega arith
 
-    word-by : (x : Float) {a p : ℕ} → T (fits binary64 x) → a ≡ rebased (toBits binary64 x) → p ≡ partBits (toBits binary64 x) a → Clear (rebased (toBits binary64 x)) → p + 2 ^ 29 ≡ patternCut (toBits binary64 x)
+    word-by : (x : Float) {a p : ℕ} → T (fits binary64 x) → a ≡ rebased (toBits binary64 x) → p ≡ partBits (toBits binary64 x) a
+        → Clear (rebased (toBits binary64 x)) → p + 2 ^ 29 ≡ patternCut (toBits binary64 x)
     word-by x F e h c = ap (λ (n : ℕ). n + 2 ^ 29) (h ∙ ap (partBits (toBits binary64 x)) e) ∙ part-is (toBits binary64 x) (toBits-lt binary64 x F) c

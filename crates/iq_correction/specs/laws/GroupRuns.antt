@@ -40,7 +40,8 @@ up-to P j before here i h = go (le-or-lt j i)
     go (inr g) = before i g
 
 -- what is put at j
-put-at : (P : ℕ → ℕ → Type 0) (xs : List ℕ) (j w : ℕ) → j < length xs → ((i : ℕ) → i < j → P i (getD xs i 0)) → P j w → (i : ℕ) → i < j + 1 → P i (getD (set xs j w) i 0)
+put-at : (P : ℕ → ℕ → Type 0) (xs : List ℕ) (j w : ℕ) → j < length xs → ((i : ℕ) → i < j → P i (getD xs i 0)) → P j w → (i : ℕ) → i < j + 1
+    → P i (getD (set xs j w) i 0)
 put-at P xs j w h before here =
     up-to (λ (i : ℕ). P i (getD (set xs j w) i 0)) j
     (λ i l. subst (P i) (sym (getD-set-other xs j i w 0 (λ (e : i ≡ j). omega arith))) (before i l))
@@ -70,7 +71,8 @@ pub record Trying (f : ℕ → ℕ) (xs out : List ℕ) (mark j : ℕ) : Type 0 
   pub place : j ≤ 16
   pub right : Clear mark → (i : ℕ) → i < j → getD out i 0 ≡ f (getD xs i 0)
 
-pub trying-next : (f : ℕ → ℕ) (xs out : List ℕ) (mark j w m : ℕ) → j < 16 → (Clear m → w ≡ f (getD xs j 0)) → Trying f xs out mark j → Trying f xs (set out j w) (bitOr mark m) (j + 1)
+pub trying-next : (f : ℕ → ℕ) (xs out : List ℕ) (mark j w m : ℕ) → j < 16 → (Clear m → w ≡ f (getD xs j 0)) → Trying f xs out mark j
+    → Trying f xs (set out j w) (bitOr mark m) (j + 1)
 trying-next f xs out mark j w m h here g =
     let s = g .size in
     record {
@@ -91,7 +93,8 @@ trying-end f xs out mark j n h t g =
     ext-getD 0 out (map f xs) l (λ i k. g .right t i (omega arith) ∙ sym (map-at f xs i (omega arith)))
 
 -- ---- a group written in its place
-mapping-group : (f : ℕ → ℕ) (xs₀ xs ys : List ℕ) (k : ℕ) → k + 16 ≤ length xs → ys ≡ map f (take 16 (drop k xs)) → Mapping f xs₀ xs k → Mapping f xs₀ (take k xs ++ (ys ++ drop (k + 16) xs)) (k + 16)
+mapping-group : (f : ℕ → ℕ) (xs₀ xs ys : List ℕ) (k : ℕ) → k + 16 ≤ length xs → ys ≡ map f (take 16 (drop k xs)) → Mapping f xs₀ xs k
+    → Mapping f xs₀ (take k xs ++ (ys ++ drop (k + 16) xs)) (k + 16)
 mapping-group f xs₀ xs ys k h e g =
     let s = g .same in
     let rest = drop (k + 16) xs in
@@ -108,18 +111,22 @@ mapping-group f xs₀ xs ys k h e g =
           ∙ ap (λ (l : List ℕ). l ++ map f (drop (k + 16) (p ++ rest))) (take-at p rest (k + 16) size)
           ∙ ap (λ (l : List ℕ). p ++ map f l) (drop-at p rest (k + 16) size)
           ∙ append-assoc (take k xs) ys (map f rest)
-          ∙ ap (λ (l : List ℕ). take k xs ++ l) (ap (λ (l : List ℕ). l ++ map f rest) e ∙ ap (λ (l : List ℕ). map f (take 16 (drop k xs)) ++ map f l) (sym (drop-drop 16 k xs)) ∙ sym (map-append f (take 16 (drop k xs)) (drop 16 (drop k xs))) ∙ ap (map f) (take-append-drop 16 (drop k xs)))
+          ∙ ap (λ (l : List ℕ). take k xs ++ l)
+          (ap (λ (l : List ℕ). l ++ map f rest) e ∙ ap (λ (l : List ℕ). map f (take 16 (drop k xs)) ++ map f l) (sym (drop-drop 16 k xs))
+          ∙ sym (map-append f (take 16 (drop k xs)) (drop 16 (drop k xs))) ∙ ap (map f) (take-append-drop 16 (drop k xs)))
           ∙ g .written;
     }
 
-pub mapping-part : (f : ℕ → ℕ) (xs₀ xs ys : List ℕ) (k n : ℕ) → n ≡ 16 → k + 16 ≤ length xs → ys ≡ map f (take n (drop k xs)) → Mapping f xs₀ xs k → Mapping f xs₀ (take k xs ++ (ys ++ drop n (drop k xs))) (k + 16)
+pub mapping-part : (f : ℕ → ℕ) (xs₀ xs ys : List ℕ) (k n : ℕ) → n ≡ 16 → k + 16 ≤ length xs → ys ≡ map f (take n (drop k xs)) → Mapping f xs₀ xs k
+    → Mapping f xs₀ (take k xs ++ (ys ++ drop n (drop k xs))) (k + 16)
 mapping-part f xs₀ xs ys k n long h e g =
     subst (λ (n : ℕ). Mapping f xs₀ (take k xs ++ (ys ++ drop n (drop k xs))) (k + 16)) (sym long)
     (subst (λ (l : List ℕ). Mapping f xs₀ (take k xs ++ (ys ++ l)) (k + 16)) (sym (drop-drop 16 k xs))
     (mapping-group f xs₀ xs ys k h (e ∙ ap (λ (n : ℕ). map f (take n (drop k xs))) long) g))
 
 -- ---- all that is left written in its place
-pub mapping-rest : (f : ℕ → ℕ) (xs₀ xs ys : List ℕ) (k : ℕ) → ys ≡ map f (take (length xs - k) (drop k xs)) → Mapping f xs₀ xs k → take k xs ++ (ys ++ drop (length xs - k) (drop k xs)) ≡ map f xs₀
+pub mapping-rest : (f : ℕ → ℕ) (xs₀ xs ys : List ℕ) (k : ℕ) → ys ≡ map f (take (length xs - k) (drop k xs)) → Mapping f xs₀ xs k
+    → take k xs ++ (ys ++ drop (length xs - k) (drop k xs)) ≡ map f xs₀
 mapping-rest f xs₀ xs ys k e g =
     let l : length (drop k xs) ≤ length xs - k = simp length-drop (omega arith) in
     ap (λ (r : List ℕ). take k xs ++ (ys ++ r)) (drop-of-length-le (drop k xs) l)

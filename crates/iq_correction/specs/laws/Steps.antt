@@ -15,15 +15,19 @@ module _ (r : Complex) (w : ℕ) {y : Single} {m c t d : Complex64} where
   unfolding corrected
   corrected-by rounded less times mirrored sampled =
       let t' = times ∙ ap (λ s. make64 (product binary64 r (view64 s))) (mirrored ∙ ap (λ s. make64 (conjugate (view64 s))) sampled) in
-      let d' = less ∙ ap (λ s. make64 (difference binary64 (view64 s) (view64 t))) sampled ∙ ap (λ s. make64 (difference binary64 (sampleOf w) (view64 s))) t' in
+      let d' = less ∙ ap (λ s. make64 (difference binary64 (view64 s) (view64 t))) sampled
+      ∙ ap (λ s. make64 (difference binary64 (sampleOf w) (view64 s))) t' in
       ap (λ s. s .word) rounded ∙ ap (λ s. wordOf (narrowedParts (view64 s))) d'
 
-  pub uncorrected-by : {e : Complex64} {q : Float} → y ≡ singleOf (view64 e) → e ≡ make64 (unscaled binary64 (view64 d) (sub binary64 one q)) → q ≡ power binary64 r
-      → d ≡ make64 (sum binary64 (view64 m) (view64 t)) → t ≡ make64 (product binary64 r (view64 c)) → c ≡ make64 (conjugate (view64 m)) → m ≡ make64 (sampleOf w) → y .word ≡ uncorrected r w
+  pub uncorrected-by : {e : Complex64} {q : Float} → y ≡ singleOf (view64 e) → e ≡ make64 (unscaled binary64 (view64 d) (sub binary64 one q))
+      → q ≡ power binary64 r
+      → d ≡ make64 (sum binary64 (view64 m) (view64 t)) → t ≡ make64 (product binary64 r (view64 c)) → c ≡ make64 (conjugate (view64 m))
+      → m ≡ make64 (sampleOf w) → y .word ≡ uncorrected r w
   unfolding uncorrected
   uncorrected-by {q = q} rounded divided powered more times mirrored sampled =
       let y₀ = sampleOf w in
       let t' = times ∙ ap (λ s. make64 (product binary64 r (view64 s))) (mirrored ∙ ap (λ s. make64 (conjugate (view64 s))) sampled) in
       let d' = more ∙ ap (λ s. make64 (sum binary64 (view64 s) (view64 t))) sampled ∙ ap (λ s. make64 (sum binary64 y₀ (view64 s))) t' in
-      let e' = divided ∙ ap (λ s. make64 (unscaled binary64 (view64 s) (sub binary64 one q))) d' ∙ ap (λ s. make64 (unscaled binary64 (sum binary64 y₀ (product binary64 r (conjugate y₀))) (sub binary64 one s))) powered in
+      let e' = divided ∙ ap (λ s. make64 (unscaled binary64 (view64 s) (sub binary64 one q))) d'
+      ∙ ap (λ s. make64 (unscaled binary64 (sum binary64 y₀ (product binary64 r (conjugate y₀))) (sub binary64 one s))) powered in
       ap (λ s. s .word) rounded ∙ ap (λ s. wordOf (narrowedParts (view64 s))) e'

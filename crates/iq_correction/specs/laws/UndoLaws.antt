@@ -19,7 +19,8 @@ in-order : (fit beyond : Bool) → cond (not fit) 10 (cond beyond 7 0) ≡ undoN
 in-order true beyond = refl
 in-order false beyond = refl
 
-refusal-by : (r : Complex) (ys : List ℕ) (fit beyond : Bool) → accepted r ≡ fit → ltb (firstBeyondFrom 0 ys) (length ys) ≡ beyond → iqUndoRefusal r ys ≡ undoNumber fit beyond
+refusal-by : (r : Complex) (ys : List ℕ) (fit beyond : Bool) → accepted r ≡ fit → ltb (firstBeyondFrom 0 ys) (length ys) ≡ beyond
+    → iqUndoRefusal r ys ≡ undoNumber fit beyond
 unfolding iqUndoRefusal firstOf
 refusal-by r ys fit beyond f b =
     in-order (accepted r) (ltb (firstBeyondFrom 0 ys) (length ys))

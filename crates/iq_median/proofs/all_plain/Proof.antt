@@ -16,7 +16,8 @@ use Rattle.iq_median.proofs.all_plain.Statement.{statement}
 use Rattle.iq_median.proofs.all_plain.Tie as tie
 
 abbrev Inv-loop : tie.InvT-loop
-Inv-loop part others₀ k₀ others k = (k ≤ length part) × (others ≤ k) × ((eqb others 0 && allOf signClear (drop k part)) ≡ allOf signClear part) × All (λ x. T (fits binary64 x)) (take k part)
+Inv-loop part others₀ k₀ others k = (k ≤ length part) × (others ≤ k) × ((eqb others 0 && allOf signClear (drop k part)) ≡ allOf signClear part)
+    × All (λ x. T (fits binary64 x)) (take k part)
 
 abbrev μ-loop : tie.MeasureT-loop
 μ-loop part others₀ k₀ others k = length part - k
@@ -51,14 +52,20 @@ loop-again c =
     let v = c .before .before .before .loop in
     let h = c .before .before .loop-test .taken in
     let t = c .is-plain .ensures in
-    let b = bit (not (c .is-plain .result)) in
-    (omega arith, omega arith, none-next signClear nan l (v .k) (v .others) (c .is-plain .result) h (t .0) (v .inv .2), all-at (λ x. T (fits binary64 x)) l (v .k) h (t .1) (v .inv .3))
+    let b = bit (not (c .is-plain .result)) in (
+      omega arith,
+      omega arith,
+      none-next signClear nan l (v .k) (v .others) (c .is-plain .result) h (t .0) (v .inv .2),
+      all-at (λ x. T (fits binary64 x)) l (v .k) h (t .1) (v .inv .3),
+    )
 
 returns : tie.Need-returns Inv-loop μ-loop
 returns c =
     let l = c .before .before .before .args .part .now in
-    let v = c .before .loop in
-    (good-done signClear l (v .k) (eqb (v .others) 0) (c .loop-test .left) (v .inv .2), subst (All (λ x. T (fits binary64 x))) (take-all (v .k) l (c .loop-test .left)) (v .inv .3))
+    let v = c .before .loop in (
+      good-done signClear l (v .k) (eqb (v .others) 0) (c .loop-test .left) (v .inv .2),
+      subst (All (λ x. T (fits binary64 x))) (take-all (v .k) l (c .loop-test .left)) (v .inv .3),
+    )
 
 pub all-plain-spec : {M : Type 1} → statement M
 all-plain-spec =

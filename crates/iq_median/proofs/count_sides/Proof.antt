@@ -12,7 +12,8 @@ use Rattle.iq_median.proofs.count_sides.Tie as tie
 
 abbrev Inv-loop : tie.InvT-loop
 Inv-loop part p below₀ above₀ k₀ below above k =
-    (k ≤ length part) × (below ≤ k) × (above ≤ k) × (below + length (belowOf p (drop k part)) ≡ length (belowOf p part)) × (above + length (aboveOf p (drop k part)) ≡ length (aboveOf p part))
+    (k ≤ length part) × (below ≤ k) × (above ≤ k) × (below + length (belowOf p (drop k part)) ≡ length (belowOf p part))
+    × (above + length (aboveOf p (drop k part)) ≡ length (aboveOf p part))
 
 abbrev μ-loop : tie.MeasureT-loop
 μ-loop part p below₀ above₀ k₀ below above k = length part - k
@@ -42,7 +43,12 @@ cast-above : tie.Need-cast-above Inv-loop μ-loop
 cast-above c = tt
 
 add-above : tie.Need-add-above Inv-loop μ-loop
-add-above c = omega (arith, bit (lt (c .before .before .before .before .args .p) (getD (c .before .before .before .before .args .part .now) (c .before .before .before .loop .k) nan)))
+add-above c =
+    omega (
+      arith,
+      bit (lt (c .before .before .before .before .args .p)
+          (getD (c .before .before .before .before .args .part .now) (c .before .before .before .loop .k) nan)),
+    )
 
 add-k : tie.Need-add-k Inv-loop μ-loop
 add-k c = omega arith
@@ -57,14 +63,21 @@ loop-again c =
     let h = c .before .before .loop-test .taken in
     let x = getD (a .part .now) (v .k) nan in
     let b = bit (lt x (a .p)) in
-    let d = bit (lt (a .p) x) in
-    (omega arith, omega arith, omega arith, counted-next (λ y. lt y (a .p)) (a .part .now) (v .k) (v .below) nan h (v .inv .3), counted-next (λ y. lt (a .p) y) (a .part .now) (v .k) (v .above) nan h (v .inv .4))
+    let d = bit (lt (a .p) x) in (
+      omega arith,
+      omega arith,
+      omega arith,
+      counted-next (λ y. lt y (a .p)) (a .part .now) (v .k) (v .below) nan h (v .inv .3),
+      counted-next (λ y. lt (a .p) y) (a .part .now) (v .k) (v .above) nan h (v .inv .4),
+    )
 
 returns : tie.Need-returns Inv-loop μ-loop
 returns c =
     let a = c .before .before .args in
-    let v = c .before .loop in
-    (counted-all (λ y. lt y (a .p)) (a .part .now) (v .k) (v .below) (c .loop-test .left) (v .inv .3), counted-all (λ y. lt (a .p) y) (a .part .now) (v .k) (v .above) (c .loop-test .left) (v .inv .4))
+    let v = c .before .loop in (
+      counted-all (λ y. lt y (a .p)) (a .part .now) (v .k) (v .below) (c .loop-test .left) (v .inv .3),
+      counted-all (λ y. lt (a .p) y) (a .part .now) (v .k) (v .above) (c .loop-test .left) (v .inv .4),
+    )
 
 pub count-sides-spec : {M : Type 1} → statement M
 count-sides-spec =

@@ -36,8 +36,11 @@ loop-less c = omega arith
 loop-again : tie.Need-loop-again Inv-loop μ-loop
 loop-again c =
     let s = c .before .before .before .before in
-    let v = c .before .before .before .loop in
-    (omega arith, least-step (s .args .p) (s .args .part .now) (v .k) (v .least) false (lt (v .least) (getD (s .args .part .now) (v .k - 1) nan)) (c .before .before .loop-test .taken) (v .inv .0) (v .inv .1) (not-true _ (c .if1 .taken)) (refl))
+    let v = c .before .before .before .loop in (
+      omega arith,
+      least-step (s .args .p) (s .args .part .now) (v .k) (v .least) false (lt (v .least) (getD (s .args .part .now) (v .k - 1) nan))
+          (c .before .before .loop-test .taken) (v .inv .0) (v .inv .1) (not-true _ (c .if1 .taken)) (refl),
+    )
 
 loop-less-2 : tie.Need-loop-less-2 Inv-loop μ-loop
 loop-less-2 c = omega arith
@@ -45,8 +48,11 @@ loop-less-2 c = omega arith
 loop-again-2 : tie.Need-loop-again-2 Inv-loop μ-loop
 loop-again-2 c =
     let s = c .before .before .before .before .before in
-    let v = c .before .before .before .before .loop in
-    (omega arith, least-step (s .args .p) (s .args .part .now) (v .k) (v .least) true true (c .before .before .before .loop-test .taken) (v .inv .0) (v .inv .1) (not-false _ (c .before .if1 .left)) (c .if2 .taken))
+    let v = c .before .before .before .before .loop in (
+      omega arith,
+      least-step (s .args .p) (s .args .part .now) (v .k) (v .least) true true (c .before .before .before .loop-test .taken) (v .inv .0) (v .inv .1)
+          (not-false _ (c .before .if1 .left)) (c .if2 .taken),
+    )
 
 loop-less-3 : tie.Need-loop-less-3 Inv-loop μ-loop
 loop-less-3 c = omega arith
@@ -54,11 +60,15 @@ loop-less-3 c = omega arith
 loop-again-3 : tie.Need-loop-again-3 Inv-loop μ-loop
 loop-again-3 c =
     let s = c .before .before .before .before .before in
-    let v = c .before .before .before .before .loop in
-    (omega arith, least-step (s .args .p) (s .args .part .now) (v .k) (v .least) true false (c .before .before .before .loop-test .taken) (v .inv .0) (v .inv .1) (not-false _ (c .before .if1 .left)) (c .if2 .left))
+    let v = c .before .before .before .before .loop in (
+      omega arith,
+      least-step (s .args .p) (s .args .part .now) (v .k) (v .least) true false (c .before .before .before .loop-test .taken) (v .inv .0) (v .inv .1)
+          (not-false _ (c .before .if1 .left)) (c .if2 .left),
+    )
 
 returns : tie.Need-returns Inv-loop μ-loop
-returns c = let a = c .before .before .args in let v = c .before .loop in let z : v .k ≡ 0 = omega arith in v .inv .1 ∙ ap (λ (i : ℕ). leastAbove (a .p) (drop i (a .part .now))) z
+returns c = let a = c .before .before .args in let v = c .before .loop in let z : v .k ≡ 0 = omega arith in
+    v .inv .1 ∙ ap (λ (i : ℕ). leastAbove (a .p) (drop i (a .part .now))) z
 
 pub least-above-spec : {M : Type 1} → statement M
 least-above-spec =

@@ -30,7 +30,8 @@ shared-slice-read-result : tie.Need-shared-slice-read-result
 shared-slice-read-result c = search needs
 
 returns-2 : tie.Need-returns-2
-returns-2 c = let s = c .before .before .before .before .before .before in let l = s .args .part .now in all-getD (Plain binary64) l (length l / 2) nan (s .pre .1) (omega (arith, s .pre .0))
+returns-2 c = let s = c .before .before .before .before .before .before in let l = s .args .part .now in
+    all-getD (Plain binary64) l (length l / 2) nan (s .pre .1) (omega (arith, s .pre .0))
 
 add-last : tie.Need-add-last
 add-last c = search needs
@@ -58,8 +59,10 @@ median-requires c κs =
     let s = c .before .before .before .before .before in
     let l = s .args .part .now in
     let n = length l in
-    let h = s .pre .0 in
-    (all-getD (Plain binary64) l (n / 4) nan (s .pre .1) (omega arith), (all-getD (Plain binary64) l (n / 2) nan (s .pre .1) (omega arith), all-getD (Plain binary64) l (n / 2 + n / 4) nan (s .pre .1) (omega arith)))
+    let h = s .pre .0 in (
+      all-getD (Plain binary64) l (n / 4) nan (s .pre .1) (omega arith),
+      (all-getD (Plain binary64) l (n / 2) nan (s .pre .1) (omega arith), all-getD (Plain binary64) l (n / 2 + n / 4) nan (s .pre .1) (omega arith)),
+    )
 
 returns-3 : tie.Need-returns-3
 returns-3 c = search needs

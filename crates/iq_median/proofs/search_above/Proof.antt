@@ -36,7 +36,8 @@ returns c =
     let s = c .before .before .before .before .before .before .before .before in
     let a = s .args in
     let k = c .before .before .before .before .before .keep-above in
-    let t : Search = record { count = k .result; place = a .s .place - a .passed; low = c .before .to-bits64 .result; high = a .s .high; left = a .s .left - 1 } in
+    let t : Search =
+    record { count = k .result; place = a .s .place - a .passed; low = c .before .to-bits64 .result; high = a .s .high; left = a .s .left - 1 } in
     let f = in-front (k .last .0) (drop (a .s .count) (a .part .now)) _ (k .result) _ (k .ensures .0) (k .kept .0) (k .ensures .1) in
     let left : a .s .left - 1 + 1 ≡ a .s .left = omega (arith, s .pre .0 .turns) in
     let place : a .s .place - a .passed + a .passed ≡ a .s .place = omega (arith, s .pre .1 .1) in

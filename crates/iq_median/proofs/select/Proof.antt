@@ -19,13 +19,16 @@ loop-holds : tie.Need-loop-holds Inv-loop μ-loop
 loop-holds c = let s = c .before in going-first (s .args .part .now) (s .args .place) _ refl refl (s .pre .0) (s .pre .1)
 
 turn-requires : tie.Need-turn-requires Inv-loop μ-loop
-turn-requires c κs = let v = c .before .before .before .before .before .loop in (v .inv .0, ((let h = c .before .before .before .if1 .taken in omega arith), ltb-true 0 (v .s .left) (c .before .if2 .taken)))
+turn-requires c κs = let v = c .before .before .before .before .before .loop in
+    (v .inv .0, ((let h = c .before .before .before .if1 .taken in omega arith), ltb-true 0 (v .s .left) (c .before .if2 .taken)))
 
 loop-less : tie.Need-loop-less Inv-loop μ-loop
 loop-less c = omega (arith, c .before .before .turn .ensures .turns)
 
 loop-again : tie.Need-loop-again Inv-loop μ-loop
-loop-again c = let v = c .before .before .before .before .before .before .before .before .loop in let a = c .before .before .before .before .before .before .before .before .before .before .args in let k = c .before .before .turn in going-next (a .part .now) (a .place) (v .part) _ (v .s) _ (v .inv) (k .kept .0) (k .ensures)
+loop-again c = let v = c .before .before .before .before .before .before .before .before .loop in
+    let a = c .before .before .before .before .before .before .before .before .before .before .args in let k = c .before .before .turn in
+    going-next (a .part .now) (a .place) (v .part) _ (v .s) _ (v .inv) (k .kept .0) (k .ensures)
 
 slice-relend-prefix-sort-words : tie.Need-slice-relend-prefix-sort-words Inv-loop μ-loop
 slice-relend-prefix-sort-words c = c .before .before .loop .inv .0 .most
@@ -37,10 +40,14 @@ sort-words-requires : tie.Need-sort-words-requires Inv-loop μ-loop
 sort-words-requires c κs = search needs
 
 same-length : tie.Need-same-length Inv-loop μ-loop
-same-length c = let v = c .before .before .before .before .before .before .loop in let a = c .before .before .before .before .before .before .before .before .args in found-length (a .part .now) (a .place) (v .part) _ (v .s) (v .inv) (c .before .before .sort-words .ensures)
+same-length c = let v = c .before .before .before .before .before .before .loop in
+    let a = c .before .before .before .before .before .before .before .before .args in
+    found-length (a .part .now) (a .place) (v .part) _ (v .s) (v .inv) (c .before .before .sort-words .ensures)
 
 returns : tie.Need-returns Inv-loop μ-loop
-returns c = let v = c .before .before .before .before .before .before .loop in let a = c .before .before .before .before .before .before .before .before .args in found (a .part .now) (a .place) (v .part) _ (v .s) (v .inv) (c .before .before .sort-words .ensures)
+returns c = let v = c .before .before .before .before .before .before .loop in
+    let a = c .before .before .before .before .before .before .before .before .args in
+    found (a .part .now) (a .place) (v .part) _ (v .s) (v .inv) (c .before .before .sort-words .ensures)
 
 pub select-spec : {M : Type 1} → statement M
 select-spec =

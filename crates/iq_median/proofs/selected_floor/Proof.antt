@@ -58,8 +58,16 @@ upper-power-requires c κs =
     let a = s .args in
     let e = c .before .before .before .before .before .before .before .before .before .copy-powers .ensures in
     let k = c .before .before .before .before .before .select in
-    let kept = powers-kept (a .n) (a .words .now) _ (k .last .0) (k .result) (s .pre .0) (s .pre .1 .1 .0) e (k .ensures) in
-    ((final-length (a .n) (a .words .now) _ (k .last .0) (k .result) (s .pre .0) (s .pre .1 .1 .0) e (k .ensures) (k .kept .0), s .pre .1 .0, s .pre .1 .1 .0), (subst (All (Plain binary64)) (sym kept) (s .pre .1 .1 .1), (searched (a .n) (a .words .now) _ (k .last .0) (k .result) (s .pre .0) (s .pre .1 .1 .0) e (k .ensures), lower-power (a .n) (a .words .now) _ (k .last .0) (k .result) (s .pre .0) (s .pre .1 .1 .0) e (k .ensures))))
+    let kept = powers-kept (a .n) (a .words .now) _ (k .last .0) (k .result) (s .pre .0) (s .pre .1 .1 .0) e (k .ensures) in (
+      (final-length (a .n) (a .words .now) _ (k .last .0) (k .result) (s .pre .0) (s .pre .1 .1 .0) e (k .ensures) (k .kept .0), s .pre .1 .0, s .pre .1 .1 .0),
+      (
+        subst (All (Plain binary64)) (sym kept) (s .pre .1 .1 .1),
+        (
+          searched (a .n) (a .words .now) _ (k .last .0) (k .result) (s .pre .0) (s .pre .1 .1 .0) e (k .ensures),
+          lower-power (a .n) (a .words .now) _ (k .last .0) (k .result) (s .pre .0) (s .pre .1 .1 .0) e (k .ensures),
+        ),
+      ),
+    )
 
 same-length : tie.Need-same-length
 same-length c = search needs
@@ -69,7 +77,9 @@ returns c =
     let s = c .before .before .before .before .before .before .before .before .before .before .before .before .before in
     let a = s .args in
     let k = c .before .before .before .before .before .before .select in
-    floor-found (a .n) (a .words .now) _ (k .last .0) (k .result) (s .pre .0) (s .pre .1 .1 .0) (c .before .before .before .before .before .before .before .before .before .before .copy-powers .ensures) (k .ensures) (c .upper-power .result) (c .upper-power .ensures)
+    floor-found (a .n) (a .words .now) _ (k .last .0) (k .result) (s .pre .0) (s .pre .1 .1 .0)
+    (c .before .before .before .before .before .before .before .before .before .before .copy-powers .ensures) (k .ensures) (c .upper-power .result)
+    (c .upper-power .ensures)
 
 pub selected-floor-spec : {M : Type 1} → statement M
 selected-floor-spec =

@@ -58,7 +58,9 @@ loop-less : tie.Need-loop-less Inv-loop μ-loop
 loop-less c = omega arith
 
 loop-again : tie.Need-loop-again Inv-loop μ-loop
-loop-again c = let s = c .before .before .before .before .before .before .args in let l = c .before .before .before .before .loop in sinking-next (s .part .now) (s .k) (getD (s .part .now) (s .k) nan) (l .part) (l .i) (c .before .before .before .loop-test .taken) (c .before .if1 .taken) (l .inv)
+loop-again c = let s = c .before .before .before .before .before .before .args in let l = c .before .before .before .before .loop in
+    sinking-next (s .part .now) (s .k) (getD (s .part .now) (s .k) nan) (l .part) (l .i) (c .before .before .before .loop-test .taken) (c .before .if1 .taken)
+    (l .inv)
 
 mul-part-3 : tie.Need-mul-part-3 Inv-loop μ-loop
 mul-part-3 c = omega arith
@@ -70,7 +72,9 @@ same-length : tie.Need-same-length Inv-loop μ-loop
 same-length c = let l = c .before .loop in let s = c .before .before .before .args in length-set (l .part) (l .i) (getD (s .part .now) (s .k) nan) ∙ l .inv .1
 
 returns : tie.Need-returns Inv-loop μ-loop
-returns c = let s = c .before .before .before .args in let l = c .before .loop in ⊎-elim (λ w. sinking-stop (s .part .now) (s .k) (getD (s .part .now) (s .k) nan) (l .part) (l .i) (w .2 .left) (w .0 .taken) (l .inv)) (λ w. sinking-end (s .part .now) (s .k) (getD (s .part .now) (s .k) nan) (l .part) (l .i) (w .left) (l .inv)) (c .loop-test .came)
+returns c = let s = c .before .before .before .args in let l = c .before .loop in
+    ⊎-elim (λ w. sinking-stop (s .part .now) (s .k) (getD (s .part .now) (s .k) nan) (l .part) (l .i) (w .2 .left) (w .0 .taken) (l .inv))
+    (λ w. sinking-end (s .part .now) (s .k) (getD (s .part .now) (s .k) nan) (l .part) (l .i) (w .left) (l .inv)) (c .loop-test .came)
 
 pub sink-spec : {M : Type 1} → statement M
 sink-spec =

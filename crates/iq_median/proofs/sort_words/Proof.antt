@@ -18,13 +18,16 @@ sub-k : tie.Need-sub-k Inv-loop μ-loop
 sub-k c = omega arith
 
 sink-requires : tie.Need-sink-requires Inv-loop μ-loop
-sink-requires c κs = let l = c .before .before .loop in let h = sorting-length (c .before .before .before .before .args .part .now) (l .part) (l .k) (l .inv) in omega arith
+sink-requires c κs = let l = c .before .before .loop in let h = sorting-length (c .before .before .before .before .args .part .now) (l .part) (l .k) (l .inv) in
+    omega arith
 
 loop-less : tie.Need-loop-less Inv-loop μ-loop
 loop-less c = omega arith
 
 loop-again : tie.Need-loop-again Inv-loop μ-loop
-loop-again c = let l = c .before .before .before .before .before .loop in sorting-next (c .before .before .before .before .before .before .before .args .part .now) (l .part) _ (l .k) (c .before .before .before .before .loop-test .taken) (c .before .before .sink .ensures) (l .inv)
+loop-again c = let l = c .before .before .before .before .before .loop in
+    sorting-next (c .before .before .before .before .before .before .before .args .part .now) (l .part) _ (l .k)
+    (c .before .before .before .before .loop-test .taken) (c .before .before .sink .ensures) (l .inv)
 
 same-length : tie.Need-same-length Inv-loop μ-loop
 same-length c = let l = c .before .loop in sorting-length (c .before .before .before .args .part .now) (l .part) (l .k) (l .inv)

@@ -55,7 +55,8 @@ returns c =
     let s = c .before .before .before .before .before .before .before .before .before .before .before in
     let ws = s .args .words .now in
     let n = s .args .n in
-    let e = sorted-in-place n ws _ _ (s .pre .0) (c .before .before .before .before .before .before .before .before .copy-powers .ensures) (c .before .before .before .before .sort-words .ensures) in
+    let e = sorted-in-place n ws _ _ (s .pre .0) (c .before .before .before .before .before .before .before .before .copy-powers .ensures)
+    (c .before .before .before .before .sort-words .ensures) in
     floor-read n ws _ (s .pre .1 .1) (s .pre .0) e
 
 pub sorted-floor-spec : {M : Type 1} → statement M

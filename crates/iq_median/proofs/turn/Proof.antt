@@ -17,7 +17,8 @@ window-length c = length-take-le (c .args .s .count) (c .args .part .now) (c .pr
 above-most : (c : tie.Start) (p : Float) → length (aboveOf p (take (c .args .s .count) (c .args .part .now))) ≤ c .args .s .count
 above-most c p = let a = passing-length (λ x. lt p x) (take (c .args .s .count) (c .args .part .now)) in let b = window-length c in omega arith
 
-passed-is : (c : tie.Start) (p : Float) (above : ℕ) → above ≡ length (aboveOf p (take (c .args .s .count) (c .args .part .now))) → c .args .s .count - above + length (aboveOf p (take (c .args .s .count) (c .args .part .now))) ≡ c .args .s .count
+passed-is : (c : tie.Start) (p : Float) (above : ℕ) → above ≡ length (aboveOf p (take (c .args .s .count) (c .args .part .now)))
+    → c .args .s .count - above + length (aboveOf p (take (c .args .s .count) (c .args .part .now))) ≡ c .args .s .count
 passed-is c p above e = let a = above-most c p in omega arith
 
 slice-reshare-prefix-pivot : tie.Need-slice-reshare-prefix-pivot
@@ -39,7 +40,10 @@ count-sides-requires : tie.Need-count-sides-requires
 count-sides-requires c κs = search needs
 
 search-below-requires : tie.Need-search-below-requires
-search-below-requires c κs = let s = c .before .before .before .before .before .before .before .before .before in (record { window = s .pre .0; pivot = c .before .before .before .before .before .before .pivot .ensures; many = s .pre .1 .0; turns = s .pre .1 .1 }, subst (λ (n : ℕ). s .args .s .place < n) (c .before .before .before .before .count-sides .ensures .0) (c .before .if1 .taken))
+search-below-requires c κs = let s = c .before .before .before .before .before .before .before .before .before in (
+  record { window = s .pre .0; pivot = c .before .before .before .before .before .before .pivot .ensures; many = s .pre .1 .0; turns = s .pre .1 .1 },
+  subst (λ (n : ℕ). s .args .s .place < n) (c .before .before .before .before .count-sides .ensures .0) (c .before .if1 .taken),
+)
 
 same-length : tie.Need-same-length
 same-length c = search needs
@@ -48,10 +52,26 @@ returns : tie.Need-returns
 returns c = search needs
 
 sub-passed : tie.Need-sub-passed
-sub-passed c = let s = c .before .before .before .before .before .before .before .before .before in let n = above-most s (c .before .before .before .before .before .before .pivot .result) in omega (arith, c .before .before .before .before .count-sides .ensures .1)
+sub-passed c = let s = c .before .before .before .before .before .before .before .before .before in
+    let n = above-most s (c .before .before .before .before .before .before .pivot .result) in
+    omega (arith, c .before .before .before .before .count-sides .ensures .1)
 
 search-above-requires : tie.Need-search-above-requires
-search-above-requires c κs = let s = c .before .before .before .before .before .before .before .before .before .before .before .before in (record { window = s .pre .0; pivot = c .before .before .before .before .before .before .before .before .before .pivot .ensures; many = s .pre .1 .0; turns = s .pre .1 .1 }, (passed-is s (c .before .before .before .before .before .before .before .before .before .pivot .result) _ (c .before .before .before .before .before .before .before .count-sides .ensures .1), c .before .if2 .taken))
+search-above-requires c κs = let s = c .before .before .before .before .before .before .before .before .before .before .before .before in (
+  record {
+    window = s .pre .0;
+    pivot = c .before .before .before .before .before .before .before .before .before .pivot .ensures;
+    many =
+        s .pre .1 .0;
+    turns =
+        s .pre .1 .1;
+  },
+  (
+    passed-is s (c .before .before .before .before .before .before .before .before .before .pivot .result) _
+        (c .before .before .before .before .before .before .before .count-sides .ensures .1),
+    c .before .if2 .taken,
+  ),
+)
 
 same-length-2 : tie.Need-same-length-2
 same-length-2 c = search needs
@@ -60,7 +80,25 @@ returns-2 : tie.Need-returns-2
 returns-2 c = search needs
 
 search-equal-requires : tie.Need-search-equal-requires
-search-equal-requires c κs = let s = c .before .before .before .before .before .before .before .before .before .before .before .before in (record { window = s .pre .0; pivot = c .before .before .before .before .before .before .before .before .before .pivot .ensures; many = s .pre .1 .0; turns = s .pre .1 .1 }, (passed-is s (c .before .before .before .before .before .before .before .before .before .pivot .result) _ (c .before .before .before .before .before .before .before .count-sides .ensures .1), (c .before .if2 .left, subst (λ (n : ℕ). n ≤ s .args .s .place) (c .before .before .before .before .before .before .before .count-sides .ensures .0) (c .before .before .before .before .if1 .left))))
+search-equal-requires c κs = let s = c .before .before .before .before .before .before .before .before .before .before .before .before in (
+  record {
+    window = s .pre .0;
+    pivot = c .before .before .before .before .before .before .before .before .before .pivot .ensures;
+    many =
+        s .pre .1 .0;
+    turns =
+        s .pre .1 .1;
+  },
+  (
+    passed-is s (c .before .before .before .before .before .before .before .before .before .pivot .result) _
+        (c .before .before .before .before .before .before .before .count-sides .ensures .1),
+    (
+      c .before .if2 .left,
+      subst (λ (n : ℕ). n ≤ s .args .s .place) (c .before .before .before .before .before .before .before .count-sides .ensures .0)
+          (c .before .before .before .before .if1 .left),
+    ),
+  ),
+)
 
 same-length-3 : tie.Need-same-length-3
 same-length-3 c = search needs

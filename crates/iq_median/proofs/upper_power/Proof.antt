@@ -42,13 +42,15 @@ returns-2 c =
     let s = c .before .before .before .before .before .before in
     let a = s .args in
     let next : (a .n - 1) / 2 + 1 ≡ a .n / 2 = omega (arith, s .pre .0 .2, c .before .before .before .before .if1 .left) in
-    sym (getD-drop (3 * a .n) (a .words .now) (a .s .place + 1) nan) ∙ s .pre .1 .1 .0 .same 1 (c .before .if2 .taken) ∙ ap (λ (i : ℕ). getD (sort lt (take (a .n) (a .words .now))) i nan) next
+    sym (getD-drop (3 * a .n) (a .words .now) (a .s .place + 1) nan) ∙ s .pre .1 .1 .0 .same 1 (c .before .if2 .taken)
+    ∙ ap (λ (i : ℕ). getD (sort lt (take (a .n) (a .words .now))) i nan) next
 
 slice-aggregate-next-power : tie.Need-slice-aggregate-next-power
 slice-aggregate-next-power c = sym (powers-count (c .before .before .before .before .before .before))
 
 next-power-requires : tie.Need-next-power-requires
-next-power-requires c κs = let s = c .before .before .before .before .before .before in let n = powers-count s in (omega (arith, s .pre .0 .2, c .before .before .before .before .if1 .left), (s .pre .1 .0, s .pre .1 .1 .1))
+next-power-requires c κs = let s = c .before .before .before .before .before .before in let n = powers-count s in
+    (omega (arith, s .pre .0 .2, c .before .before .before .before .if1 .left), (s .pre .1 .0, s .pre .1 .1 .1))
 
 returns-3 : tie.Need-returns-3
 returns-3 c =

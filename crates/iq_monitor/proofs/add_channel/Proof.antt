@@ -20,7 +20,10 @@ same-length : tie.Need-same-length
 same-length c = search needs
 
 returns : tie.Need-returns
-returns c = let s = c .before .before .before .before .before .before .before .args in let t = c .before .before .before .before .terms-of in let add = addedTerms (length (s .x .now)) (s .words .now) (s .k) in c .before .before .add-terms .ensures ∙ ap (λ (p : Float). add p (view64 (t .result .product))) (t .ensures .0) ∙ ap (add (powerIn (s .x .now) (s .k))) (t .ensures .1)
+returns c = let s = c .before .before .before .before .before .before .before .args in let t = c .before .before .before .before .terms-of in
+    let add = addedTerms (length (s .x .now)) (s .words .now) (s .k) in
+    c .before .before .add-terms .ensures ∙ ap (λ (p : Float). add p (view64 (t .result .product))) (t .ensures .0)
+    ∙ ap (add (powerIn (s .x .now) (s .k))) (t .ensures .1)
 
 pub add-channel-spec : {M : Type 1} → statement M
 add-channel-spec = tie.close (tie.spec terms-of-requires add-terms-requires same-length returns)

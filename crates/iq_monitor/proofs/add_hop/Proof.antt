@@ -32,8 +32,11 @@ kept c =
     ap length (c .loop .inv .2) ∙ length-paired (s .x .now) (c .before .before .before .add-channel .last .0) (c .loop .k) ∙ l
 
 -- channel 0 is there, and the pairs
-there : (c : tie.At-loop Inv-loop μ-loop) → let s = c .before .before .before .before .before .before .before .args in c .loop .words ≡ paired (s .x .now) (addedChannel (s .x .now) (s .words .now) 0) (c .loop .k)
-there c = c .loop .inv .2 ∙ ap (λ (l : List Float). paired (c .before .before .before .before .before .before .before .args .x .now) l (c .loop .k)) (c .before .before .before .add-channel .ensures)
+there : (c : tie.At-loop Inv-loop μ-loop) → let s = c .before .before .before .before .before .before .before .args in
+    c .loop .words ≡ paired (s .x .now) (addedChannel (s .x .now) (s .words .now) 0) (c .loop .k)
+there c = c .loop .inv .2
+    ∙ ap (λ (l : List Float). paired (c .before .before .before .before .before .before .before .args .x .now) l (c .loop .k))
+    (c .before .before .before .add-channel .ensures)
 
 add-pair-requires : tie.Need-add-pair-requires Inv-loop μ-loop
 add-pair-requires c κs =
@@ -52,8 +55,12 @@ loop-again c =
     let xs = c .before .before .before .before .before .before .before .before .before .before .before .before .args .x .now in
     let v = c .before .before .before .before .before .loop in
     let h = c .before .before .before .before .loop-test .taken in
-    let step : List Float → List Float = λ l. addedChannel xs (addedChannel xs l (v .k)) (length xs - v .k) in
-    (omega arith, omega arith, c .before .before .add-pair .ensures ∙ ap step (v .inv .2) ∙ paired-next xs (c .before .before .before .before .before .before .before .before .add-channel .last .0) (v .k) (v .inv .0) (omega arith))
+    let step : List Float → List Float = λ l. addedChannel xs (addedChannel xs l (v .k)) (length xs - v .k) in (
+      omega arith,
+      omega arith,
+      c .before .before .add-pair .ensures ∙ ap step (v .inv .2)
+          ∙ paired-next xs (c .before .before .before .before .before .before .before .before .add-channel .last .0) (v .k) (v .inv .0) (omega arith),
+    )
 
 add-if1 : tie.Need-add-if1 Inv-loop μ-loop
 add-if1 c = let i = c .before .loop .inv in omega arith
@@ -62,10 +69,12 @@ same-length : tie.Need-same-length Inv-loop μ-loop
 same-length c = kept (c .before .before)
 
 returns : tie.Need-returns Inv-loop μ-loop
-returns c = let s = c .before .before .before .before .before .before .before .before .before .args in let i = c .before .before .loop .inv in there (c .before .before) ∙ paired-all (s .x .now) (s .words .now) (c .before .before .loop .k) (omega arith)
+returns c = let s = c .before .before .before .before .before .before .before .before .before .args in let i = c .before .before .loop .inv in
+    there (c .before .before) ∙ paired-all (s .x .now) (s .words .now) (c .before .before .loop .k) (omega arith)
 
 add-channel-requires-2 : tie.Need-add-channel-requires-2 Inv-loop μ-loop
-add-channel-requires-2 c κs = let s = c .before .before .before .before .before .before .before .before .before .before in let i = c .before .before .before .loop .inv in (omega arith, (kept (c .before .before .before) ∙ s .pre .0, (s .pre .1 .0, s .pre .1 .1 .1)))
+add-channel-requires-2 c κs = let s = c .before .before .before .before .before .before .before .before .before .before in
+    let i = c .before .before .before .loop .inv in (omega arith, (kept (c .before .before .before) ∙ s .pre .0, (s .pre .1 .0, s .pre .1 .1 .1)))
 
 same-length-2 : tie.Need-same-length-2 Inv-loop μ-loop
 same-length-2 c = let k = kept (c .before .before .before .before .before .before) in omega arith
@@ -74,7 +83,9 @@ returns-2 : tie.Need-returns-2 Inv-loop μ-loop
 returns-2 c =
     let s = c .before .before .before .before .before .before .before .before .before .before .before .before .before .args in
     let v = c .before .before .before .before .before .before .loop in
-    c .before .before .add-channel2 .ensures ∙ ap (λ (l : List Float). addedChannel (s .x .now) l (v .k)) (there (c .before .before .before .before .before .before)) ∙ paired-middle (s .x .now) (s .words .now) (v .k) (v .inv .0) (omega (arith, v .inv .1))
+    c .before .before .add-channel2 .ensures
+    ∙ ap (λ (l : List Float). addedChannel (s .x .now) l (v .k)) (there (c .before .before .before .before .before .before))
+    ∙ paired-middle (s .x .now) (s .words .now) (v .k) (v .inv .0) (omega (arith, v .inv .1))
 
 pub add-hop-spec : {M : Type 1} → statement M
 add-hop-spec =

@@ -47,7 +47,8 @@ returns c =
     let n = length xs in
     let t = c .before .before .before .before .before .before .before .before .before .before .before .before .terms-of .ensures in
     let near = c .before .before .before .before .before .before .add-terms .ensures ∙ (λ i. addedTerms n (a .words .now) (a .k) (t .0 i) (t .1 i)) in
-    let p = c .before .before .before .before .before .before .before .before .norm-sqr .ensures ∙ ap (power binary64) (c .before .before .before .before .before .before .before .before .before .wide .ensures) in
+    let p = c .before .before .before .before .before .before .before .before .norm-sqr .ensures
+    ∙ ap (power binary64) (c .before .before .before .before .before .before .before .before .before .wide .ensures) in
     let z = t .1 ∙ sym (mirrored xs (a .k) (s .pre .0 .0) (omega (arith, s .pre .0))) in
     c .before .before .add-terms2 .ensures ∙ (λ i. addedTerms n (near i) (n - a .k) (p i) (z i))
 

@@ -46,11 +46,15 @@ loop-again : tie.Need-loop-again Inv-loop μ-loop
 loop-again c =
     let l = c .before .before .before .before .before .args .words .now in
     let v = c .before .before .before .loop in
-    let b = bit (not (c .word-fits .result)) in
-    (omega arith, omega arith, none-next sumFits nan l (v .k) (v .others) (c .word-fits .result) (c .before .before .loop-test .taken) (c .word-fits .ensures) (v .inv .2))
+    let b = bit (not (c .word-fits .result)) in (
+      omega arith,
+      omega arith,
+      none-next sumFits nan l (v .k) (v .others) (c .word-fits .result) (c .before .before .loop-test .taken) (c .word-fits .ensures) (v .inv .2),
+    )
 
 returns : tie.Need-returns Inv-loop μ-loop
-returns c = let v = c .before .loop in good-done sumFits (c .before .before .before .args .words .now) (v .k) (eqb (v .others) 0) (c .loop-test .left) (v .inv .2)
+returns c = let v = c .before .loop in
+    good-done sumFits (c .before .before .before .args .words .now) (v .k) (eqb (v .others) 0) (c .loop-test .left) (v .inv .2)
 
 pub all-fit-spec : {M : Type 1} → statement M
 all-fit-spec =

@@ -20,7 +20,8 @@ window-length-requires c κs = search needs
 
 returns : tie.Need-returns
 unfolding full
-returns c = let a = c .before .before .args in sym (lt-leb (windowLength (a .fs)) (a .end - a .first) (let l = positive (a .fs) in omega (arith, c .if1 .taken)))
+returns c = let a = c .before .before .args in
+    sym (lt-leb (windowLength (a .fs)) (a .end - a .first) (let l = positive (a .fs) in omega (arith, c .if1 .taken)))
 
 returns-2 : tie.Need-returns-2
 unfolding full

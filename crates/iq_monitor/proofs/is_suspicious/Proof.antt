@@ -16,15 +16,32 @@ returns-2 c = let a = c .before .before .args in simp (not-false (lt zeroF (a .p
 
 returns-3 : tie.Need-returns-3
 unfolding suspicious
-returns-3 c = let a = c .before .before .before .args in simp (not-false (lt zeroF (a .p)) (c .before .before .if1 .left), not-false (lt zeroF (a .q)) (c .before .if2 .left), not-true (le (mul binary64 thousand (a .floor)) (a .p)) (c .if3 .taken))
+returns-3 c = let a = c .before .before .before .args in
+    simp (
+      not-false (lt zeroF (a .p)) (c .before .before .if1 .left),
+      not-false (lt zeroF (a .q)) (c .before .if2 .left),
+      not-true (le (mul binary64 thousand (a .floor)) (a .p)) (c .if3 .taken),
+    )
 
 returns-4 : tie.Need-returns-4
 unfolding suspicious
-returns-4 c = let a = c .before .before .before .before .args in simp (not-false (lt zeroF (a .p)) (c .before .before .before .if1 .left), not-false (lt zeroF (a .q)) (c .before .before .if2 .left), not-false (le (mul binary64 thousand (a .floor)) (a .p)) (c .before .if3 .left), not-true (le (mul binary64 mirrorRatio (a .floor)) (a .q)) (c .if4 .taken))
+returns-4 c = let a = c .before .before .before .before .args in
+    simp (
+      not-false (lt zeroF (a .p)) (c .before .before .before .if1 .left),
+      not-false (lt zeroF (a .q)) (c .before .before .if2 .left),
+      not-false (le (mul binary64 thousand (a .floor)) (a .p)) (c .before .if3 .left),
+      not-true (le (mul binary64 mirrorRatio (a .floor)) (a .q)) (c .if4 .taken),
+    )
 
 returns-5 : tie.Need-returns-5
 unfolding suspicious
-returns-5 c = let a = c .before .before .before .before .args in simp (not-false (lt zeroF (a .p)) (c .before .before .before .if1 .left), not-false (lt zeroF (a .q)) (c .before .before .if2 .left), not-false (le (mul binary64 thousand (a .floor)) (a .p)) (c .before .if3 .left), not-false (le (mul binary64 mirrorRatio (a .floor)) (a .q)) (c .if4 .left))
+returns-5 c = let a = c .before .before .before .before .args in
+    simp (
+      not-false (lt zeroF (a .p)) (c .before .before .before .if1 .left),
+      not-false (lt zeroF (a .q)) (c .before .before .if2 .left),
+      not-false (le (mul binary64 thousand (a .floor)) (a .p)) (c .before .if3 .left),
+      not-false (le (mul binary64 mirrorRatio (a .floor)) (a .q)) (c .if4 .left),
+    )
 
 pub is-suspicious-spec : {M : Type 1} → statement M
 is-suspicious-spec = tie.close (tie.spec returns returns-2 returns-3 returns-4 returns-5)

@@ -6,7 +6,7 @@ use mathlib.Core.List.{List}
 use lib.ListN.{length, getD, take}
 use lib.Ieee.{Float, nan}
 use Rattle.iq_monitor.specs.Observe.{powerAt, crossIn}
-use Rattle.rules.specs.Monitor.{coherenceOf}
+use Rattle.rules.specs.Monitor.{coherenceOf, channelWidth}
 use Rattle.rules.specs.Constants.{zeroF}
 use lib.Seq.{getD-take}
 use Rattle.rules.specs.laws.ListLaws.{read-any}
@@ -15,7 +15,7 @@ use borrow.Author.Needs.{needs}
 use Rattle.iq_monitor.proofs.pair_at.Statement.{statement}
 use Rattle.iq_monitor.proofs.pair_at.Tie as tie
 
-power-read : (ws : List Float) (n i : ℕ) → length ws ≡ 4 * n → i < n → getD ws i nan ≡ powerAt (take n ws) i
+power-read : (ws : List Float) (n i : ℕ) → length ws ≡ channelWidth * n → i < n → getD ws i nan ≡ powerAt (take n ws) i
 power-read ws n i len h = read-any ws i nan zeroF (omega arith) ∙ sym (getD-take n ws i zeroF h)
 
 mirror-requires : tie.Need-mirror-requires
@@ -66,7 +66,8 @@ returns c =
     let m = c .before .before .before .before .before .mirror in
     let p = power-read ws n k (s .pre .0) (s .pre .1 .1) in
     let q = power-read ws n (m .result) (s .pre .0) (mirror-lt _ _ _ (m .ensures) (s .pre .1 .1)) ∙ ap (powerAt (take n ws)) (m .ensures) in
-    let r = c .coherence .ensures ∙ ap (λ (x : Float). coherenceOf (crossIn n ws k) x (getD ws (m .result) nan)) p ∙ ap (coherenceOf (crossIn n ws k) (powerAt (take n ws) k)) q in
+    let r = c .coherence .ensures ∙ ap (λ (x : Float). coherenceOf (crossIn n ws k) x (getD ws (m .result) nan)) p
+    ∙ ap (coherenceOf (crossIn n ws k) (powerAt (take n ws) k)) q in
     λ i. record { p = p i; q = q i; coherence = r i }
 
 pub pair-at-spec : {M : Type 1} → statement M

@@ -17,10 +17,12 @@ returns : tie.Need-returns
 returns c = let s = c .before .before .before .args in ap (λ (b : Strongest). pairIn (s .n) (s .words .now) (choice b)) (sym (c .enum-told .given .1))
 
 pair-at-requires : tie.Need-pair-at-requires
-pair-at-requires c κs = let s = c .before .before .before .before in (s .pre .0, (s .pre .1 .0, subst (λ (b : Strongest). Among (s .args .n) b) (c .before .best .given .1) (s .pre .1 .1)))
+pair-at-requires c κs = let s = c .before .before .before .before in
+    (s .pre .0, (s .pre .1 .0, subst (λ (b : Strongest). Among (s .args .n) b) (c .before .best .given .1) (s .pre .1 .1)))
 
 returns-2 : tie.Need-returns-2
-returns-2 c = let s = c .before .before .before .before .before .args in c .pair-at .ensures ∙ ap (λ (b : Strongest). pairIn (s .n) (s .words .now) (choice b)) (sym (c .before .before .best .given .1))
+returns-2 c = let s = c .before .before .before .before .before .args in
+    c .pair-at .ensures ∙ ap (λ (b : Strongest). pairIn (s .n) (s .words .now) (choice b)) (sym (c .before .before .best .given .1))
 
 pub pair-of-spec : {M : Type 1} → statement M
 pair-of-spec = tie.close (tie.spec enum-known-best enum-told returns pair-at-requires returns-2)

@@ -18,8 +18,10 @@ use Rattle.iq_monitor.proofs.report.Tie as tie
 powers-count : (c : tie.Start) → length (take (c .args .n) (c .args .words .now)) ≡ c .args .n
 powers-count c = length-take-le (c .args .n) (c .args .words .now) (omega (arith, c .pre .0))
 
-made : (n : ℕ) (ws : List Float) (first end : ℕ) (pair : Pair) (floor : Float) (s : Bool) → pair ≡ pairIn n ws (strongest n (powerAt (take n ws)) n) → floor ≡ floorOf (take n ws) → s ≡ suspicious floor (pair .p) (pair .q)
-    → _≡_ {A = Evidence} (record { start = first; end = end; suspected = s; coherence = pair .coherence; floor = floor; strongest = pair .p; mirror = pair .q }) (evidence (reportIn n ws first end))
+made : (n : ℕ) (ws : List Float) (first end : ℕ) (pair : Pair) (floor : Float) (s : Bool) → pair ≡ pairIn n ws (strongest n (powerAt (take n ws)) n)
+    → floor ≡ floorOf (take n ws) → s ≡ suspicious floor (pair .p) (pair .q)
+    → _≡_ {A = Evidence} (record { start = first; end = end; suspected = s; coherence = pair .coherence; floor = floor; strongest = pair .p; mirror = pair .q })
+    (evidence (reportIn n ws first end))
 unfolding reportIn reported
 made n ws first end pair floor s e f t =
     let u = t ∙ ap (λ (x : Float). suspicious x (pair .p) (pair .q)) f ∙ ap (λ (r : Pair). suspicious (floorOf (take n ws)) (r .p) (r .q)) e in
@@ -35,7 +37,8 @@ strongest-channel-requires : tie.Need-strongest-channel-requires
 strongest-channel-requires c κs = let s = c .before .before in let e = powers-count s in omega (arith, s .pre .1 .0)
 
 pair-of-requires : tie.Need-pair-of-requires
-pair-of-requires c κs = let s = c .before .before .before .before in let best = c .before .strongest-channel in (s .pre .0, (s .pre .1 .0, subst (λ (m : ℕ). Among m (best .result)) (powers-count s) (best .ensures .1)))
+pair-of-requires c κs = let s = c .before .before .before .before in let best = c .before .strongest-channel in
+    (s .pre .0, (s .pre .1 .0, subst (λ (m : ℕ). Among m (best .result)) (powers-count s) (best .ensures .1)))
 
 floor-power-requires : tie.Need-floor-power-requires
 floor-power-requires c κs = search needs
@@ -51,8 +54,10 @@ returns c =
     let s = c .before .before .before .before .before .before .before .before .before .before in
     let ws = s .args .words .now in
     let n = s .args .n in
-    let best = c .before .before .before .before .before .before .before .strongest-channel .ensures .0 ∙ ap (λ (m : ℕ). strongest m (powerAt (take n ws)) m) (powers-count s) in
-    made n ws _ _ _ _ _ (c .before .before .before .before .before .pair-of .ensures ∙ ap (pairIn n ws) best) (c .before .before .before .floor-power .ensures) (c .is-suspicious .ensures)
+    let best = c .before .before .before .before .before .before .before .strongest-channel .ensures .0
+    ∙ ap (λ (m : ℕ). strongest m (powerAt (take n ws)) m) (powers-count s) in
+    made n ws _ _ _ _ _ (c .before .before .before .before .before .pair-of .ensures ∙ ap (pairIn n ws) best) (c .before .before .before .floor-power .ensures)
+    (c .is-suspicious .ensures)
 
 pub report-spec : {M : Type 1} → statement M
 report-spec =

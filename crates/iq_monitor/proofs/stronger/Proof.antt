@@ -21,7 +21,8 @@ returns : tie.Need-returns
 returns c = let s = c .before .before .before in (told (s .args .powers .now) (s .args .j) (s .args .k) true (s .pre .0) (s .pre .1) (c .if1 .taken), s .pre .0)
 
 returns-2 : tie.Need-returns-2
-returns-2 c = let s = c .before .before .before in (told (s .args .powers .now) (s .args .j) (s .args .k) false (s .pre .0) (s .pre .1) (c .if1 .left), s .pre .1)
+returns-2 c = let s = c .before .before .before in
+    (told (s .args .powers .now) (s .args .j) (s .args .k) false (s .pre .0) (s .pre .1) (c .if1 .left), s .pre .1)
 
 pub stronger-spec : {M : Type 1} → statement M
 stronger-spec =

@@ -32,8 +32,13 @@ loop-again : tie.Need-loop-again Inv-loop μ-loop
 loop-again c =
     let s = c .before .before .before .before in
     let v = c .before .before .loop in
-    let h = c .before .loop-test .taken in
-    (omega arith, omega arith, c .stronger .ensures .1, c .stronger .ensures .0 ∙ next-strongest (s .args .powers .now) (v .best) (v .k) (s .pre .1 .1 .1 .0 (v .k) (v .inv .0) h) (v .inv .3))
+    let h = c .before .loop-test .taken in (
+      omega arith,
+      omega arith,
+      c .stronger .ensures .1,
+      c .stronger .ensures .0
+          ∙ next-strongest (s .args .powers .now) (v .best) (v .k) (s .pre .1 .1 .1 .0 (v .k) (v .inv .0) h) (v .inv .3),
+    )
 
 returns : tie.Need-returns Inv-loop μ-loop
 returns c =

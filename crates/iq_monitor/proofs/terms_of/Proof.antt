@@ -28,10 +28,12 @@ mul-wide-2 : tie.Need-mul-wide-2
 mul-wide-2 c = let s = c .before .before .before .before in let h = mirror-lt _ _ _ (c .before .before .mirror .ensures) (s .pre .0) in omega arith
 
 shared-slice-read-wide-2 : tie.Need-shared-slice-read-wide-2
-shared-slice-read-wide-2 c = let s = c .before .before .before .before .before in let h = mirror-lt _ _ _ (c .before .before .before .mirror .ensures) (s .pre .0) in omega (arith, s .pre .0)
+shared-slice-read-wide-2 c = let s = c .before .before .before .before .before in
+    let h = mirror-lt _ _ _ (c .before .before .before .mirror .ensures) (s .pre .0) in omega (arith, s .pre .0)
 
 wide-requires-2 : tie.Need-wide-requires-2
-wide-requires-2 c κs = let s = c .before .before .before .before .before in let h = mirror-lt _ _ _ (c .before .before .before .mirror .ensures) (s .pre .0) in within-number (s .args .x .now) _ (s .pre .1) (omega (arith, s .pre .0))
+wide-requires-2 c κs = let s = c .before .before .before .before .before in let h = mirror-lt _ _ _ (c .before .before .before .mirror .ensures) (s .pre .0) in
+    within-number (s .args .x .now) _ (s .pre .1) (omega (arith, s .pre .0))
 
 norm-sqr-requires : tie.Need-norm-sqr-requires
 norm-sqr-requires c κs = search needs
@@ -45,8 +47,11 @@ returns c =
     let x = s .x .now in
     let m = c .before .before .before .before .before .before .mirror in
     let v = c .before .before .before .before .wide .ensures in
-    let w = c .before .before .wide2 .ensures ∙ ap (λ (i : ℕ). sampleOf (at x i)) (m .ensures) in
-    (c .before .norm-sqr .ensures ∙ ap (power binary64) v, ap view64 (c .mul .ensures) ∙ ap (λ (z : Complex). product binary64 z (view64 (c .before .before .wide2 .result))) v ∙ ap (product binary64 (sampleOf (at x (s .k)))) w)
+    let w = c .before .before .wide2 .ensures ∙ ap (λ (i : ℕ). sampleOf (at x i)) (m .ensures) in (
+      c .before .norm-sqr .ensures ∙ ap (power binary64) v,
+      ap view64 (c .mul .ensures)
+          ∙ ap (λ (z : Complex). product binary64 z (view64 (c .before .before .wide2 .result))) v ∙ ap (product binary64 (sampleOf (at x (s .k)))) w,
+    )
 
 pub terms-of-spec : {M : Type 1} → statement M
 terms-of-spec =

@@ -12,7 +12,9 @@ use Rattle.complex.specs.Complex.{Complex}
 use Rattle.rules.specs.Constants.{zeroF}
 use Rattle.rules.specs.Lists.{upTo}
 use Rattle.rules.specs.laws.ListLaws.{length-upTo, getD-upTo}
-use Rattle.rules.specs.Monitor.{Hop, hopEnd, Choice, nobody, channelAt, eligible, stronger, strongest, pairOf, Pair, Report, reported, suspicious, floorOf, powerSum, realSum, imagSum, windowLength, windowStart, due, reportOf, Answer, noReport, report, answerTo, nextWindow, answers, openWindow, monitorWords}
+use Rattle.rules.specs.Monitor.{Hop, hopEnd, Choice, nobody, channelAt, eligible, stronger, strongest, pairOf, Pair, Report, reported, suspicious, floorOf}
+use Rattle.rules.specs.Monitor.{powerSum, realSum, imagSum, windowLength, windowStart, due, reportOf, Answer, noReport, report, answerTo, nextWindow, answers}
+use Rattle.rules.specs.Monitor.{openWindow, monitorWords, channelWidth}
 use Rattle.rules.specs.Refusals.{badStart}
 use Rattle.iq_monitor.specs.declared.Begun.the-variants.{Never, At}
 use Rattle.iq_monitor.specs.declared.HopAnswer.the-variants as answer
@@ -48,7 +50,8 @@ strongest-below n P (suc k) = go (eligible n k) (strongest n P k) (strongest-bel
     go true c h = better c h
     go false c h = weaken c h
 
-reported-same : (n : ℕ) (ps : List Float) (C D : ℕ → Complex) (first end : ℕ) → ((k : ℕ) → k < n → C k ≡ D k) → reported n ps C first end ≡ reported n ps D first end
+reported-same : (n : ℕ) (ps : List Float) (C D : ℕ → Complex) (first end : ℕ) → ((k : ℕ) → k < n → C k ≡ D k)
+    → reported n ps C first end ≡ reported n ps D first end
 unfolding reported
 reported-same n ps C D first end h = ap finish (same (strongest n (powerAt ps) n) (strongest-below n (powerAt ps) n))
   where
@@ -57,7 +60,17 @@ reported-same n ps C D first end h = ap finish (same (strongest n (powerAt ps) n
     same (channelAt k) b = ap (λ (z : Complex). pairOf n (powerAt ps) (λ i. z) (channelAt k)) (h k b)
 
     finish : Pair → Report
-    finish p = record { start = first; end = end; suspected = suspicious (floorOf ps) (p .p) (p .q); coherence = p .coherence; floor = floorOf ps; strongest = p .p; mirror = p .q }
+    finish p =
+        record {
+          start = first;
+          end = end;
+          suspected = suspicious (floorOf ps) (p .p) (p .q);
+          coherence = p .coherence;
+          floor = floorOf ps;
+          strongest =
+              p .p;
+          mirror = p .q;
+        }
 
 -- ---- the report from a window's words
 
@@ -85,7 +98,8 @@ cross-is n w k h =
     ∙ getD-upTo nan (imagSum n w) n k h in
     λ i. record { re = re i; im = im i }
 
-report-is : (n : ℕ) (w : List Hop) (first end : ℕ) → reportIn n (monitorWords n w) first end ≡ reported n (upTo (powerSum w) n) (λ k. record { re = realSum n w k; im = imagSum n w k }) first end
+report-is : (n : ℕ) (w : List Hop) (first end : ℕ)
+    → reportIn n (monitorWords n w) first end ≡ reported n (upTo (powerSum w) n) (λ k. record { re = realSum n w k; im = imagSum n w k }) first end
 unfolding reportIn
 report-is n w first end =
     ap (λ (ps : List Float). reported n ps (crossIn n (monitorWords n w)) first end) (powers-are n w)
@@ -97,7 +111,11 @@ report-is n w first end =
 abbrev seenBy : ℕ → Bool → List Hop → Hop → Seen
 seenBy n t w h =
     let next = cond t [] (w ++ (h ∷ [])) in
-    record { seen = record { monitor = windowState next (hopEnd n h); answer = answerOf (cond t (report (reportOf n w h)) noReport) }; words = monitorWords n next }
+    record {
+      seen = record { monitor = windowState next (hopEnd n h); answer = answerOf (cond t (report (reportOf n w h)) noReport) };
+      words =
+          monitorWords n next;
+    }
 
 abbrev pub stepped : ℕ → ℕ → List Hop → Hop → Seen
 stepped n enough w h =
@@ -128,27 +146,33 @@ hop-seen fs w end h false =
     let s = ap (λ (f : ℕ). monitorOf (At f) (hopEnd n h)) (start-is w end h) ∙ state-is w h (hopEnd n h) in
     λ i. record { seen = record { monitor = s i; answer = answer.NoReport }; words = added-words n w h refl i }
 
-accepted-step : (fs : Float) (w : List Hop) (end : ℕ) (h : Hop) → let n = length (h .channels) in acceptedOf (windowState w end) fs (h .channels) (h .start) (monitorWords n w) ≡ stepped n (windowLength fs) w h
+accepted-step : (fs : Float) (w : List Hop) (end : ℕ) (h : Hop) → let n = length (h .channels) in
+    acceptedOf (windowState w end) fs (h .channels) (h .start) (monitorWords n w) ≡ stepped n (windowLength fs) w h
 unfolding full
 accepted-step fs w end h =
     let n = length (h .channels) in
     let t = due n (windowLength fs) w h in
-    accepted-by t (windowState w end) fs (h .channels) (h .start) (monitorWords n w) (ap (λ (f : ℕ). leb (windowLength fs) (hopEnd n h - f)) (start-is w end h)) ∙ hop-seen fs w end h t
+    accepted-by t (windowState w end) fs (h .channels) (h .start) (monitorWords n w) (ap (λ (f : ℕ). leb (windowLength fs) (hopEnd n h - f)) (start-is w end h))
+    ∙ hop-seen fs w end h t
 
 end-is : (w : List Hop) (end : ℕ) → end ≡ windowState w end .end
 end-is [] end = refl
 end-is (g ∷ w) end = refl
 
 -- A HOP THAT IS ACCEPTED leads from the window w to the rules' next window, with the rules' answer
-pub one-hop : (fs : Float) (n : ℕ) (w : List Hop) (end : ℕ) (h : Hop) → Accepted n end h → observed (windowState w end) fs n (h .channels) (h .start) (monitorWords n w) ≡ stepped n (windowLength fs) w h
+pub one-hop : (fs : Float) (n : ℕ) (w : List Hop) (end : ℕ) (h : Hop) → Accepted n end h
+    → observed (windowState w end) fs n (h .channels) (h .start) (monitorWords n w) ≡ stepped n (windowLength fs) w h
 one-hop fs n w end h a =
-    observed-by (windowState w end) fs n (h .channels) (h .start) (monitorWords n w) false false false (a .some) (ap (λ (e : ℕ). badStart e (h .start) .holds) (sym (end-is w end)) ∙ a .start) (a .parts)
-    ∙ subst (λ (m : ℕ). acceptedOf (windowState w end) fs (h .channels) (h .start) (monitorWords m w) ≡ stepped m (windowLength fs) w h) (is-some n (h .channels) (a .some) .0) (accepted-step fs w end h)
+    observed-by (windowState w end) fs n (h .channels) (h .start) (monitorWords n w) false false false (a .some)
+    (ap (λ (e : ℕ). badStart e (h .start) .holds) (sym (end-is w end)) ∙ a .start) (a .parts)
+    ∙ subst (λ (m : ℕ). acceptedOf (windowState w end) fs (h .channels) (h .start) (monitorWords m w) ≡ stepped m (windowLength fs) w h)
+    (is-some n (h .channels) (a .some) .0) (accepted-step fs w end h)
 
 -- ---- a list of hops
 
 -- from any window
-pub hops-seen : (fs : Float) (n : ℕ) (w : List Hop) (end : ℕ) (hs : List Hop) → InOrder n end hs → watched fs n (windowState w end) (monitorWords n w) hs ≡ byRules fs n w end hs
+pub hops-seen : (fs : Float) (n : ℕ) (w : List Hop) (end : ℕ) (hs : List Hop) → InOrder n end hs
+    → watched fs n (windowState w end) (monitorWords n w) hs ≡ byRules fs n w end hs
 unfolding watched answers openWindow lastEnd
 hops-seen fs n w end [] o = refl
 hops-seen fs n w end (h ∷ hs) o =
@@ -157,7 +181,7 @@ hops-seen fs n w end (h ∷ hs) o =
     ∙ ap (followed (stepped n enough w h)) (hops-seen fs n (nextWindow n enough w h) (hopEnd n h) hs (o .1))
 
 -- THE EVIDENCE, from a fresh monitor and words of 0
-pub evidence-is : (fs : Float) (n : ℕ) (hs : List Hop) → InOrder n 0 hs → watched fs n fresh (replicate (4 * n) zeroF) hs ≡ byRules fs n [] 0 hs
+pub evidence-is : (fs : Float) (n : ℕ) (hs : List Hop) → InOrder n 0 hs → watched fs n fresh (replicate (channelWidth * n) zeroF) hs ≡ byRules fs n [] 0 hs
 evidence-is fs n hs o = ap (λ (ws : List Float). watched fs n fresh ws hs) (sym (no-words n)) ∙ hops-seen fs n [] 0 hs o
 
 -- ---- hops after hops, by the rules

@@ -14,9 +14,11 @@ use Rattle.amplitude_limit.specs.Limit.{returned}
 use Rattle.iq_monitor.specs.declared.HopAnswer.the-variants as answer
 use Rattle.iq_monitor.specs.declared.ImageMonitor.{ImageMonitor}
 use Rattle.iq_monitor.specs.Words.{addedHop}
-use Rattle.iq_monitor.specs.Observe.{Seen, reportIn, said, refusedOr, hopReturned, answerIn, hopSaid, firstOr, endOf, full, closing, adding, acceptedOf, leaving, isNone, observed}
+use Rattle.iq_monitor.specs.Observe.{Seen, reportIn, said, refusedOr, hopReturned, answerIn, hopSaid, firstOr, endOf, full, closing, adding, acceptedOf}
+use Rattle.iq_monitor.specs.Observe.{leaving, isNone, observed}
 
-pub accepted-by : (t : Bool) (m : ImageMonitor) (fs : Float) (xs : List ℕ) (start : ℕ) (ws : List Float) → full fs (firstOr (m .first) start) (endOf xs start) ≡ t
+pub accepted-by : (t : Bool) (m : ImageMonitor) (fs : Float) (xs : List ℕ) (start : ℕ) (ws : List Float)
+    → full fs (firstOr (m .first) start) (endOf xs start) ≡ t
     → acceptedOf m fs xs start ws ≡ cond t (closing m xs start ws) (adding m xs start ws)
 unfolding acceptedOf
 accepted-by t m fs xs start ws e = ap (λ (b : Bool). cond b (closing m xs start ws) (adding m xs start ws)) e
@@ -24,7 +26,9 @@ accepted-by t m fs xs start ws e = ap (λ (b : Bool). cond b (closing m xs start
 module _ (m : ImageMonitor) (fs : Float) (n : ℕ) (xs : List ℕ) (start : ℕ) (ws : List Float) where
   -- the answers to the three tests
   pub observed-by : (a b d : Bool) → isNone n xs ≡ a → badStart (m .end) start .holds ≡ b → anyBeyond xs .holds ≡ d
-      → observed m fs n xs start ws ≡ cond a (leaving m ws answer.Nothing) (cond b (leaving m ws answer.Early) (cond d (leaving m ws (answer.Beyond (firstBeyondFrom 0 xs))) (acceptedOf m fs xs start ws)))
+      → observed m fs n xs start ws
+      ≡ cond a (leaving m ws answer.Nothing)
+      (cond b (leaving m ws answer.Early) (cond d (leaving m ws (answer.Beyond (firstBeyondFrom 0 xs))) (acceptedOf m fs xs start ws)))
   unfolding observed
   observed-by a b d e f g =
       let late : Bool → Seen = λ t. cond t (leaving m ws (answer.Beyond (firstBeyondFrom 0 xs))) (acceptedOf m fs xs start ws) in
@@ -37,7 +41,9 @@ module _ (m : ImageMonitor) (fs : Float) (n : ℕ) (xs : List ℕ) (start : ℕ)
   said-accepted true = refl
   said-accepted false = refl
 
-  said-by : (a b d : Bool) → said (cond a (leaving m ws answer.Nothing) (cond b (leaving m ws answer.Early) (cond d (leaving m ws (answer.Beyond (firstBeyondFrom 0 xs))) (acceptedOf m fs xs start ws))) .seen .answer)
+  said-by : (a b d : Bool)
+      → said (cond a (leaving m ws answer.Nothing)
+      (cond b (leaving m ws answer.Early) (cond d (leaving m ws (answer.Beyond (firstBeyondFrom 0 xs))) (acceptedOf m fs xs start ws))) .seen .answer)
       ≡ cond a nothing (refusedOr (returned (cond b 9 (cond d 7 0)) (firstBeyondFrom 0 xs)) (answerIn m fs xs start ws))
   unfolding acceptedOf answerIn returned
   said-by true b d = refl

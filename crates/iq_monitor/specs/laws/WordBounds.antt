@@ -18,11 +18,12 @@ use Rattle.ieee.specs.Plain.{signClear}
 use Rattle.complex.specs.Complex.{Complex, power, product, sampleOf}
 use Rattle.amplitude_limit.specs.laws.LimitLaws.{first-place}
 use Rattle.rules.specs.laws.SizeLaws.{size-within, within-size}
-use Rattle.rules.specs.Constants.{zeroF, partLimit, wordLimit}
+use Rattle.rules.specs.Constants.{zeroF, partLimit, wordLimit, sizeLimit}
 use Rattle.rules.specs.Guard.{magnitude}
 use Rattle.rules.specs.Lists.{at, upTo, All}
 use Rattle.rules.specs.Refusals.{withinLimit, firstBeyondFrom}
-use Rattle.rules.specs.Monitor.{Hop, hopEnd, channel, mirrorOf, channelPower, channelProduct, total, powerSum, realSum, imagSum, windowStart, due, nextWindow, openWindow, windowLength, monitorWords}
+use Rattle.rules.specs.Monitor.{Hop, hopEnd, channel, mirrorOf, channelPower, channelProduct, total, powerSum, realSum, imagSum, windowStart, due, nextWindow}
+use Rattle.rules.specs.Monitor.{openWindow, windowLength, monitorWords}
 use Rattle.rules.specs.Lists.{allOf}
 use Rattle.iq_monitor.specs.Words.{sumFits, powerFits, wordsFit}
 use Rattle.rules.specs.Lists.{allOf}
@@ -81,7 +82,8 @@ within-number (fin s m e) a c w = tt
 power-clear : (z : Complex) → Given z → T (signClear (power binary64 z))
 unfolding power
 power-clear z g =
-    add-clear binary64 (mul binary64 (z .re) (z .re)) (mul binary64 (z .im) (z .im)) (square-clear binary64 (z .re) (within-number (z .re) (2 ^ 60) 1 (g .0))) (square-clear binary64 (z .im) (within-number (z .im) (2 ^ 60) 1 (g .1)))
+    add-clear binary64 (mul binary64 (z .re) (z .re)) (mul binary64 (z .im) (z .im)) (square-clear binary64 (z .re) (within-number (z .re) (2 ^ 60) 1 (g .0)))
+    (square-clear binary64 (z .im) (within-number (z .im) (2 ^ 60) 1 (g .1)))
 
 -- ---- a hop
 
@@ -111,9 +113,11 @@ zero-clear : T (signClear zeroF)
 unfolding ofBits
 zero-clear = tt
 
-sum-within : (n : ℕ) (f : Hop → Float) → ((h : Hop) → Heard n h → Small (f h)) → (w : List Hop) → All (Heard n) w → length w ≤ 2 ^ 52 → Within (total (map f w)) (length w * 2 ^ 121) 1
+sum-within : (n : ℕ) (f : Hop → Float) → ((h : Hop) → Heard n h → Small (f h)) → (w : List Hop) → All (Heard n) w → length w ≤ 2 ^ 52
+    → Within (total (map f w)) (length w * 2 ^ 121) 1
 unfolding total
-sum-within n f F w g l = subst (λ (j : ℕ). Within (foldl (add binary64) zeroF (map f w)) (j * 2 ^ 121) 1) (zero-add (length w)) (go zeroF 0 w zero-within g (omega arith))
+sum-within n f F w g l =
+    subst (λ (j : ℕ). Within (foldl (add binary64) zeroF (map f w)) (j * 2 ^ 121) 1) (zero-add (length w)) (go zeroF 0 w zero-within g (omega arith))
   where
     same : (k m : ℕ) → suc k + m ≡ k + suc m
     same k m = omega arith
@@ -121,12 +125,14 @@ sum-within n f F w g l = subst (λ (j : ℕ). Within (foldl (add binary64) zeroF
     few : (k m : ℕ) → k + suc m ≤ 2 ^ 52 → suc k < 2 ^ 53
     few k m h = omega arith
 
-    go : (x : Float) (k : ℕ) (w : List Hop) → Within x (k * 2 ^ 121) 1 → All (Heard n) w → k + length w ≤ 2 ^ 52 → Within (foldl (add binary64) x (map f w)) ((k + length w) * 2 ^ 121) 1
+    go : (x : Float) (k : ℕ) (w : List Hop) → Within x (k * 2 ^ 121) 1 → All (Heard n) w → k + length w ≤ 2 ^ 52
+        → Within (foldl (add binary64) x (map f w)) ((k + length w) * 2 ^ 121) 1
     go x k [] h g l = subst (λ (j : ℕ). Within x (j * 2 ^ 121) 1) (let e : k ≡ k + 0 = omega arith in e) h
     go x k (a ∷ w) h g l =
         subst (λ (j : ℕ). Within (foldl (add binary64) (add binary64 x (f a)) (map f w)) (j * 2 ^ 121) 1) (same k (length w))
         (go (add binary64 x (f a)) (suc k) w
-        (add-within binary64 x (f a) (k * 2 ^ 121) (2 ^ 121) (suc k * 2 ^ 121) 1 (lit< tt) (scaled-value binary64 (suc k) 121 (few k (length w) l) (lit≤ tt)) (le-of-eq (sym (suc-mul k (2 ^ 121)))) h (F a (g .0))) (g .1) (omega arith))
+        (add-within binary64 x (f a) (k * 2 ^ 121) (2 ^ 121) (suc k * 2 ^ 121) 1 (lit< tt) (scaled-value binary64 (suc k) 121 (few k (length w) l) (lit≤ tt))
+        (le-of-eq (sym (suc-mul k (2 ^ 121)))) h (F a (g .0))) (g .1) (omega arith))
 
 sum-clear : (n : ℕ) (f : Hop → Float) → ((h : Hop) → Heard n h → T (signClear (f h))) → (w : List Hop) → All (Heard n) w → T (signClear (total (map f w)))
 unfolding total
@@ -166,7 +172,9 @@ module _ (n end : ℕ) (w : List Hop) (s : Sound n end w) (k : ℕ) (h : k < n) 
 
   crossed : (g : Hop) → Heard n g → Small (channelProduct n k g .re) × Small (channelProduct n k g .im)
   unfolding channelProduct
-  crossed g p = product-within (channel g k) (channel g (mirrorOf n k)) (given (at (g .channels) k) (p k h)) (given (at (g .channels) (mirrorOf n k)) (p (mirrorOf n k) (mirror-below n k h)))
+  crossed g p =
+      product-within (channel g k) (channel g (mirrorOf n k)) (given (at (g .channels) k) (p k h))
+      (given (at (g .channels) (mirrorOf n k)) (p (mirrorOf n k) (mirror-below n k h)))
 
   pub real-bounded : Bounded end w (realSum n w k)
   unfolding realSum
@@ -218,10 +226,16 @@ pub words-fit : (n end : ℕ) (w : List Hop) → Sound n end w → wordsFit n (m
 unfolding wordsFit
 words-fit n end w s =
     let e : end - windowStart w ≤ 2 ^ 48 + 512 = omega (arith, s .late) in
-    let p : allOf powerFits (take n (monitorWords n w)) ≡ true = ap (allOf powerFits) (powers-are n w) ∙ all-up-to powerFits (powerSum w) n (λ k h. power-fits (powerSum w k) (power-sign n end w s k h) (fitting (end - windowStart w) (powerSum w k) e (power-bounded n end w s k h))) in
-    let r = all-up-to sumFits (realSum n w) n (λ k h. sum-fits (realSum n w k) (fitting (end - windowStart w) (realSum n w k) e (real-bounded n end w s k h))) in
-    let m = all-up-to sumFits (imagSum n w) n (λ k h. sum-fits (imagSum n w k) (fitting (end - windowStart w) (imagSum n w k) e (imag-bounded n end w s k h))) in
-    let o : allOf sumFits (drop n (monitorWords n w)) ≡ true = ap (allOf sumFits) (others-are n w) ∙ all-and sumFits (upTo (realSum n w) n) (upTo (imagSum n w) n ++ replicate n zeroF) r (all-and sumFits (upTo (imagSum n w) n) (replicate n zeroF) m (all-zeros n)) in
+    let p : allOf powerFits (take n (monitorWords n w)) ≡ true = ap (allOf powerFits) (powers-are n w)
+    ∙ all-up-to powerFits (powerSum w) n
+    (λ k h. power-fits (powerSum w k) (power-sign n end w s k h) (fitting (end - windowStart w) (powerSum w k) e (power-bounded n end w s k h))) in
+    let r = all-up-to sumFits (realSum n w) n
+    (λ k h. sum-fits (realSum n w k) (fitting (end - windowStart w) (realSum n w k) e (real-bounded n end w s k h))) in
+    let m = all-up-to sumFits (imagSum n w) n
+    (λ k h. sum-fits (imagSum n w k) (fitting (end - windowStart w) (imagSum n w k) e (imag-bounded n end w s k h))) in
+    let o : allOf sumFits (drop n (monitorWords n w)) ≡ true = ap (allOf sumFits) (others-are n w)
+    ∙ all-and sumFits (upTo (realSum n w) n) (upTo (imagSum n w) n ++ replicate n zeroF) r
+    (all-and sumFits (upTo (imagSum n w) n) (replicate n zeroF) m (all-zeros n)) in
     λ i. p i && o i
 
 -- ---- accepted hops keep a window sound
@@ -234,7 +248,7 @@ start-of : (w : List Hop) (h : Hop) (end : ℕ) → windowStart w + 2 * length w
 start-of [] h end r e = omega arith
 start-of (g ∷ w) h end r e = omega arith
 
-pub sound-next : (n enough end : ℕ) (w : List Hop) (h : Hop) → n ≤ 2048 → Accepted n end h → Sound n end w → Sound n (hopEnd n h) (nextWindow n enough w h)
+pub sound-next : (n enough end : ℕ) (w : List Hop) (h : Hop) → n ≤ sizeLimit → Accepted n end h → Sound n end w → Sound n (hopEnd n h) (nextWindow n enough w h)
 sound-next n enough end w h big a s = go (due n enough w h)
   where
     next : (h .start ≤ 2 ^ 48) × (end ≤ h .start)
@@ -252,7 +266,7 @@ sound-next n enough end w h big a s = go (due n enough w h)
           late = omega (arith, next .0, big);
         }
 
-pub sound-hops : (n enough end : ℕ) (w hs : List Hop) → n ≤ 2048 → InOrder n end hs → Sound n end w → Sound n (lastEnd n end hs) (openWindow n enough w hs)
+pub sound-hops : (n enough end : ℕ) (w hs : List Hop) → n ≤ sizeLimit → InOrder n end hs → Sound n end w → Sound n (lastEnd n end hs) (openWindow n enough w hs)
 unfolding lastEnd openWindow
 sound-hops n enough end w [] big o s = s
 sound-hops n enough end w (h ∷ hs) big o s = sound-hops n enough (hopEnd n h) (nextWindow n enough w h) hs big (o .1) (sound-next n enough end w h big (o .0) s)
@@ -267,7 +281,7 @@ pub record NoFive (fs : Float) (n : ℕ) (hs : List Hop) : Type 0 where
   pub end : lastEnd n 0 hs ≤ 2 ^ 52
 
 -- NUMBER 5 IS NOT MET after any list of accepted hops
-pub no-five : (fs : Float) (n : ℕ) (hs : List Hop) → n ≤ 2048 → InOrder n 0 hs → NoFive fs n hs
+pub no-five : (fs : Float) (n : ℕ) (hs : List Hop) → n ≤ sizeLimit → InOrder n 0 hs → NoFive fs n hs
 no-five fs n hs big o =
     let w = openWindow n (windowLength fs) [] hs in
     let s = sound-hops n (windowLength fs) 0 [] hs big o (sound-none n) in

@@ -12,7 +12,7 @@ use Rattle.rules.specs.Constants.{zeroF}
 use Rattle.rules.specs.Lists.{upTo}
 use Rattle.rules.specs.laws.ListLaws.{length-upTo, getD-upTo, upTo-same}
 use Rattle.rules.specs.laws.SortLaws.{map-snoc}
-use Rattle.rules.specs.Monitor.{Hop, channel, mirrorOf, channelPower, channelProduct, total, powerSum, realSum, imagSum, monitorWords}
+use Rattle.rules.specs.Monitor.{Hop, channel, mirrorOf, channelPower, channelProduct, total, powerSum, realSum, imagSum, monitorWords, channelWidth}
 use Rattle.iq_monitor.specs.Words.{more, powerIn, productIn, addedTerms, addedHop}
 
 pub length-terms : (n : ℕ) (ws : List Float) (k : ℕ) (p : Float) (c : Complex) → length (addedTerms n ws k p c) ≡ length ws
@@ -51,7 +51,8 @@ terms-parts n a b c d k p z la lb lc h =
     let e : 2 * n + k ≡ n + (n + k) = omega arith in
     let f : 3 * n + k ≡ n + (n + (n + k)) = omega arith in
     ap (λ (l : List Float). set (more (more l (n + k) (z .re)) (2 * n + k) (z .im)) (3 * n + k) zeroF) (more-front a (b ++ (c ++ d)) k p (omega arith))
-    ∙ ap (λ (l : List Float). set (more l (2 * n + k) (z .im)) (3 * n + k) zeroF) (more-behind a′ (b ++ (c ++ d)) n k (z .re) la′ ∙ ap (λ (l : List Float). a′ ++ l) (more-front b (c ++ d) k (z .re) (omega arith)))
+    ∙ ap (λ (l : List Float). set (more l (2 * n + k) (z .im)) (3 * n + k) zeroF)
+    (more-behind a′ (b ++ (c ++ d)) n k (z .re) la′ ∙ ap (λ (l : List Float). a′ ++ l) (more-front b (c ++ d) k (z .re) (omega arith)))
     ∙ ap (λ (m : ℕ). set (more (a′ ++ (b′ ++ (c ++ d))) m (z .im)) (3 * n + k) zeroF) e
     ∙ ap (λ (l : List Float). set l (3 * n + k) zeroF)
     (more-behind a′ (b′ ++ (c ++ d)) n (n + k) (z .im) la′
@@ -75,7 +76,8 @@ unfolding upTo turned
 turned-is g l zero h = refl
 turned-is g l (suc k) h =
     let F : ℕ → Float = λ i. g (getD l i nan) i in
-    let e : turned g l k ≡ upTo F k ++ (getD l k nan ∷ drop (suc k) l) = turned-is g l k (omega arith) ∙ ap (λ (t : List Float). upTo F k ++ t) (drop-cons l k nan (omega arith)) in
+    let e : turned g l k ≡ upTo F k ++ (getD l k nan ∷ drop (suc k) l) = turned-is g l k (omega arith)
+    ∙ ap (λ (t : List Float). upTo F k ++ t) (drop-cons l k nan (omega arith)) in
     ap (λ (t : List Float). set t k (g (getD t k nan) k)) e
     ∙ set-at (upTo F k) (getD l k nan) (drop (suc k) l) (g (getD (upTo F k ++ (getD l k nan ∷ drop (suc k) l)) k nan) k) k (length-upTo F k)
     ∙ ap (λ (x : Float). upTo F k ++ (g x k ∷ drop (suc k) l)) (getD-at (upTo F k) (getD l k nan) (drop (suc k) l) nan k (length-upTo F k))
@@ -101,7 +103,8 @@ added-parts xs a b c d (suc k) la lb lc h =
     let gb : Float → ℕ → Float = λ x i. add binary64 x (productIn xs i .re) in
     let gc : Float → ℕ → Float = λ x i. add binary64 x (productIn xs i .im) in
     ap (λ (l : List Float). addedTerms n l k (powerIn xs k) (productIn xs k)) (added-parts xs a b c d k la lb lc (omega arith))
-    ∙ terms-parts n (turned ga a k) (turned gb b k) (turned gc c k) (turned (λ x i. zeroF) d k) k (powerIn xs k) (productIn xs k) (length-turned ga a k ∙ la) (length-turned gb b k ∙ lb) (length-turned gc c k ∙ lc) (omega arith)
+    ∙ terms-parts n (turned ga a k) (turned gb b k) (turned gc c k) (turned (λ x i. zeroF) d k) k (powerIn xs k) (productIn xs k) (length-turned ga a k ∙ la)
+    (length-turned gb b k ∙ lb) (length-turned gc c k ∙ lc) (omega arith)
 
 -- ---- the sums of a window
 
@@ -133,14 +136,18 @@ added-words n w h e =
     let all = w ++ (h ∷ []) in
     let cross : (i : ℕ) → productIn xs i ≡ channelProduct n i h = λ i. ap (λ (m : ℕ). product binary64 (channel h i) (channel h (mirrorOf m i))) e in
     let p = turned-all (λ x i. add binary64 x (powerIn xs i)) (powerSum w) (powerSum all) n (λ i k. sym (sum-snoc (channelPower i) w h)) in
-    let r = turned-all (λ x i. add binary64 x (productIn xs i .re)) (realSum n w) (realSum n all) n (λ i k. ap (λ (z : Complex). add binary64 (realSum n w i) (z .re)) (cross i) ∙ sym (sum-snoc (λ g. channelProduct n i g .re) w h)) in
-    let m = turned-all (λ x i. add binary64 x (productIn xs i .im)) (imagSum n w) (imagSum n all) n (λ i k. ap (λ (z : Complex). add binary64 (imagSum n w i) (z .im)) (cross i) ∙ sym (sum-snoc (λ g. channelProduct n i g .im) w h)) in
-    let s : turned (λ x i. zeroF) (replicate n zeroF) n ≡ replicate n zeroF = ap (λ (l : List Float). turned (λ x i. zeroF) l n) (zeros n) ∙ turned-all (λ x i. zeroF) (λ i. zeroF) (λ i. zeroF) n (λ i k. refl) ∙ sym (zeros n) in
-    added-parts xs (upTo (powerSum w) n) (upTo (realSum n w) n) (upTo (imagSum n w) n) (replicate n zeroF) n (length-upTo (powerSum w) n ∙ sym e) (length-upTo (realSum n w) n ∙ sym e) (length-upTo (imagSum n w) n ∙ sym e) (omega arith)
+    let r = turned-all (λ x i. add binary64 x (productIn xs i .re)) (realSum n w) (realSum n all) n
+    (λ i k. ap (λ (z : Complex). add binary64 (realSum n w i) (z .re)) (cross i) ∙ sym (sum-snoc (λ g. channelProduct n i g .re) w h)) in
+    let m = turned-all (λ x i. add binary64 x (productIn xs i .im)) (imagSum n w) (imagSum n all) n
+    (λ i k. ap (λ (z : Complex). add binary64 (imagSum n w i) (z .im)) (cross i) ∙ sym (sum-snoc (λ g. channelProduct n i g .im) w h)) in
+    let s : turned (λ x i. zeroF) (replicate n zeroF) n ≡ replicate n zeroF = ap (λ (l : List Float). turned (λ x i. zeroF) l n) (zeros n)
+    ∙ turned-all (λ x i. zeroF) (λ i. zeroF) (λ i. zeroF) n (λ i k. refl) ∙ sym (zeros n) in
+    added-parts xs (upTo (powerSum w) n) (upTo (realSum n w) n) (upTo (imagSum n w) n) (replicate n zeroF) n (length-upTo (powerSum w) n ∙ sym e)
+    (length-upTo (realSum n w) n ∙ sym e) (length-upTo (imagSum n w) n ∙ sym e) (omega arith)
     ∙ (λ i. p i ++ (r i ++ (m i ++ s i)))
 
 -- with no hop all words are 0
-pub no-words : (n : ℕ) → monitorWords n [] ≡ replicate (4 * n) zeroF
+pub no-words : (n : ℕ) → monitorWords n [] ≡ replicate (channelWidth * n) zeroF
 unfolding monitorWords powerSum realSum imagSum total
 no-words n =
     let z = sym (zeros n) in
@@ -148,13 +155,13 @@ no-words n =
     ∙ ap (λ (l : List Float). replicate n zeroF ++ (replicate n zeroF ++ l)) (joined n n)
     ∙ ap (λ (l : List Float). replicate n zeroF ++ l) (joined n (n + n))
     ∙ joined n (n + (n + n))
-    ∙ ap (λ (m : ℕ). replicate m zeroF) (let q : n + (n + (n + n)) ≡ 4 * n = omega arith in q)
+    ∙ ap (λ (m : ℕ). replicate m zeroF) (let q : n + (n + (n + n)) ≡ channelWidth * n = omega arith in q)
   where
     joined : (a b : ℕ) → replicate a zeroF ++ replicate b zeroF ≡ replicate (a + b) zeroF
     joined zero b = ap (λ (m : ℕ). replicate m zeroF) (let q : b ≡ 0 + b = omega arith in q)
     joined (suc a) b = ap (λ (l : List Float). zeroF ∷ l) (joined a b) ∙ ap (λ (m : ℕ). replicate m zeroF) (sym (suc-add a b))
 
-pub length-words : (n : ℕ) (w : List Hop) → length (monitorWords n w) ≡ 4 * n
+pub length-words : (n : ℕ) (w : List Hop) → length (monitorWords n w) ≡ channelWidth * n
 unfolding monitorWords
 length-words n w =
     let p = upTo (powerSum w) n in

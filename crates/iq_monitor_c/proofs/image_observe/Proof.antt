@@ -29,8 +29,21 @@ returns c =
     let made = c .before .before .before .before .before .before .before .before .before .before .monitor .ensures in
     let o = c .before .before .before .before .before .before .before .before .observe .ensures in
     let s = o .0 ∙ ap (λ (m : ImageMonitor). observed m (a .fs) (a .n) (a .x .now) (a .start) (a .words .now) .seen) made in
-    let t = c .tell .ensures in
-    (t .0 ∙ ap (λ (v : Observed). told (v .answer)) s, (c .before .before .before .keep .ensures ∙ ap (λ (v : Observed). kept (a .state .now) (v .monitor)) s, (o .1 ∙ ap (λ (m : ImageMonitor). observed m (a .fs) (a .n) (a .x .now) (a .start) (a .words .now) .words) made, (t .1 .0 ∙ ap (λ (v : Observed). marksAfter (a .marks .now) (v .answer)) s, t .1 .1 ∙ ap (λ (v : Observed). valuesAfter (a .values .now) (v .answer)) s))))
+    let t = c .tell .ensures in (
+      t .0 ∙ ap (λ (v : Observed). told (v .answer)) s,
+      (
+        c .before .before .before .keep .ensures
+            ∙ ap (λ (v : Observed). kept (a .state .now) (v .monitor)) s,
+        (
+          o .1 ∙ ap (λ (m : ImageMonitor). observed m (a .fs) (a .n) (a .x .now) (a .start) (a .words .now) .words) made,
+          (
+            t .1 .0 ∙ ap (λ (v : Observed). marksAfter (a .marks .now) (v .answer)) s,
+            t .1 .1
+                ∙ ap (λ (v : Observed). valuesAfter (a .values .now) (v .answer)) s,
+          ),
+        ),
+      ),
+    )
 
 pub image-observe-spec : {M : Type 1} → statement M
 image-observe-spec =

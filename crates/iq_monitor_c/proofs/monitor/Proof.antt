@@ -16,13 +16,15 @@ element-copy-out-if1 : tie.Need-element-copy-out-if1
 element-copy-out-if1 c = search needs
 
 returns : tie.Need-returns
-returns c = let s = c .before .before .before .args .state .now in ap (λ (t : Bool). cond t (monitorOf Never (getD s 2 0)) (monitorOf (At (getD s 1 0)) (getD s 2 0))) (sym (eq-eqb (getD s 0 0) 0 (c .if1 .taken)))
+returns c = let s = c .before .before .before .args .state .now in
+    ap (λ (t : Bool). cond t (monitorOf Never (getD s 2 0)) (monitorOf (At (getD s 1 0)) (getD s 2 0))) (sym (eq-eqb (getD s 0 0) 0 (c .if1 .taken)))
 
 element-copy-out-t5 : tie.Need-element-copy-out-t5
 element-copy-out-t5 c = search needs
 
 returns-2 : tie.Need-returns-2
-returns-2 c = let s = c .before .before .before .before .args .state .now in ap (λ (t : Bool). cond t (monitorOf Never (getD s 2 0)) (monitorOf (At (getD s 1 0)) (getD s 2 0))) (sym (ne-eqb (getD s 0 0) 0 (c .before .if1 .left)))
+returns-2 c = let s = c .before .before .before .before .args .state .now in
+    ap (λ (t : Bool). cond t (monitorOf Never (getD s 2 0)) (monitorOf (At (getD s 1 0)) (getD s 2 0))) (sym (ne-eqb (getD s 0 0) 0 (c .before .if1 .left)))
 
 pub monitor-spec : {M : Type 1} → statement M
 monitor-spec =

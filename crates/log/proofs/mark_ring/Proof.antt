@@ -18,7 +18,11 @@ module _ (cap : ℕ) (r : rules.Marks) (m : Span) (q : rules.Ring) (some : 0 < m
   by-test : (t : Bool) → joins cap (r .ring) (m .start) ≡ t → q ≡ cond t (lengthened cap (r .ring) (m .len)) (append cap (r .ring) (spanWords m))
       → _≡_ {A = rules.Marks} (record { samples = r .samples + m .len; ring = q }) (mark cap r m)
   by-test t j e =
-      (λ i. record { samples = r .samples + m .len; ring = (e ∙ sym (ap (λ (b : Bool). cond b (lengthened cap (r .ring) (m .len)) (append cap (r .ring) (spanWords m))) j)) i })
+      (λ i. record {
+        samples = r .samples + m .len;
+        ring =
+            (e ∙ sym (ap (λ (b : Bool). cond b (lengthened cap (r .ring) (m .len)) (append cap (r .ring) (spanWords m))) j)) i;
+      })
       ∙ sym (mark-some cap r m some)
 
 returns : tie.Need-returns
@@ -42,8 +46,10 @@ same-length c = search needs
 returns-2 : tie.Need-returns-2
 returns-2 c =
     let a = c .before .before .before .before .before .before .before .before .before .before .before .args in
-    by-test (a .capacity) (marksIn (a .m) (now (a .words))) (spanOf (a .start) (a .len)) (ringIn (a .m .ring) (c .before .before .lengthen .last .1 .0)) (omega (arith, c .before .before .before .before .before .before .before .before .before .if1 .left))
-    true (sym (c .before .before .before .before .before .joins-newest .ensures) ∙ c .before .before .before .before .if2 .taken) (c .before .before .lengthen .ensures)
+    by-test (a .capacity) (marksIn (a .m) (now (a .words))) (spanOf (a .start) (a .len)) (ringIn (a .m .ring) (c .before .before .lengthen .last .1 .0))
+    (omega (arith, c .before .before .before .before .before .before .before .before .before .if1 .left))
+    true (sym (c .before .before .before .before .before .joins-newest .ensures) ∙ c .before .before .before .before .if2 .taken)
+    (c .before .before .lengthen .ensures)
 
 enter-span-requires : tie.Need-enter-span-requires
 enter-span-requires c κs = search needs
@@ -54,8 +60,11 @@ same-length-2 c = search needs
 returns-3 : tie.Need-returns-3
 returns-3 c =
     let a = c .before .before .before .before .before .before .before .before .before .before .before .args in
-    by-test (a .capacity) (marksIn (a .m) (now (a .words))) (spanOf (a .start) (a .len)) (ringIn (c .before .before .enter-span .result) (c .before .before .enter-span .last .1 .0)) (omega (arith, c .before .before .before .before .before .before .before .before .before .if1 .left))
-    false (sym (c .before .before .before .before .before .joins-newest .ensures) ∙ c .before .before .before .before .if2 .left) (c .before .before .enter-span .ensures)
+    by-test (a .capacity) (marksIn (a .m) (now (a .words))) (spanOf (a .start) (a .len))
+    (ringIn (c .before .before .enter-span .result) (c .before .before .enter-span .last .1 .0))
+    (omega (arith, c .before .before .before .before .before .before .before .before .before .if1 .left))
+    false (sym (c .before .before .before .before .before .joins-newest .ensures) ∙ c .before .before .before .before .if2 .left)
+    (c .before .before .enter-span .ensures)
 
 pub mark-ring-spec : {M : Type 1} → statement M
 mark-ring-spec =

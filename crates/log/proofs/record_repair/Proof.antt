@@ -6,14 +6,15 @@ use native.Mathlib.Omega.{arith}
 use borrow.Author.Needs.{needs}
 use denote.Ref.{now}
 use lib.ListN.{set, length-set}
-use Rattle.rules.specs.Log.{write, repairWords}
+use Rattle.rules.specs.Log.{write, repairWords, repairWidth}
 use Rattle.log.specs.View.{wordsOfRepair}
 use Rattle.log.proofs.Places.{Next, next-in, append-by}
 use Rattle.log.proofs.record_repair.Statement.{statement}
 use Rattle.log.proofs.record_repair.Tie as tie
 
 -- six words, each at its place
-six : (ws : List ℕ) (o a b c d e f : ℕ) → set (set (set (set (set (set ws o a) (o + 1) b) (o + 2) c) (o + 3) d) (o + 4) e) (o + 5) f ≡ write ws o (a ∷ b ∷ c ∷ d ∷ e ∷ f ∷ [])
+six : (ws : List ℕ) (o a b c d e f : ℕ)
+    → set (set (set (set (set (set ws o a) (o + 1) b) (o + 2) c) (o + 3) d) (o + 4) e) (o + 5) f ≡ write ws o (a ∷ b ∷ c ∷ d ∷ e ∷ f ∷ [])
 unfolding write
 six ws o a b c d e f =
     let p2 : o + 2 ≡ o + 1 + 1 = omega arith in
@@ -105,7 +106,8 @@ returns c =
       head = m .0 i;
       count = m .1 i;
       dropped = m .2 i;
-      words = (six (now (a .repairs)) (c .before .next-place .result * 6) (r .start) (r .len) (r .first) (r .second) (r .third) (r .fourth) ∙ ap (λ (n : ℕ). write (now (a .repairs)) (n * 6) (wordsOfRepair r)) p) i;
+      words = (six (now (a .repairs)) (c .before .next-place .result * repairWidth) (r .start) (r .len) (r .first) (r .second) (r .third) (r .fourth)
+          ∙ ap (λ (n : ℕ). write (now (a .repairs)) (n * repairWidth) (wordsOfRepair r)) p) i;
     })
     ∙ append-by 6 (a .capacity) (a .ring) q (now (a .repairs)) (c .before .before .with-room .ensures (now (a .repairs))) (wordsOfRepair r)
 

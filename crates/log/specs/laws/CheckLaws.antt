@@ -9,7 +9,7 @@ use lib.Dec.{ltb, leb}
 use lib.ListN.{length, drop, replicate, length-drop, length-replicate}
 use lib.Seq.{length-take-le}
 use Rattle.rules.specs.Log as rules
-use Rattle.rules.specs.Log.{Span, mark, Sound, newestEnd}
+use Rattle.rules.specs.Log.{Span, mark, Sound, newestEnd, storeWidth}
 use Rattle.rules.specs.laws.TestLaws.{both}
 use Rattle.rules.specs.laws.RingLaws.{empty-sound}
 use Rattle.rules.specs.laws.MarkLaws.{EndsBy, mark-samples, mark-sound, mark-drops}
@@ -72,7 +72,8 @@ unfolding logFits
 log-range cap l k e h = ring-range cap (ringOf l k) (countOf l k) (all-at (λ j. ringFits cap (ringOf l j) (countOf l j)) 12 k e h)
 
 -- such a ring is sound
-pub log-sound : (cap : ℕ) (x : Logged) (k : ℕ) → logFits cap (x .log) ≡ true → length (x .spans) ≡ cap * 24 → k < 12 → Sound 2 cap (marksAt cap x k .ring)
+pub log-sound : (cap : ℕ) (x : Logged) (k : ℕ) → logFits cap (x .log) ≡ true → length (x .spans) ≡ cap * storeWidth → k < 12
+    → Sound 2 cap (marksAt cap x k .ring)
 unfolding marksAt
 log-sound cap x k e l h =
     let r = log-range cap (x .log) k e h in
@@ -101,7 +102,8 @@ ends-fit cap x h = all-of (λ k. endFits cap (marksAt cap x k .ring)) 12 (λ k l
 
 -- ---- marks one after another
 
-pub bounded-fits : (cap b : ℕ) (x : Logged) (k : ℕ) (s : Span) → Bounded cap b x → k < 12 → b + 1 + s .len < 2 ^ 64 → s .start + s .len < 2 ^ 64 → Fits cap x k s
+pub bounded-fits : (cap b : ℕ) (x : Logged) (k : ℕ) (s : Span) → Bounded cap b x → k < 12 → b + 1 + s .len < 2 ^ 64 → s .start + s .len < 2 ^ 64
+    → Fits cap x k s
 bounded-fits cap b x k s d h l m =
     record {
       store = d .twelve .store;
@@ -118,7 +120,9 @@ marked-bounded cap b x k s d h =
     record {
       twelve = marked-twelve cap x k s (d .twelve) (d .sound k h) h;
       sound = λ j l. at j (ℕ-discrete j k) (λ m. Sound 2 cap (m .ring)) (mark-sound cap m (d .sound k h) s) (d .sound j l);
-      dropped = λ j l. at j (ℕ-discrete j k) (λ m. m .ring .dropped ≤ b + 1 + s .len) (omega (arith, mark-drops cap m (d .sound k h) s, d .dropped k h)) (omega (arith, d .dropped j l));
+      dropped =
+          λ j l. at j (ℕ-discrete j k) (λ m. m .ring .dropped ≤ b + 1 + s .len) (omega (arith, mark-drops cap m (d .sound k h) s, d .dropped k h))
+          (omega (arith, d .dropped j l));
       count = λ j l. at j (ℕ-discrete j k) (λ m. m .samples ≤ b + 1 + s .len) (omega (arith, mark-samples cap m s, d .count k h)) (omega (arith, d .count j l));
     }
   where
@@ -129,11 +133,11 @@ marked-bounded cap b x k s d h =
     at j (yes e) P a o = rw (e, marked-same cap x k s (d .twelve) (d .sound k h) h) a
     at j (no e) P a o = rw (marked-other cap x k s (d .twelve) (d .sound k h) h j e) o
 
-pub fresh-bounded : (cap : ℕ) → 0 < cap → Bounded cap 0 (record { log = freshLog; spans = replicate (cap * 24) 0 })
+pub fresh-bounded : (cap : ℕ) → 0 < cap → Bounded cap 0 (record { log = freshLog; spans = replicate (cap * storeWidth) 0 })
 unfolding freshLog
 fresh-bounded cap h =
     record {
-      twelve = record { rings = refl; counts = refl; store = length-replicate (cap * 24) 0 };
+      twelve = record { rings = refl; counts = refl; store = length-replicate (cap * storeWidth) 0 };
       sound = λ k l. rw (fresh-marks cap k l) (empty-sound 2 cap h);
       dropped = λ k l. rw (fresh-marks cap k l) (omega arith);
       count = λ k l. rw (fresh-marks cap k l) (omega arith);

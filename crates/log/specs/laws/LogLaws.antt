@@ -1,4 +1,5 @@
--- A mark in one of the twelve parts of the span store is the rules' mark on that ring, and no other ring is touched; the log as the list of its rings. Assumes nothing.
+-- A mark in one of the twelve parts of the span store is the rules' mark on that ring, and no other ring is touched; the log as the list of its rings. Assumes
+-- nothing.
 use mathlib.Core.Path.{_≡_, ap, sym, _∙_}
 use mathlib.Core.List.{List, [], _∷_, _++_, append-assoc}
 use Prim.Native.Nat.{ℕ, zero, suc, _+_, _*_, _≤_, _<_}
@@ -7,7 +8,7 @@ use native.Mathlib.Omega.{arith}
 use lib.ListN.{length, getD, set, take, drop, replicate, replicate-append-replicate, length-replicate, getD-replicate, length-set, List·getD-map}
 use lib.Seq.{getD-set-same, getD-set-other, drop-drop, take-at, drop-append-add, take-append-add, drop-at}
 use Rattle.rules.specs.Log as rules
-use Rattle.rules.specs.Log.{Span, write, mark, noMarks, Sound}
+use Rattle.rules.specs.Log.{Span, write, mark, noMarks, Sound, storeWidth}
 use Rattle.rules.specs.Lists.{All}
 use Rattle.rules.specs.laws.RingLaws.{entry-written, entry-kept, length-write, write-split}
 use Rattle.rules.specs.laws.MarkLaws.{mark-sound}
@@ -109,7 +110,8 @@ module _ (cap : ℕ) where
   joined-part (m ∷ ms) zero a h = rw (zero-mul (cap * 2)) (take-at (m .ring .words) (joined ms) (cap * 2) (a .0))
   joined-part (m ∷ ms) (suc k) a h = ap (take (cap * 2)) (past-first (cap * 2) (m .ring .words) (joined ms) k (a .0)) ∙ joined-part ms k (a .1) (omega arith)
 
-  joined-set : (ms : List rules.Marks) (k : ℕ) (m : rules.Marks) → AllParts cap ms → k < length ms → withPart (cap * 2) (joined ms) k (m .ring .words) ≡ joined (set ms k m)
+  joined-set : (ms : List rules.Marks) (k : ℕ) (m : rules.Marks) → AllParts cap ms → k < length ms
+      → withPart (cap * 2) (joined ms) k (m .ring .words) ≡ joined (set ms k m)
   unfolding joined
   joined-set [] k m a h = absurd (omega arith)
   joined-set (x ∷ ms) zero m a h = rw (zero-mul (cap * 2)) (ap (λ (l : List ℕ). m .ring .words ++ l) (drop-at (x .ring .words) (joined ms) (cap * 2) (a .0)))
@@ -137,17 +139,17 @@ joined-zeros cap (suc n) =
     ∙ ap (λ (k : ℕ). replicate k 0) (let q : 2 * cap + n * (2 * cap) ≡ suc n * (2 * cap) = omega (arith, suc-mul n (2 * cap)) in q)
 
 -- the fresh log, with a store of zeros
-pub list-fresh : (cap : ℕ) → logOf (replicate 12 (noMarks cap)) ≡ record { log = freshLog; spans = replicate (cap * 24) 0 }
+pub list-fresh : (cap : ℕ) → logOf (replicate 12 (noMarks cap)) ≡ record { log = freshLog; spans = replicate (cap * storeWidth) 0 }
 unfolding logOf freshLog
 list-fresh cap =
-    let w = joined-zeros cap 12 ∙ ap (λ (k : ℕ). replicate k 0) (let q : 12 * (2 * cap) ≡ cap * 24 = omega arith in q) in
+    let w = joined-zeros cap 12 ∙ ap (λ (k : ℕ). replicate k 0) (let q : 12 * (2 * cap) ≡ cap * storeWidth = omega arith in q) in
     λ i. record { log = freshLog; spans = w i }
 
 fresh-parts : (cap n : ℕ) → AllParts cap (replicate n (noMarks cap))
 fresh-parts cap zero = tt
 fresh-parts cap (suc n) = (length-replicate (2 * cap) 0 ∙ (let q : 2 * cap ≡ cap * 2 = omega arith in q), fresh-parts cap n)
 
-pub fresh-marks : (cap k : ℕ) → k < 12 → marksAt cap (record { log = freshLog; spans = replicate (cap * 24) 0 }) k ≡ noMarks cap
+pub fresh-marks : (cap k : ℕ) → k < 12 → marksAt cap (record { log = freshLog; spans = replicate (cap * storeWidth) 0 }) k ≡ noMarks cap
 fresh-marks cap k h =
     let twelve = length-replicate 12 (noMarks cap) in
     ap (λ (x : Logged). marksAt cap x k) (sym (list-fresh cap))

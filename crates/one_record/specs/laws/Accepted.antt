@@ -12,6 +12,7 @@ use Rattle.rules.specs.Answers.{isAccepted}
 use Rattle.rules.specs.Guard.{usable, firstUnusableFrom, Usable}
 use Rattle.rules.specs.Refusals.{tooMany, unusableAt, anyUnusable, badStart, anyBeyond, firstBeyondFrom}
 use Rattle.rules.specs.laws.SortLaws.{all-append}
+use Rattle.rules.specs.Log.{repairWidth, storeWidth}
 use Rattle.amplitude_limit.specs.Limit.{returned}
 use Rattle.log.specs.Check.{endsFit}
 use Rattle.iq_monitor.specs.Observe.{Seen, leaving, isNone, acceptedOf}
@@ -32,14 +33,16 @@ use Rattle.chain_hop.specs.laws.HopLaws.{watched-by}
 
 module _ (m : Machine) (slice : List ℕ) where
   abbrev by : Bool → Outcome
-  by b = cond b (taken m slice) (declined m slice (returned (callRefusal (m .state) slice (m .spans) (m .repairs)) (unusableAt (m .state .held) (newPart (m .state) slice))))
+  by b = cond b (taken m slice)
+      (declined m slice (returned (callRefusal (m .state) slice (m .spans) (m .repairs)) (unusableAt (m .state .counts .held) (newPart (m .state) slice))))
 
   -- an accepted call is not refused
   pub ready-none : isAccepted (called m slice .said) ≡ true → callRefusal (m .state) slice (m .spans) (m .repairs) ≡ 0
   unfolding called
   ready-none e = go (eqb (callRefusal (m .state) slice (m .spans) (m .repairs)) 0) refl e
     where
-      go : (b : Bool) → eqb (callRefusal (m .state) slice (m .spans) (m .repairs)) 0 ≡ b → isAccepted (by b .said) ≡ true → callRefusal (m .state) slice (m .spans) (m .repairs) ≡ 0
+      go : (b : Bool) → eqb (callRefusal (m .state) slice (m .spans) (m .repairs)) 0 ≡ b → isAccepted (by b .said) ≡ true
+          → callRefusal (m .state) slice (m .spans) (m .repairs) ≡ 0
       go true q h = eqb-true _ 0 q
       go false q h = absurd (false≢true h)
 
@@ -55,17 +58,20 @@ module _ (m : Machine) (slice : List ℕ) where
 -- all seven tests pass
 pub record Passes (c : InputConditioner) (slice spans repairs : List ℕ) : Type 0 where
   pub fits : stateFits c ≡ true
-  pub long : ltb (length slice) (c .held) ≡ false
-  pub few : tooMany (c .seen) (length slice - c .held) .holds ≡ false
-  pub fine : anyUnusable (c .held) (newPart c slice) .holds ≡ false
+  pub long : ltb (length slice) (c .counts .held) ≡ false
+  pub few : tooMany (c .counts .seen) (length slice - c .counts .held) .holds ≡ false
+  pub fine : anyUnusable (c .counts .held) (newPart c slice) .holds ≡ false
 
 pub passes : (c : InputConditioner) (slice spans repairs : List ℕ) → callRefusal c slice spans repairs ≡ 0 → Passes c slice spans repairs
 passes c slice spans repairs e =
-    go (stateFits c) (eqb (length repairs) (6 * c .settings .repairs)) (eqb (length spans) (24 * c .settings .spans)) (endsFit (c .settings .spans) (record { log = c .log; spans = spans }))
-    (ltb (length slice) (c .held)) (tooMany (c .seen) (length slice - c .held) .holds) (anyUnusable (c .held) (newPart c slice) .holds)
+    go (stateFits c) (eqb (length repairs) (repairWidth * c .settings .repairs)) (eqb (length spans) (storeWidth * c .settings .spans))
+    (endsFit (c .settings .spans) (record { log = c .notes .log; spans = spans }))
+    (ltb (length slice) (c .counts .held)) (tooMany (c .counts .seen) (length slice - c .counts .held) .holds)
+    (anyUnusable (c .counts .held) (newPart c slice) .holds)
     refl refl refl refl (sym (refusal-by c slice spans repairs _ _ _ _ _ _ _ refl refl refl refl refl refl refl) ∙ e)
   where
-    go : (f r s n h t u : Bool) → stateFits c ≡ f → ltb (length slice) (c .held) ≡ h → tooMany (c .seen) (length slice - c .held) .holds ≡ t → anyUnusable (c .held) (newPart c slice) .holds ≡ u
+    go : (f r s n h t u : Bool) → stateFits c ≡ f → ltb (length slice) (c .counts .held) ≡ h
+        → tooMany (c .counts .seen) (length slice - c .counts .held) .holds ≡ t → anyUnusable (c .counts .held) (newPart c slice) .holds ≡ u
         → callNumber f r s n h t u ≡ 0 → Passes c slice spans repairs
     go true true true true false false false a b d w z = record { fits = a; long = b; few = d; fine = w }
     go true true true true false false true a b d w z = absurd (omega arith)
@@ -87,7 +93,10 @@ scan-usable k (w ∷ ws) e = go (usable w) refl e (scan-usable (suc k) ws)
   where
     go : (b : Bool) → usable w ≡ b → ltb (cond b (firstUnusableFrom (suc k) ws) k) (k + length (w ∷ ws)) ≡ false
         → (ltb (firstUnusableFrom (suc k) ws) (suc k + length ws) ≡ false → Usable ws) → Usable (w ∷ ws)
-    go true u h rest = (subst T (sym u) tt, rest (ap (λ (n : ℕ). ltb (firstUnusableFrom (suc k) ws) n) (let q : suc k + length ws ≡ k + length (w ∷ ws) = omega arith in q) ∙ h))
+    go true u h rest = (
+      subst T (sym u) tt,
+      rest (ap (λ (n : ℕ). ltb (firstUnusableFrom (suc k) ws) n) (let q : suc k + length ws ≡ k + length (w ∷ ws) = omega arith in q) ∙ h),
+    )
     go false u h rest = absurd (false≢true (sym h ∙ lt-ltb k (k + length (w ∷ ws)) (omega arith)))
 
 -- ---- hops
@@ -112,9 +121,12 @@ module _ (c : InputConditioner) (xs : List ℕ) (start : ℕ) (spans : List ℕ)
       Said? : Seen → Type 0
       Said? s = isAccepted (saidHop (answerOf (s .seen .answer))) ≡ true
 
-      by-tests : hopRefusal c spans ws ≡ 0 → (o a b d : Bool) → isOffIq (settledOf (c .settings .iq)) ≡ o → isNone (c .settings .n) xs ≡ a → badStart (c .monitor .end) start .holds ≡ b → anyBeyond xs .holds ≡ d
+      by-tests : hopRefusal c spans ws ≡ 0 → (o a b d : Bool) → isOffIq (settledOf (c .settings .iq)) ≡ o → isNone (c .settings .n) xs ≡ a
+          → badStart (c .monitor .end) start .holds ≡ b → anyBeyond xs .holds ≡ d
           → Said? (cond o (leaving (c .monitor) ws answer.Nothing)
-          (cond a (leaving (c .monitor) ws answer.Nothing) (cond b (leaving (c .monitor) ws answer.Early) (cond d (leaving (c .monitor) ws (answer.Beyond (firstBeyondFrom 0 xs))) (acceptedOf (c .monitor) (c .settings .fs) xs start ws)))))
+          (cond a (leaving (c .monitor) ws answer.Nothing)
+          (cond b (leaving (c .monitor) ws answer.Early)
+          (cond d (leaving (c .monitor) ws (answer.Beyond (firstBeyondFrom 0 xs))) (acceptedOf (c .monitor) (c .settings .fs) xs start ws)))))
           → Taken
       by-tests n true a b d p q r s h = absurd (false≢true h)
       by-tests n false true b d p q r s h = absurd (false≢true h)
@@ -122,7 +134,8 @@ module _ (c : InputConditioner) (xs : List ℕ) (start : ℕ) (spans : List ℕ)
       by-tests n false false false true p q r s h = absurd (false≢true h)
       by-tests n false false false false p q r s h = record { none = n; watching = p; some = q; starts = r; parts = s }
 
-      number-is : (k : ℕ) → hopRefusal c spans ws ≡ k → isAccepted (saidHop (byNumber k c spans ws (followed c spans (watched c xs start ws)) .called .answer)) ≡ true → Taken
+      number-is : (k : ℕ) → hopRefusal c spans ws ≡ k
+          → isAccepted (saidHop (byNumber k c spans ws (followed c spans (watched c xs start ws)) .called .answer)) ≡ true → Taken
       number-is zero n h =
           let o = isOffIq (settledOf (c .settings .iq)) in
           let a = isNone (c .settings .n) xs in
@@ -130,6 +143,8 @@ module _ (c : InputConditioner) (xs : List ℕ) (start : ℕ) (spans : List ℕ)
           let d = anyBeyond xs .holds in
           by-tests n o a b d refl refl refl refl
           (subst Said?
-          (watched-by c xs start ws o refl ∙ ap (cond o (leaving (c .monitor) ws answer.Nothing)) (observed-by (c .monitor) (c .settings .fs) (c .settings .n) xs start ws a b d refl refl refl))
+          (watched-by c xs start ws o refl
+          ∙ ap (cond o (leaving (c .monitor) ws answer.Nothing))
+          (observed-by (c .monitor) (c .settings .fs) (c .settings .n) xs start ws a b d refl refl refl))
           h)
       number-is (suc k) n h = absurd (unanswered (eqb (suc k) 4) h)

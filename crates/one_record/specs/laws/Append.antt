@@ -14,7 +14,7 @@ use Rattle.rules.specs.Log as rules
 use Rattle.rules.specs.Log.{Span, spanOf, mark, append, repairsOf, longRuns, Sound}
 use Rattle.rules.specs.laws.MarkLaws.{mark-join}
 use Rattle.rules.specs.laws.EventLaws.{marks-append, repairs-append, long-append}
-use Rattle.log.specs.View.{bare, marksAt}
+use Rattle.log.specs.View.{marksAt}
 use Rattle.log.specs.Ready.{Twelve}
 use Rattle.impulse.specs.declared.ImpulseSuppressor.{ImpulseSuppressor}
 use Rattle.impulse.specs.Machine.{settingOf}
@@ -28,7 +28,8 @@ use Rattle.dc.specs.Blocker.{levelOf, blockerOf}
 use Rattle.dc.specs.laws.Cutting.{level-append, blocked-append}
 use Rattle.iq.specs.View.{settledOf}
 use Rattle.stage_mode.specs.View.{modeOf}
-use Rattle.chain.specs.Stages.{settingIn, Machine, notesIn, impulseAfter, impulseOut, impulseTold, blockerAfterBy, blockedBy, handsOn, notesAfter, loggedAfter, process}
+use Rattle.chain.specs.Stages.{settingIn, Machine, notesIn, impulseAfter, impulseOut, impulseTold, blockerAfterBy, blockedBy, handsOn, notesAfter, loggedAfter}
+use Rattle.chain.specs.Stages.{countsAfter, machineAfter, process}
 use Rattle.chain.specs.laws.Processing.{out-most}
 use Rattle.one_record.specs.Rings.{dcMarks, iqMarks, markIf, ringAfter}
 use Rattle.one_record.specs.laws.RingLaws.{same-rings, call-rings, call-at}
@@ -85,7 +86,9 @@ others-none k es h = let a = ne-eqb k 0 (λ e. omega arith) in let b = ne-eqb k 
 marks-for-append : (k : ℕ) (es fs : List Event) → marksFor k (es ++ fs) ≡ marksFor k es ++ marksFor k fs
 marks-for-append k es fs = go (eqb k 0) (eqb k 1) (eqb k 3)
   where
-    go : (a b c : Bool) → cond a (rules.marksOf rules.Repaired (es ++ fs)) (cond b (rules.marksOf rules.Flagged (es ++ fs)) (cond c (rules.marksOf rules.Uncertain (es ++ fs)) []))
+    go : (a b c : Bool)
+        → cond a (rules.marksOf rules.Repaired (es ++ fs))
+        (cond b (rules.marksOf rules.Flagged (es ++ fs)) (cond c (rules.marksOf rules.Uncertain (es ++ fs)) []))
         ≡ cond a (rules.marksOf rules.Repaired es) (cond b (rules.marksOf rules.Flagged es) (cond c (rules.marksOf rules.Uncertain es) []))
         ++ cond a (rules.marksOf rules.Repaired fs) (cond b (rules.marksOf rules.Flagged fs) (cond c (rules.marksOf rules.Uncertain fs) []))
     go true b c = marks-append rules.Repaired es fs
@@ -114,16 +117,22 @@ not-both (Correcting z) k e = ne-eqb k 10 (λ h. omega arith)
 module _ (cap : ℕ) (q : rules.Marks) (k : Sound 2 cap (q .ring)) (es fs : List Span) (rel a b : ℕ) where
   join-ring : (d i : Bool) → (d ≡ true → (es ≡ []) × ((fs ≡ []) × (i ≡ false))) → (i ≡ true → (es ≡ []) × (fs ≡ []))
       → markIf cap i (markIf cap d (foldl (mark cap) q (es ++ fs)) (spanOf rel (a + b))) (spanOf rel (a + b))
-      ≡ markIf cap i (markIf cap d (foldl (mark cap) (markIf cap i (markIf cap d (foldl (mark cap) q es) (spanOf rel a)) (spanOf rel a)) fs) (spanOf (rel + a) b)) (spanOf (rel + a) b)
+      ≡ markIf cap i
+      (markIf cap d (foldl (mark cap) (markIf cap i (markIf cap d (foldl (mark cap) q es) (spanOf rel a)) (spanOf rel a)) fs) (spanOf (rel + a) b))
+      (spanOf (rel + a) b)
   join-ring false false f g = foldl-append (mark cap) q es fs
   join-ring true true f g = absurd (false≢true (sym (f refl .1 .1)))
   join-ring true false f g = both (f refl .0) (f refl .1 .0)
     where
-      both : es ≡ [] → fs ≡ [] → mark cap (foldl (mark cap) q (es ++ fs)) (spanOf rel (a + b)) ≡ mark cap (foldl (mark cap) (mark cap (foldl (mark cap) q es) (spanOf rel a)) fs) (spanOf (rel + a) b)
+      both : es ≡ [] → fs ≡ []
+          → mark cap (foldl (mark cap) q (es ++ fs)) (spanOf rel (a + b))
+          ≡ mark cap (foldl (mark cap) (mark cap (foldl (mark cap) q es) (spanOf rel a)) fs) (spanOf (rel + a) b)
       both x y = rw (x, y) (sym (mark-join cap q k rel a b))
   join-ring false true f g = both (g refl .0) (g refl .1)
     where
-      both : es ≡ [] → fs ≡ [] → mark cap (foldl (mark cap) q (es ++ fs)) (spanOf rel (a + b)) ≡ mark cap (foldl (mark cap) (mark cap (foldl (mark cap) q es) (spanOf rel a)) fs) (spanOf (rel + a) b)
+      both : es ≡ [] → fs ≡ []
+          → mark cap (foldl (mark cap) q (es ++ fs)) (spanOf rel (a + b))
+          ≡ mark cap (foldl (mark cap) (mark cap (foldl (mark cap) q es) (spanOf rel a)) fs) (spanOf (rel + a) b)
       both x y = rw (x, y) (sym (mark-join cap q k rel a b))
 
 -- ---- the chain after xs, and what it makes of ys
@@ -218,7 +227,8 @@ module _ (m : Machine) (xs ys : List ℕ) where
     unfolding process
     rings-next = call-rings m xs r
 
-    ring-same : (k : ℕ) → k < 12 → marksAt (m .state .settings .spans) (loggedAfter m (xs ++ ys)) k ≡ marksAt (m .state .settings .spans) (loggedAfter (process m xs) ys) k
+    ring-same : (k : ℕ) → k < 12
+        → marksAt (m .state .settings .spans) (loggedAfter m (xs ++ ys)) k ≡ marksAt (m .state .settings .spans) (loggedAfter (process m xs) ys) k
     unfolding process ringAfter
     ring-same k h =
         let c = m .state in
@@ -231,15 +241,18 @@ module _ (m : Machine) (xs ys : List ℕ) where
         let a = length (impulseOut c xs) in
         let b = length (impulseOut (process m xs .state) ys) in
         call-at m (xs ++ ys) r k
-        ∙ (λ j. markIf n i (markIf n d (foldl (mark n) q (marksFor k (told-append j))) (spanOf (c .released) (out-length j))) (spanOf (c .released) (out-length j)))
-        ∙ ap (λ (l : List Span). markIf n i (markIf n d (foldl (mark n) q l) (spanOf (c .released) (a + b))) (spanOf (c .released) (a + b))) (marks-for-append k es fs)
-        ∙ join-ring n q (r .sound k h) (marksFor k es) (marksFor k fs) (c .released) a b d i
+        ∙ (λ j. markIf n i (markIf n d (foldl (mark n) q (marksFor k (told-append j))) (spanOf (c .counts .released) (out-length j)))
+        (spanOf (c .counts .released) (out-length j)))
+        ∙ ap (λ (l : List Span). markIf n i (markIf n d (foldl (mark n) q l) (spanOf (c .counts .released) (a + b))) (spanOf (c .counts .released) (a + b)))
+        (marks-for-append k es fs)
+        ∙ join-ring n q (r .sound k h) (marksFor k es) (marksFor k fs) (c .counts .released) a b d i
         (λ e.
         let l = dc-late (modeOf (c .settings .dc)) k e in
         let late : 4 ≤ k = omega arith in
         (others-none k es late, (others-none k fs late, not-both (settledOf (c .settings .iq)) k l)))
         (λ e. let l = iq-late (settledOf (c .settings .iq)) k e in let late : 4 ≤ k = omega arith in (others-none k es late, others-none k fs late))
-        ∙ ap (λ (y : rules.Marks). markIf n i (markIf n d (foldl (mark n) y (marksFor k fs)) (spanOf (c .released + a) b)) (spanOf (c .released + a) b)) (sym (call-at m xs r k))
+        ∙ ap (λ (y : rules.Marks). markIf n i (markIf n d (foldl (mark n) y (marksFor k fs)) (spanOf (c .counts .released + a) b))
+        (spanOf (c .counts .released + a) b)) (sym (call-at m xs r k))
         ∙ sym (call-at (process m xs) ys rings-next k)
 
     next-twelve : Twelve (m .state .settings .spans) (loggedAfter (process m xs) ys)
@@ -247,7 +260,9 @@ module _ (m : Machine) (xs ys : List ℕ) where
     next-twelve = call-rings (process m xs) ys rings-next .twelve
 
     logged-same : loggedAfter m (xs ++ ys) ≡ loggedAfter (process m xs) ys
-    logged-same = same-rings (m .state .settings .spans) (loggedAfter m (xs ++ ys)) (loggedAfter (process m xs) ys) (call-rings m (xs ++ ys) r .twelve) next-twelve ring-same
+    logged-same =
+        same-rings (m .state .settings .spans) (loggedAfter m (xs ++ ys)) (loggedAfter (process m xs) ys)
+        (call-rings m (xs ++ ys) r .twelve) next-twelve ring-same
 
     -- the chain
     pub process-append : process m (xs ++ ys) ≡ process (process m xs) ys
@@ -257,24 +272,13 @@ module _ (m : Machine) (xs ys : List ℕ) where
         let n = length-append xs ys in
         let a = out-most c xs in
         let o = out-length in
-        let seen : c .seen + length (xs ++ ys) ≡ c .seen + length xs + length ys = omega arith in
-        let released : c .released + length (impulseOut c (xs ++ ys)) ≡ c .released + length (impulseOut c xs) + length (impulseOut (process m xs .state) ys) = omega arith in
-        let held : c .held + length (xs ++ ys) - length (impulseOut c (xs ++ ys)) ≡ c .held + length xs - length (impulseOut c xs) + length ys - length (impulseOut (process m xs .state) ys) = omega arith in
-        λ i.
-        record {
-          state =
-              record {
-                settings = c .settings;
-                seen = seen i;
-                released = released i;
-                held = held i;
-                suppressor = suppressor-append i;
-                blocker = level-same i;
-                monitor = c .monitor;
-                log = logged-same i .log;
-                repairs = bare (repairs-same i);
-                longruns = long-same i;
-              };
-          spans = logged-same i .spans;
-          repairs = repairs-same i .words;
-        }
+        let q : (c .counts .seen + length (xs ++ ys) ≡ c .counts .seen + length xs + length ys)
+        × (c .counts .released + length (impulseOut c (xs ++ ys))
+        ≡ c .counts .released + length (impulseOut c xs) + length (impulseOut (process m xs .state) ys))
+        × (c .counts .held + length (xs ++ ys) - length (impulseOut c (xs ++ ys))
+        ≡ c .counts .held + length xs - length (impulseOut c xs) + length ys - length (impulseOut (process m xs .state) ys))
+        = (omega arith, omega arith, omega arith) in
+        let next = process m xs .state in
+        let counts : countsAfter c (length (xs ++ ys)) (length (impulseOut c (xs ++ ys))) ≡ countsAfter next (length ys) (length (impulseOut next ys))
+        = λ i. record { seen = q .0 i; released = q .1 i; held = q .2 i } in
+        λ i. machineAfter c (counts i) (suppressor-append i) (level-same i) (logged-same i) (repairs-same i) (long-same i)

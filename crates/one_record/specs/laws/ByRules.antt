@@ -11,7 +11,8 @@ use Rattle.rules.specs.Dc.{corner, firstLevel, levelAfter, blockedAll}
 use Rattle.rules.specs.Iq.{Settled, Off, Observing, Withheld, Correcting, correctedBy}
 use Rattle.rules.specs.Mode.{Mode, off, observe, apply, isApply, runs}
 use Rattle.rules.specs.Log as rules
-use Rattle.rules.specs.Log.{Stage, impulse, dc, iq, Mark, Repaired, Flagged, Corrected, Uncertain, ringNumber, Span, spanOf, mark, noMarks, marked, marksOf, repaired, repairsOf, longRuns}
+use Rattle.rules.specs.Log.{Stage, impulse, dc, iq, Mark, Repaired, Flagged, Corrected, Uncertain, ringNumber, Span, spanOf, mark, noMarks, marked, marksOf}
+use Rattle.rules.specs.Log.{repaired, repairsOf, longRuns, repairWidth, storeWidth}
 use Rattle.rules.specs.Chain.{settingOf, impulseEvents, afterImpulse, afterDc, settledBy, released, ringOf, repairRing, longRunsOf, evidence}
 use Rattle.log.specs.View.{freshLog, marksAt}
 use Rattle.log.specs.laws.LogLaws.{fresh-marks}
@@ -29,7 +30,8 @@ use Rattle.chain_config.specs.declared.ConditioningConfig.{ConditioningConfig}
 use Rattle.chain_config.specs.Config.{configOf}
 use Rattle.chain_make.specs.Making.{freshState, freshSettings}
 use Rattle.chain_make.specs.laws.MakingLaws.{settled-again}
-use Rattle.chain.specs.Stages.{notesIn, impulseAfter, impulseOut, impulseTold, blockerAfterBy, blockedBy, handsOn, notesAfter, releasedSpan, loggedAfter, process}
+use Rattle.chain.specs.Stages.{notesIn, impulseAfter, impulseOut, impulseTold, blockerAfterBy, blockedBy, handsOn, notesAfter, releasedSpan, loggedAfter}
+use Rattle.chain.specs.Stages.{process}
 use Rattle.rules.specs.Monitor.{Hop, suspectedSpans}
 use Rattle.rules.specs.Chain as chain
 use Rattle.chain_hop.specs.Hops.{isObserving}
@@ -75,22 +77,27 @@ module _ (g : ConditioningConfig) (blocks : 0 < blockLength (g .fs)) (xs : List 
 
   pub impulse-state : impulseAfter (freshState g) xs ≡ cond (runs (modeOf (g .impulse))) (stateOf (settingOf (configOf g)) xs) (fresh (settingOf (configOf g)))
   unfolding impulseAfter freshState freshSettings
-  impulse-state = ap (λ (m : ImpulseSuppressor). cond (runs (modeOf (g .impulse))) m (fresh (settingOf (configOf g)))) (stage (settingOf (configOf g)) offered xs u .stands)
+  impulse-state =
+      ap (λ (m : ImpulseSuppressor). cond (runs (modeOf (g .impulse))) m (fresh (settingOf (configOf g)))) (stage (settingOf (configOf g)) offered xs u .stands)
 
   -- ---- the DC stage
 
   abbrev level : DcBlocker
   level = blockerOf (corner (g .fs)) (levelAfter (corner (g .fs)) firstLevel (afterImpulse (configOf g) xs))
 
-  blocker-by : (d : Mode) → blockerAfterBy d (blockerOf (corner (g .fs)) firstLevel) (afterImpulse (configOf g) xs) ≡ cond (runs d) level (blockerOf (corner (g .fs)) firstLevel)
+  blocker-by : (d : Mode)
+      → blockerAfterBy d (blockerOf (corner (g .fs)) firstLevel) (afterImpulse (configOf g) xs) ≡ cond (runs d) level (blockerOf (corner (g .fs)) firstLevel)
   blocker-by off = refl
   blocker-by observe = refl
   blocker-by apply = refl
 
-  pub dc-state : blockerAfterBy (modeOf (g .dc)) (blockerOf (corner (g .fs)) firstLevel) (impulseOut (freshState g) xs) ≡ cond (runs (modeOf (g .dc))) level (blockerOf (corner (g .fs)) firstLevel)
+  pub dc-state : blockerAfterBy (modeOf (g .dc)) (blockerOf (corner (g .fs)) firstLevel) (impulseOut (freshState g) xs)
+      ≡ cond (runs (modeOf (g .dc))) level (blockerOf (corner (g .fs)) firstLevel)
   dc-state = ap (blockerAfterBy (modeOf (g .dc)) (blockerOf (corner (g .fs)) firstLevel)) impulse-out ∙ blocker-by (modeOf (g .dc))
 
-  blocked-is : (d : Mode) → blockedBy d (blockerOf (corner (g .fs)) firstLevel) (afterImpulse (configOf g) xs) ≡ cond (isApply d) (blockedAll (corner (g .fs)) firstLevel (afterImpulse (configOf g) xs)) (afterImpulse (configOf g) xs)
+  blocked-is : (d : Mode)
+      → blockedBy d (blockerOf (corner (g .fs)) firstLevel) (afterImpulse (configOf g) xs)
+      ≡ cond (isApply d) (blockedAll (corner (g .fs)) firstLevel (afterImpulse (configOf g) xs)) (afterImpulse (configOf g) xs)
   blocked-is off = refl
   blocked-is observe = refl
   blocked-is apply = refl
@@ -112,7 +119,7 @@ module _ (g : ConditioningConfig) (blocks : 0 < blockLength (g .fs)) (xs : List 
   unfolding notesAfter repairRing repaired freshState freshSettings
   repairs-is =
       noted-repairs (g .spans) (g .repairs) (notesIn (freshMachine g)) (impulseTold (freshState g) xs)
-      ∙ ap (λ (es : List Event). foldl (rules.append (g .repairs)) (rules.emptyRing (6 * g .repairs)) (repairsOf es)) impulse-told
+      ∙ ap (λ (es : List Event). foldl (rules.append (g .repairs)) (rules.emptyRing (repairWidth * g .repairs)) (repairsOf es)) impulse-told
 
   pub long-is : notesAfter (freshMachine g) xs .longruns ≡ longRunsOf (configOf g) xs
   unfolding notesAfter longRunsOf freshState freshSettings
@@ -137,14 +144,18 @@ module _ (g : ConditioningConfig) (blocks : 0 < blockLength (g .fs)) (xs : List 
     called-at k h =
         call-at (freshMachine g) xs (fresh-rings g some) k
         ∙ ap (ringAfter (g .spans) (freshState g) xs k)
-        (ap (λ (n : ℕ). marksAt (g .spans) (record { log = freshLog; spans = replicate n 0 }) k) (let q : 24 * g .spans ≡ g .spans * 24 = omega arith in q) ∙ fresh-marks (g .spans) k h)
+        (ap (λ (n : ℕ). marksAt (g .spans) (record { log = freshLog; spans = replicate n 0 }) k)
+        (let q : storeWidth * g .spans ≡ g .spans * storeWidth = omega arith in q) ∙ fresh-marks (g .spans) k h)
 
     -- and after the hops
-    hopped-at : (k : ℕ) → k < 12 → (k ≡ 11 → ⊥) → marksAt (g .spans) (hopLogged (core g xs) (hopMarks g hs)) k ≡ ringAfter (g .spans) (freshState g) xs k (noMarks (g .spans))
+    hopped-at : (k : ℕ) → k < 12 → (k ≡ 11 → ⊥)
+        → marksAt (g .spans) (hopLogged (core g xs) (hopMarks g hs)) k ≡ ringAfter (g .spans) (freshState g) xs k (noMarks (g .spans))
     unfolding core process freshState freshSettings
-    hopped-at k h d = uncertain-other (g .spans) (loggedAfter (freshMachine g) xs) (hopMarks g hs) k d (call-rings (freshMachine g) xs (fresh-rings g some)) ∙ called-at k h
+    hopped-at k h d = uncertain-other (g .spans) (loggedAfter (freshMachine g) xs) (hopMarks g hs) k d (call-rings (freshMachine g) xs (fresh-rings g some))
+        ∙ called-at k h
 
-    hopped-last : marksAt (g .spans) (hopLogged (core g xs) (hopMarks g hs)) 11 ≡ foldl (mark (g .spans)) (ringAfter (g .spans) (freshState g) xs 11 (noMarks (g .spans))) (hopMarks g hs)
+    hopped-last : marksAt (g .spans) (hopLogged (core g xs) (hopMarks g hs)) 11
+        ≡ foldl (mark (g .spans)) (ringAfter (g .spans) (freshState g) xs 11 (noMarks (g .spans))) (hopMarks g hs)
     unfolding core process freshState freshSettings
     hopped-last =
         uncertain-own (g .spans) (loggedAfter (freshMachine g) xs) (hopMarks g hs) (call-rings (freshMachine g) xs (fresh-rings g some))
@@ -159,49 +170,61 @@ module _ (g : ConditioningConfig) (blocks : 0 < blockLength (g .fs)) (xs : List 
     Ruled st m = marksAt (g .spans) (hopLogged (core g xs) (hopMarks g hs)) (ringNumber st m) ≡ ringOf (configOf g) xs hs st m
 
     -- the DC and the IQ stage mark nothing in an impulse ring
-    impulse-plain : (k : ℕ) → k < 4 → ringAfter (g .spans) (freshState g) xs k (noMarks (g .spans)) ≡ foldl (mark (g .spans)) (noMarks (g .spans)) (marksFor k (impulseEvents (configOf g) xs))
+    impulse-plain : (k : ℕ) → k < 4
+        → ringAfter (g .spans) (freshState g) xs k (noMarks (g .spans))
+        ≡ foldl (mark (g .spans)) (noMarks (g .spans)) (marksFor k (impulseEvents (configOf g) xs))
     unfolding ringAfter
     impulse-plain k h =
         let s = settledOf (freshState g .settings .iq) in
         let d = modeOf (freshState g .settings .dc) in
         let m = releasedSpan (freshState g) xs in
-        (λ i. markIf (g .spans) (iq-early s k (omega arith) i) (markIf (g .spans) (dc-only d k (λ e. omega arith) i) (foldl (mark (g .spans)) (noMarks (g .spans)) (marksFor k (impulse-told i))) m) m)
+        (λ i. markIf (g .spans) (iq-early s k (omega arith) i)
+        (markIf (g .spans) (dc-only d k (λ e. omega arith) i) (foldl (mark (g .spans)) (noMarks (g .spans)) (marksFor k (impulse-told i))) m) m)
 
     impulse-ring : (m : Mark) → Ruled impulse m
     unfolding ringOf marked
     impulse-ring Repaired = hopped-at 0 (lit< tt) (λ e. omega arith) ∙ impulse-plain 0 (lit< tt)
     impulse-ring Flagged = hopped-at 1 (lit< tt) (λ e. omega arith) ∙ impulse-plain 1 (lit< tt)
-    impulse-ring Corrected = hopped-at 2 (lit< tt) (λ e. omega arith) ∙ impulse-plain 2 (lit< tt) ∙ ap (foldl (mark (g .spans)) (noMarks (g .spans))) (sym (corrected-none (impulseEvents (configOf g) xs)))
+    impulse-ring Corrected = hopped-at 2 (lit< tt) (λ e. omega arith) ∙ impulse-plain 2 (lit< tt)
+        ∙ ap (foldl (mark (g .spans)) (noMarks (g .spans))) (sym (corrected-none (impulseEvents (configOf g) xs)))
     impulse-ring Uncertain = hopped-at 3 (lit< tt) (λ e. omega arith) ∙ impulse-plain 3 (lit< tt)
 
     -- a ring of the others, by whether they mark it
     plain-at : (k : ℕ) → 4 ≤ k → (d i : Bool) → dcMarks (modeOf (g .dc)) k ≡ d → iqMarks (settledBy (configOf g)) k ≡ i
         → ringAfter (g .spans) (freshState g) xs k (noMarks (g .spans))
-        ≡ markIf (g .spans) i (markIf (g .spans) d (noMarks (g .spans)) (spanOf 0 (length (released (configOf g) xs)))) (spanOf 0 (length (released (configOf g) xs)))
+        ≡ markIf (g .spans) i (markIf (g .spans) d (noMarks (g .spans)) (spanOf 0 (length (released (configOf g) xs))))
+        (spanOf 0 (length (released (configOf g) xs)))
     unfolding ringAfter freshState freshSettings
     plain-at k h d i a b =
         let e = ap (λ (z : Settled). iqMarks z k) (settled-again (settledBy (configOf g))) ∙ b in
-        let l : foldl (mark (g .spans)) (noMarks (g .spans)) (marksFor k (impulseTold (freshState g) xs)) ≡ noMarks (g .spans) = ap (foldl (mark (g .spans)) (noMarks (g .spans))) (others-none k (impulseTold (freshState g) xs) h) in
+        let l : foldl (mark (g .spans)) (noMarks (g .spans)) (marksFor k (impulseTold (freshState g) xs)) ≡ noMarks (g .spans) =
+        ap (foldl (mark (g .spans)) (noMarks (g .spans))) (others-none k (impulseTold (freshState g) xs) h) in
         (λ j. markIf (g .spans) (e j) (markIf (g .spans) (a j) (l j) (spanOf 0 (ready-is j))) (spanOf 0 (ready-is j)))
 
     -- the ring that the DC stage may mark, and its others
     dc-ring : (m : Mark) → Ruled dc m
     unfolding ringOf marked
-    dc-ring Repaired = hopped-at 4 (lit< tt) (λ e. omega arith) ∙ plain-at 4 (lit≤ tt) false false (dc-only (modeOf (g .dc)) 4 (λ e. omega arith)) (iq-early (settledBy (configOf g)) 4 (lit< tt))
-    dc-ring Flagged = hopped-at 5 (lit< tt) (λ e. omega arith) ∙ plain-at 5 (lit≤ tt) false false (dc-only (modeOf (g .dc)) 5 (λ e. omega arith)) (iq-early (settledBy (configOf g)) 5 (lit< tt))
-    dc-ring Uncertain = hopped-at 7 (lit< tt) (λ e. omega arith) ∙ plain-at 7 (lit≤ tt) false false (dc-only (modeOf (g .dc)) 7 (λ e. omega arith)) (iq-early (settledBy (configOf g)) 7 (lit< tt))
+    dc-ring Repaired = hopped-at 4 (lit< tt) (λ e. omega arith)
+        ∙ plain-at 4 (lit≤ tt) false false (dc-only (modeOf (g .dc)) 4 (λ e. omega arith)) (iq-early (settledBy (configOf g)) 4 (lit< tt))
+    dc-ring Flagged = hopped-at 5 (lit< tt) (λ e. omega arith)
+        ∙ plain-at 5 (lit≤ tt) false false (dc-only (modeOf (g .dc)) 5 (λ e. omega arith)) (iq-early (settledBy (configOf g)) 5 (lit< tt))
+    dc-ring Uncertain = hopped-at 7 (lit< tt) (λ e. omega arith)
+        ∙ plain-at 7 (lit≤ tt) false false (dc-only (modeOf (g .dc)) 7 (λ e. omega arith)) (iq-early (settledBy (configOf g)) 7 (lit< tt))
     dc-ring Corrected =
         hopped-at 6 (lit< tt) (λ e. omega arith)
         ∙ plain-at 6 (lit≤ tt) (isApply (modeOf (g .dc))) false (dc-own (modeOf (g .dc))) (iq-early (settledBy (configOf g)) 6 (lit< tt))
         ∙ go (isApply (modeOf (g .dc)))
       where
-        go : (b : Bool) → markIf (g .spans) b (noMarks (g .spans)) (spanOf 0 (length (released (configOf g) xs))) ≡ foldl (mark (g .spans)) (noMarks (g .spans)) (cond b (spanOf 0 (length (released (configOf g) xs)) ∷ []) [])
+        go : (b : Bool)
+            → markIf (g .spans) b (noMarks (g .spans)) (spanOf 0 (length (released (configOf g) xs)))
+            ≡ foldl (mark (g .spans)) (noMarks (g .spans)) (cond b (spanOf 0 (length (released (configOf g) xs)) ∷ []) [])
         go true = refl
         go false = refl
 
     -- what an IQ ring gets of a call
     iq-plain : (k : ℕ) → 8 ≤ k → (i : Bool) → iqMarks (settledBy (configOf g)) k ≡ i
-        → ringAfter (g .spans) (freshState g) xs k (noMarks (g .spans)) ≡ markIf (g .spans) i (noMarks (g .spans)) (spanOf 0 (length (released (configOf g) xs)))
+        → ringAfter (g .spans) (freshState g) xs k (noMarks (g .spans))
+        ≡ markIf (g .spans) i (noMarks (g .spans)) (spanOf 0 (length (released (configOf g) xs)))
     iq-plain k h i e = plain-at k (omega arith) false i (dc-only (modeOf (g .dc)) k (λ q. omega arith)) e
 
     -- the marks that the rules give an IQ ring, by what was settled
@@ -217,12 +240,14 @@ module _ (g : ConditioningConfig) (blocks : 0 < blockLength (g .fs)) (xs : List 
 
     iq-last-ring : (s : Settled) → settledBy (configOf g) ≡ s → (i : Bool) → iqMarks s 11 ≡ i
         → marksAt (g .spans) (hopLogged (core g xs) (hopMarks g hs)) 11
-        ≡ foldl (mark (g .spans)) (markIf (g .spans) i (noMarks (g .spans)) (spanOf 0 (length (released (configOf g) xs)))) (cond (isObserving s) (suspectedSpans (evidence (configOf g) hs)) [])
+        ≡ foldl (mark (g .spans)) (markIf (g .spans) i (noMarks (g .spans)) (spanOf 0 (length (released (configOf g) xs))))
+        (cond (isObserving s) (suspectedSpans (evidence (configOf g) hs)) [])
     unfolding hopMarks
     iq-last-ring s e i h =
         hopped-last
         ∙ ap (λ (r : rules.Marks). foldl (mark (g .spans)) r (hopMarks g hs)) (iq-plain 11 (lit≤ tt) i (ap (λ (z : Settled). iqMarks z 11) e ∙ h))
-        ∙ ap (λ (z : Settled). foldl (mark (g .spans)) (markIf (g .spans) i (noMarks (g .spans)) (spanOf 0 (length (released (configOf g) xs)))) (cond (isObserving z) (suspectedSpans (evidence (configOf g) hs)) [])) e
+        ∙ ap (λ (z : Settled). foldl (mark (g .spans)) (markIf (g .spans) i (noMarks (g .spans)) (spanOf 0 (length (released (configOf g) xs))))
+        (cond (isObserving z) (suspectedSpans (evidence (configOf g) hs)) [])) e
 
     iq-by : (s : Settled) → settledBy (configOf g) ≡ s → (m : Mark) → Given s m
     iq-by Off e Repaired = iq-early-ring Off e 8 (lit≤ tt) (lit< tt) false refl

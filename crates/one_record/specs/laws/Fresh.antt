@@ -15,7 +15,7 @@ use Rattle.rules.specs.Log as rules
 use Rattle.rules.specs.Log.{Span, mark, spanOf, marksOf}
 use Rattle.rules.specs.Monitor.{answers, openWindow, suspectedSpans}
 use Rattle.rules.specs.Chain.{evidence, settledBy}
-use Rattle.log.specs.View.{bare, marksAt}
+use Rattle.log.specs.View.{marksAt}
 use Rattle.impulse_slice.specs.Noted.{noteAll, told, marksFor, Rings}
 use Rattle.impulse_slice.specs.laws.NotesLaws.{note-none}
 use Rattle.dc.specs.declared.DcBlocker.{DcBlocker}
@@ -27,7 +27,8 @@ use Rattle.chain_config.specs.declared.ConditioningConfig.{ConditioningConfig}
 use Rattle.chain_config.specs.Config.{configOf}
 use Rattle.chain_state.specs.declared.InputConditioner.{InputConditioner}
 use Rattle.chain_make.specs.Making.{freshState, Said, made, makingSaid, madeWords}
-use Rattle.chain.specs.Stages.{settingIn, Machine, machineOf, notesIn, impulseAfter, impulseOut, impulseTold, blockerAfterBy, blockedBy, handsOn, notesAfter, loggedAfter, process}
+use Rattle.chain.specs.Stages.{settingIn, Machine, machineOf, notesIn, impulseAfter, impulseOut, impulseTold, blockerAfterBy, blockedBy, handsOn, notesAfter}
+use Rattle.chain.specs.Stages.{loggedAfter, countsAfter, machineAfter, process}
 use Rattle.chain_hop.specs.Hops.{isObserving}
 use Rattle.one_record.specs.Rings.{dcMarks, iqMarks, markIf, ringAfter}
 use Rattle.one_record.specs.laws.RingLaws.{same-rings, call-rings, call-at}
@@ -102,10 +103,12 @@ module _ (c : InputConditioner) where
   ring-none cap k q =
       let d = dcMarks (modeOf (c .settings .dc)) k in
       let i = iqMarks (settledOf (c .settings .iq)) k in
-      (λ j. markIf cap i (markIf cap d (foldl (mark cap) q (marksFor k (told-none j))) (spanOf (c .released) (length (out-none j)))) (spanOf (c .released) (length (out-none j))))
-      ∙ ap (λ (l : List Span). markIf cap i (markIf cap d (foldl (mark cap) q l) (spanOf (c .released) 0)) (spanOf (c .released) 0)) (none-for k)
-      ∙ ap (λ (y : rules.Marks). markIf cap i y (spanOf (c .released) 0)) (mark-none cap d q (c .released))
-      ∙ mark-none cap i q (c .released)
+      (λ j. markIf cap i (markIf cap d (foldl (mark cap) q (marksFor k (told-none j))) (spanOf (c .counts .released) (length (out-none j))))
+      (spanOf (c .counts .released) (length (out-none j))))
+      ∙ ap (λ (l : List Span). markIf cap i (markIf cap d (foldl (mark cap) q l) (spanOf (c .counts .released) 0)) (spanOf (c .counts .released) 0))
+      (none-for k)
+      ∙ ap (λ (y : rules.Marks). markIf cap i y (spanOf (c .counts .released) 0)) (mark-none cap d q (c .counts .released))
+      ∙ mark-none cap i q (c .counts .released)
 
 module _ (m : Machine) (r : Rings (m .state .settings .spans) (notesIn m .logged)) where
   notes-none : notesAfter m [] ≡ notesIn m
@@ -125,28 +128,13 @@ module _ (m : Machine) (r : Rings (m .state .settings .spans) (notesIn m .logged
   process-none =
       let c = m .state in
       let o = ap length (out-none c) in
-      let seen : c .seen + 0 ≡ c .seen = omega arith in
-      let released : c .released + length (impulseOut c []) ≡ c .released = omega arith in
-      let held : c .held + 0 - length (impulseOut c []) ≡ c .held = omega arith in
+      let n = c .counts in
+      let same : (n .seen + 0 ≡ n .seen) × (n .released + length (impulseOut c []) ≡ n .released) × (n .held + 0 - length (impulseOut c []) ≡ n .held)
+      = (omega arith, omega arith, omega arith) in
+      let counts : countsAfter c 0 (length (impulseOut c [])) ≡ c .counts
+      = λ i. record { seen = same .0 i; released = same .1 i; held = same .2 i } in
       let b = ap (blockerAfterBy (modeOf (c .settings .dc)) (c .blocker)) (out-none c) ∙ level-none c (modeOf (c .settings .dc)) (c .blocker) in
-      λ i.
-      record {
-        state =
-            record {
-              settings = c .settings;
-              seen = seen i;
-              released = released i;
-              held = held i;
-              suppressor = after-none c i;
-              blocker = b i;
-              monitor = c .monitor;
-              log = logged-none i .log;
-              repairs = bare (notes-none i .repairs);
-              longruns = notes-none i .longruns;
-            };
-        spans = logged-none i .spans;
-        repairs = notes-none i .repairs .words;
-      }
+      λ i. machineAfter c (counts i) (after-none c i) (b i) (logged-none i) (notes-none i .repairs) (notes-none i .longruns)
 
 -- ---- a fresh chain
 
@@ -182,7 +170,8 @@ module _ (g : ConditioningConfig) (some : 0 < g .spans) where
 
 -- ---- a chain as making leaves it, whatever stood in the lent words
 
-pub made-is : (g : ConditioningConfig) (spans repairs : List ℕ) (words : List Float) → makingSaid (configOf g) (length spans) (length repairs) (length words) ≡ made
+pub made-is : (g : ConditioningConfig) (spans repairs : List ℕ) (words : List Float)
+    → makingSaid (configOf g) (length spans) (length repairs) (length words) ≡ made
     → madeChain g spans repairs words ≡ freshChain g
 unfolding madeChain freshChain
 made-is g spans repairs words e =

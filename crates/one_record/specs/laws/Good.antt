@@ -27,7 +27,8 @@ use Rattle.stage_mode.specs.View.{modeOf}
 use Rattle.iq_monitor.specs.Words.{wordsFit}
 use Rattle.chain_config.specs.declared.ConditioningConfig.{ConditioningConfig}
 use Rattle.chain_config.specs.Config.{configOf}
-use Rattle.chain_state.specs.Fits.{heldBy, applies, settingsFit, countsFit, gateFits, suppressorFits, blockerFits, coefficientFits, monitorFits, frontFits, logsFit, stagesFit, stateFits}
+use Rattle.chain_state.specs.Fits.{heldBy, applies, settingsFit, countsFit, gateFits, suppressorFits, blockerFits, coefficientFits, monitorFits, frontFits}
+use Rattle.chain_state.specs.Fits.{logsFit, stagesFit, stateFits}
 use Rattle.chain_make.specs.Making.{freshState, freshSettings}
 use Rattle.chain_make.specs.laws.MakingLaws.{settled-again}
 use Rattle.chain.specs.Stages.{impulseOut, process}
@@ -37,7 +38,8 @@ use Rattle.one_record.specs.laws.Reaching.{freshMachine, hopMarks, core,
 use Rattle.one_record.specs.laws.ByRules.{impulse-out, impulse-state, dc-state, repairs-is, long-is, rings-are}
 use Rattle.one_record.specs.laws.Made.{Fit}
 use Rattle.one_record.specs.laws.GoodImpulse.{gate-good, suppressor-good, fresh-gate-good, fresh-suppressor-good}
-use Rattle.one_record.specs.laws.GoodStages.{blocker-good, fresh-blocker-good, coefficient-good, monitor-good, words-good, counts-good, held-most, settings-good}
+use Rattle.one_record.specs.laws.GoodStages.{blocker-good, fresh-blocker-good, coefficient-good, monitor-good, words-good, counts-good, held-most}
+use Rattle.one_record.specs.laws.GoodStages.{settings-good}
 use Rattle.one_record.specs.laws.GoodRings.{ring-good}
 use Rattle.one_record.specs.laws.GoodRepairs.{repairs-good}
 
@@ -71,7 +73,9 @@ handed-length : (s : Setting) (xs : List ℕ) → length (handedOn s xs) ≡ len
 unfolding handedOn
 handed-length s xs = go (s .apply)
   where
-    go : (b : Bool) → length (cond b (upTo (value s (flagged s xs) xs (judged s (length xs))) (length xs - lookahead s)) xs) ≡ length xs - cond b (min (lookahead s) (length xs)) 0
+    go : (b : Bool)
+        → length (cond b (upTo (value s (flagged s xs) xs (judged s (length xs))) (length xs - lookahead s)) xs)
+        ≡ length xs - cond b (min (lookahead s) (length xs)) 0
     go true = length-upTo (value s (flagged s xs) xs (judged s (length xs))) (length xs - lookahead s) ∙ min-less (length xs) (lookahead s)
     go false = omega arith
 
@@ -97,7 +101,8 @@ module _ (g : ConditioningConfig) (f : Fit g) (xs : List ℕ) (hs : List Hop) (r
   unfolding chainAt withHops core process
   suppressor-is = impulse-state g (f .blocks) xs (r .usable)
 
-  setting-is : standard (chainAt g xs hs .machine .state .suppressor .gate .blocklen) (chainAt g xs hs .machine .state .suppressor .gate .apply) ≡ setting
+  setting-is : standard (chainAt g xs hs .machine .state .suppressor .gate .settings .blocklen)
+      (chainAt g xs hs .machine .state .suppressor .gate .settings .apply) ≡ setting
   unfolding chainAt withHops core freshState
   setting-is = setting-same (freshMachine g) xs []
 
@@ -121,31 +126,32 @@ module _ (g : ConditioningConfig) (f : Fit g) (xs : List ℕ) (hs : List Hop) (r
   held-less : heldBy (isApply mode) (length xs) ≤ length xs
   held-less = held-most (isApply mode) (length xs)
 
-  pub seen-is : chainAt g xs hs .machine .state .seen ≡ length xs
+  pub seen-is : chainAt g xs hs .machine .state .counts .seen ≡ length xs
   unfolding chainAt withHops core process freshState
   seen-is = omega arith
 
   out-is : length (impulseOut (freshState g) xs) ≡ length xs - heldBy (isApply mode) (length xs)
   out-is = ap length (impulse-out g (f .blocks) xs (r .usable)) ∙ after-length (configOf g) xs
 
-  pub released-count : chainAt g xs hs .machine .state .released ≡ length xs - heldBy (isApply mode) (length xs)
+  pub released-count : chainAt g xs hs .machine .state .counts .released ≡ length xs - heldBy (isApply mode) (length xs)
   unfolding chainAt withHops core process freshState
   released-count = let o = out-is in omega arith
 
-  pub held-is : chainAt g xs hs .machine .state .held ≡ heldBy (isApply mode) (length xs)
+  pub held-is : chainAt g xs hs .machine .state .counts .held ≡ heldBy (isApply mode) (length xs)
   unfolding chainAt withHops core process freshState
   held-is = let o = out-is in let l = held-less in omega arith
 
   -- ---- the groups of tests
 
-  settings-fit : settingsFit (chainAt g xs hs .machine .state .settings) (chainAt g xs hs .machine .state .suppressor .gate .blocklen) ≡ true
+  settings-fit : settingsFit (chainAt g xs hs .machine .state .settings) (chainAt g xs hs .machine .state .suppressor .gate .settings .blocklen) ≡ true
   unfolding chainAt withHops core process freshState freshSettings
   settings-fit =
-      settings-good (freshSettings g) (chainAt g xs hs .machine .state .suppressor .gate .blocklen) (f .setting) (ap (λ (s : Setting). s .block) setting-is)
+      settings-good (freshSettings g) (chainAt g xs hs .machine .state .suppressor .gate .settings .blocklen) (f .setting)
+      (ap (λ (s : Setting). s .block) setting-is)
 
-  counts-fit : let c = chainAt g xs hs .machine .state in countsFit (applies c) (c .seen) (c .released) (c .held) ≡ true
+  counts-fit : let c = chainAt g xs hs .machine .state in countsFit (applies c) (c .counts) ≡ true
   counts-fit =
-      (λ i. countsFit (applies-is i) (seen-is i) (released-count i) (held-is i))
+      (λ i. countsFit (applies-is i) (record { seen = seen-is i; released = released-count i; held = held-is i }))
       ∙ counts-good (isApply mode) (length xs) (let l = r .few in omega arith)
 
   gate-by : (b : Bool) → gateFits (cond b (stateOf setting xs) (fresh setting) .gate) ≡ true
@@ -163,12 +169,13 @@ module _ (g : ConditioningConfig) (f : Fit g) (xs : List ℕ) (hs : List Hop) (r
   suppressor-by true = suppressor-good (blockLength (g .fs)) (isApply mode) xs (r .usable) (r .few)
   suppressor-by false = fresh-suppressor-good setting (length xs)
 
-  suppressor-fit : let c = chainAt g xs hs .machine .state in suppressorFits (c .suppressor) (c .settings .impulse) (c .seen) ≡ true
+  suppressor-fit : let c = chainAt g xs hs .machine .state in suppressorFits (c .suppressor) (c .settings .impulse) (c .counts .seen) ≡ true
   suppressor-fit = (λ i. suppressorFits (suppressor-is i) (running i) (seen-is i)) ∙ suppressor-by (runs mode)
 
   -- ---- the rings
 
-  logged-is : _≡_ {A = Logged} (record { log = chainAt g xs hs .machine .state .log; spans = chainAt g xs hs .machine .spans }) (hopLogged (core g xs) (hopMarks g hs))
+  logged-is : _≡_ {A = Logged} (record { log = chainAt g xs hs .machine .state .notes .log; spans = chainAt g xs hs .machine .spans })
+      (hopLogged (core g xs) (hopMarks g hs))
   unfolding chainAt withHops
   logged-is = refl
 
@@ -176,7 +183,8 @@ module _ (g : ConditioningConfig) (f : Fit g) (xs : List ℕ) (hs : List Hop) (r
   unfolding logFits marksAt
   rings-fit =
       all-of (λ k. ringFits (g .spans) (ringOf (hopLogged (core g xs) (hopMarks g hs) .log) k) (countOf (hopLogged (core g xs) (hopMarks g hs) .log) k)) 12
-      (by-ring (λ k. ringFits (g .spans) (ringOf (hopLogged (core g xs) (hopMarks g hs) .log) k) (countOf (hopLogged (core g xs) (hopMarks g hs) .log) k) ≡ true)
+      (by-ring
+      (λ k. ringFits (g .spans) (ringOf (hopLogged (core g xs) (hopMarks g hs) .log) k) (countOf (hopLogged (core g xs) (hopMarks g hs) .log) k) ≡ true)
       (λ st m.
       ap (λ (q : rules.Marks). ringFits (g .spans) (bare (q .ring)) (q .samples)) (rings-are g (f .blocks) xs (r .usable) (f .limits .some-spans) hs st m)
       ∙ ring-good (configOf g) xs hs (f .limits .some-spans) (r .few) (f .limits .size) (r .order) st m .0))
@@ -190,11 +198,11 @@ module _ (g : ConditioningConfig) (f : Fit g) (xs : List ℕ) (hs : List Hop) (r
       ap (λ (q : rules.Marks). endFits (g .spans) (q .ring)) (rings-are g (f .blocks) xs (r .usable) (f .limits .some-spans) hs st m)
       ∙ ring-good (configOf g) xs hs (f .limits .some-spans) (r .few) (f .limits .size) (r .order) st m .1))
 
-  pub repair-ring : ringIn (chainAt g xs hs .machine .state .repairs) (chainAt g xs hs .machine .repairs) ≡ repairRing (configOf g) xs
+  pub repair-ring : ringIn (chainAt g xs hs .machine .state .notes .repairs) (chainAt g xs hs .machine .repairs) ≡ repairRing (configOf g) xs
   unfolding chainAt withHops core process
   repair-ring = repairs-is g (f .blocks) xs (r .usable)
 
-  pub long-runs : chainAt g xs hs .machine .state .longruns ≡ longRunsOf (configOf g) xs
+  pub long-runs : chainAt g xs hs .machine .state .notes .longruns ≡ longRunsOf (configOf g) xs
   unfolding chainAt withHops core process
   long-runs = long-is g (f .blocks) xs (r .usable)
 
@@ -207,12 +215,16 @@ module _ (g : ConditioningConfig) (f : Fit g) (xs : List ℕ) (hs : List Hop) (r
 
   -- ---- the other stages
 
-  blocker-by : (b : Bool) → blockerFits (cond b (blockerOf (corner (g .fs)) (levelAfter (corner (g .fs)) firstLevel (afterImpulse (configOf g) xs))) (blockerOf (corner (g .fs)) firstLevel)) ≡ true
+  blocker-by : (b : Bool)
+      → blockerFits
+      (cond b (blockerOf (corner (g .fs)) (levelAfter (corner (g .fs)) firstLevel (afterImpulse (configOf g) xs))) (blockerOf (corner (g .fs)) firstLevel))
+      ≡ true
   blocker-by true = blocker-good (configOf g) xs (f .limits .rate) (r .usable) (r .few)
   blocker-by false = fresh-blocker-good (g .fs)
 
   pub blocker-is : chainAt g xs hs .machine .state .blocker
-      ≡ cond (runs (modeOf (g .dc))) (blockerOf (corner (g .fs)) (levelAfter (corner (g .fs)) firstLevel (afterImpulse (configOf g) xs))) (blockerOf (corner (g .fs)) firstLevel)
+      ≡ cond (runs (modeOf (g .dc))) (blockerOf (corner (g .fs)) (levelAfter (corner (g .fs)) firstLevel (afterImpulse (configOf g) xs)))
+      (blockerOf (corner (g .fs)) firstLevel)
   unfolding chainAt withHops core process freshState freshSettings
   blocker-is = dc-state g (f .blocks) xs (r .usable)
 
@@ -233,7 +245,8 @@ module _ (g : ConditioningConfig) (f : Fit g) (xs : List ℕ) (hs : List Hop) (r
   unfolding stateFits
   state-good = and-so _ _ (and-so _ _ (and-so _ _ front-fit suppressor-fit) logs-fit) stages-fit
 
-  pub spans-good : let c = chainAt g xs hs .machine .state in endsFit (c .settings .spans) (record { log = c .log; spans = chainAt g xs hs .machine .spans }) ≡ true
+  pub spans-good : let c = chainAt g xs hs .machine .state in
+      endsFit (c .settings .spans) (record { log = c .notes .log; spans = chainAt g xs hs .machine .spans }) ≡ true
   unfolding freshSettings
   spans-good = (λ i. endsFit (settings-is i .spans) (logged-is i)) ∙ ends-good
 

@@ -13,13 +13,13 @@ use lib.Seq.{length-take-le}
 use Rattle.ieee.specs.laws.Bounds.{within-mono}
 use Rattle.ieee.specs.Plain.{signClear}
 use Rattle.rules.specs.laws.TestLaws.{and-so}
-use Rattle.rules.specs.Constants.{zeroF, powerLimit}
+use Rattle.rules.specs.Constants.{zeroF, powerLimit, totalLimit}
 use Rattle.rules.specs.Guard.{magnitude, Usable}
 use Rattle.rules.specs.laws.SizeLaws.{within-size}
 use Rattle.rules.specs.Refusals.{withinLimit}
 use Rattle.rules.specs.Sort.{sort}
 use Rattle.rules.specs.laws.SortLaws.{all-getD, sort-length}
-use Rattle.rules.specs.Impulse.{Setting, standard}
+use Rattle.rules.specs.Impulse.{Setting, standard, windowSize, nextJudged}
 use Rattle.log.specs.Check.{allTo}
 use Rattle.log.specs.laws.CheckLaws.{all-of}
 use Rattle.impulse.specs.declared.Run.{Run}
@@ -33,7 +33,8 @@ use Rattle.impulse.specs.Sound.{WordWithin, PowerWithin, Sound}
 use Rattle.impulse.specs.laws.PartBounds.{within-limit}
 use Rattle.impulse.specs.laws.StateBounds.{state-sound}
 use Rattle.impulse.specs.laws.Theorem.{stateOf}
-use Rattle.chain_state.specs.Fits.{counter, windowSize, nextJudged, runFits, leftFits, gateFits, windowHeld, pendingHeld, powerFits, powersFit, samplesFit, arraysFit, sortedFits, runningFits, suppressorFits}
+use Rattle.chain_state.specs.Fits.{counter, runFits, leftFits, gateFits, windowHeld, pendingHeld, powerFits, powersFit, samplesFit, arraysFit, sortedFits}
+use Rattle.chain_state.specs.Fits.{runningFits, suppressorFits}
 
 holds : (b : Bool) → T b → b ≡ true
 holds true t = refl
@@ -55,22 +56,24 @@ power-good p h = and-so (signClear p) (le (magnitude p) powerLimit) (holds (sign
 
 run-good : (o : Open) (j : ℕ) → ((r : Run) → o ≡ Running r → (0 < r .len) × (r .start + r .len ≡ j)) → runFits o j ≡ true
 run-good Closed j h = refl
-run-good (Running r) j h = let p = h r refl in and-so (ltb 0 (r .len)) (eqb (r .start + r .len) j) (lt-ltb 0 (r .len) (p .0)) (eq-eqb (r .start + r .len) j (p .1))
+run-good (Running r) j h = let p = h r refl in
+    and-so (ltb 0 (r .len)) (eqb (r .start + r .len) j) (lt-ltb 0 (r .len) (p .0)) (eq-eqb (r .start + r .len) j (p .1))
 
 left-good : (l : Left) → ((x : ℕ) → l ≡ Neighbour x → WordWithin (2 ^ 59) x) → leftFits l ≡ true
 left-good Missing h = refl
 left-good (Neighbour x) h = word-good x (h x refl)
 
-module _ (b : ℕ) (a : Bool) (n : ℕ) (m : ImpulseSuppressor) (p : Sound (standard b a) n m) (h : n ≤ 2 ^ 48) where
+module _ (b : ℕ) (a : Bool) (n : ℕ) (m : ImpulseSuppressor) (p : Sound (standard b a) n m) (h : n ≤ totalLimit) where
   pub sound-gate : gateFits (m .gate) ≡ true
   unfolding gateFits
   sound-gate =
       let g = m .gate in
       let received : counter (g .received) ≡ true = le-leb (g .received) (2 ^ 52) (omega (arith, p .received)) in
-      let block : counter (g .block) ≡ true = le-leb (g .block) (2 ^ 52) (omega (arith, p .block)) in
-      let flags : counter (g .flagged) ≡ true = le-leb (g .flagged) (2 ^ 52) (omega (arith, p .flags)) in
-      let run : runFits (g .run) (nextJudged (g .received)) ≡ true = ap (λ (k : ℕ). runFits (g .run) (nextJudged k)) (p .received) ∙ run-good (g .run) (nextJudged n) (p .run) in
-      let left : leftFits (g .left) ≡ true = left-good (g .left) (p .left) in
+      let block : counter (g .block .number) ≡ true = le-leb (g .block .number) (2 ^ 52) (omega (arith, p .block)) in
+      let flags : counter (g .block .flagged) ≡ true = le-leb (g .block .flagged) (2 ^ 52) (omega (arith, p .flags)) in
+      let run : runFits (g .mending .run) (nextJudged (g .received)) ≡ true = ap (λ (k : ℕ). runFits (g .mending .run) (nextJudged k)) (p .received)
+      ∙ run-good (g .mending .run) (nextJudged n) (p .run) in
+      let left : leftFits (g .mending .left) ≡ true = left-good (g .mending .left) (p .left) in
       λ i. received i && block i && flags i && run i && left i
 
   powers : powersFit (windowHeld (m .gate .received)) (m .window) ≡ true
@@ -93,7 +96,8 @@ module _ (b : ℕ) (a : Bool) (n : ℕ) (m : ImpulseSuppressor) (p : Sound (stan
   sorted-begins k q =
       let held : min n windowSize ≡ windowHeld (m .gate .received) = omega (arith, p .received) in
       let l = sort lt (take (min n windowSize) (m .window)) in
-      let long : length l ≡ min n windowSize = sort-length lt (take (min n windowSize) (m .window)) ∙ length-take-le (min n windowSize) (m .window) (omega (arith, p .window-length)) in
+      let long : length l ≡ min n windowSize = sort-length lt (take (min n windowSize) (m .window))
+      ∙ length-take-le (min n windowSize) (m .window) (omega (arith, p .window-length)) in
       ap (λ (t : List Float). getD t k zeroF) (p .sorted)
       ∙ List·getD-append l (replicate (windowSize - length l) zeroF) zeroF k (omega (arith, long, held))
       ∙ ap (λ (j : ℕ). getD (sort lt (take j (m .window))) k zeroF) held
@@ -115,7 +119,7 @@ module _ (b : ℕ) (a : Bool) (n : ℕ) (m : ImpulseSuppressor) (p : Sound (stan
 
 -- ---- THE STAGE after usable samples, and before any
 
-module _ (b : ℕ) (a : Bool) (xs : List ℕ) (u : Usable xs) (h : length xs ≤ 2 ^ 48) where
+module _ (b : ℕ) (a : Bool) (xs : List ℕ) (u : Usable xs) (h : length xs ≤ totalLimit) where
   sound : Sound (standard b a) (length xs) (stateOf (standard b a) xs)
   sound = state-sound (standard b a) (lit≤ tt) xs u (length xs) (omega arith)
 

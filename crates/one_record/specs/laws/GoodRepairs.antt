@@ -6,13 +6,15 @@ use Prim.Native.Nat.{ℕ, zero, suc, _+_, _*_, _^_, _≤_, _<_}
 use native.Mathlib.Omega.{arith}
 use lib.Dec.{ltb}
 use lib.ListN.{length, take, drop, length-append}
-use Rattle.rules.specs.Impulse.{Setting, flagged, judged, before, start, closes, blockOf, paused, touches, mendable, Event, uncertain, kept, mended, eventsAt, events, happened}
+use Rattle.rules.specs.Impulse.{Setting, flagged, judged, before, start, closes, blockOf, paused, touches, mendable, Event, uncertain, kept, mended, eventsAt}
+use Rattle.rules.specs.Impulse.{events, happened}
 use Rattle.rules.specs.Log.{Ring, emptyRing, append, repairWidth, repaired, repairsOf, longRuns, Sound}
 use Rattle.rules.specs.laws.RingLaws.{append-sound, append-drops, empty-sound, filled}
 use Rattle.rules.specs.laws.RingReading.{repaired-sound}
 use Rattle.rules.specs.laws.EventLaws.{repairs-append, long-append}
 use Rattle.rules.specs.Chain.{Config, settingOf, impulseEvents, repairRing, longRunsOf}
 use Rattle.rules.specs.Mode.{runs}
+use Rattle.rules.specs.Constants.{totalLimit}
 use Rattle.log.specs.View.{bare}
 use Rattle.log.specs.Check.{ringFits}
 use Rattle.log.specs.laws.CheckLaws.{InRange, range-ring}
@@ -43,7 +45,10 @@ few-at s F xs j = go (paused (s .block) F (blockOf s j)) (closes F j) (mendable 
     long false = omega arith
 
     go : (p c m : Bool)
-        → Few (cond p (uncertain j ∷ []) [] ++ cond c (cond m (mended (start F j) (before F j) (take (before F j) (drop (start F j) xs))) (kept (start F j) (before F j) (ltb (s .run) (before F j))) ∷ []) [])
+        → Few (cond p (uncertain j ∷ []) []
+        ++ cond c
+        (cond m (mended (start F j) (before F j) (take (before F j) (drop (start F j) xs)))
+        (kept (start F j) (before F j) (ltb (s .run) (before F j))) ∷ []) [])
     go true true true = record { repairs = omega arith; longruns = omega arith }
     go false true true = record { repairs = omega arith; longruns = omega arith }
     go true true false = record { repairs = omega arith; longruns = omega (arith, long (ltb (s .run) (before F j))) }
@@ -71,23 +76,30 @@ events-recorded s F xs (suc j) =
     let r = events-recorded s F xs j in
     let f = few-at s F xs j in
     let n = length-append (repairsOf es) (repairsOf fs) in
-    record { repairs = rw (repairs-append es fs) (omega (arith, r .repairs, f .repairs)); longruns = omega (arith, long-append es fs, r .longruns, f .longruns) }
+    record {
+      repairs = rw (repairs-append es fs) (omega (arith, r .repairs, f .repairs));
+      longruns =
+          omega (arith, long-append es fs, r .longruns, f .longruns);
+    }
 
 pub impulse-recorded : (c : Config) (xs : List ℕ) → Recorded (length xs) (impulseEvents c xs)
 unfolding impulseEvents happened
 impulse-recorded c xs = go (runs (c .impulseMode))
   where
     go : (t : Bool) → Recorded (length xs) (cond t (events (settingOf c) (flagged (settingOf c) xs) xs (judged (settingOf c) (length xs))) [])
-    go true = let r = events-recorded (settingOf c) (flagged (settingOf c) xs) xs (judged (settingOf c) (length xs)) in record { repairs = omega (arith, r .repairs); longruns = omega (arith, r .longruns) }
+    go true = let r = events-recorded (settingOf c) (flagged (settingOf c) xs) xs (judged (settingOf c) (length xs)) in
+        record { repairs = omega (arith, r .repairs); longruns = omega (arith, r .longruns) }
     go false = recorded-none (length xs)
 
 -- THE REPAIR RING and the long-run count pass number 5's tests
-pub repairs-good : (c : Config) (xs : List ℕ) → 0 < c .repairs → length xs ≤ 2 ^ 48 → ringFits (c .repairs) (bare (repairRing c xs)) (longRunsOf c xs) ≡ true
+pub repairs-good : (c : Config) (xs : List ℕ) → 0 < c .repairs → length xs ≤ totalLimit
+    → ringFits (c .repairs) (bare (repairRing c xs)) (longRunsOf c xs) ≡ true
 unfolding repairRing longRunsOf
 repairs-good c xs p h =
     let rs = repairsOf (impulseEvents c xs) in
     let k = repaired-sound (c .repairs) rs p in
     let r = impulse-recorded c xs in
     let d = repaired-drops (c .repairs) rs p in
-    let i : InRange (c .repairs) (bare (repaired (c .repairs) rs)) (longRuns (impulseEvents c xs)) = record { headIn = k .headIn; countIn = k .countIn; dropped = omega (arith, r .repairs); count = omega (arith, r .longruns) } in
+    let i : InRange (c .repairs) (bare (repaired (c .repairs) rs)) (longRuns (impulseEvents c xs)) =
+    record { headIn = k .headIn; countIn = k .countIn; dropped = omega (arith, r .repairs); count = omega (arith, r .longruns) } in
     range-ring (c .repairs) (bare (repaired (c .repairs) rs)) (longRuns (impulseEvents c xs)) i

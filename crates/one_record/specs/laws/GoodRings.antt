@@ -9,11 +9,13 @@ use Rattle.rules.specs.laws.ListLaws.{length-map}
 use Rattle.rules.specs.Impulse.{Setting, flagged, judged, start, events, happened}
 use Rattle.rules.specs.Dc.{corner, firstLevel, blockedAll}
 use Rattle.rules.specs.Iq.{Settled, Off, Observing, Withheld, Correcting, correctedBy}
-use Rattle.rules.specs.Monitor.{Hop, hopEnd, reported, Answer, noReport, report, windowLength, windowStart, due, reportOf, answerTo, nextWindow, answers, suspectedSpan, suspectedSpans}
+use Rattle.rules.specs.Monitor.{Hop, hopEnd, reported, Answer, noReport, report, windowLength, windowStart, due, reportOf, answerTo, nextWindow, answers}
+use Rattle.rules.specs.Monitor.{suspectedSpan, suspectedSpans}
 use Rattle.rules.specs.Log.{Span, spanOf, Marks, marked, Stage, impulse, dc, iq, Mark, Repaired, Flagged, Corrected, Uncertain, marksOf}
 use Rattle.rules.specs.laws.MarkLaws.{lengths, AllEndBy, marked-sound, marked-samples, marked-dropped, marked-ends}
 use Rattle.rules.specs.Chain.{Config, settingOf, impulseEvents, afterImpulse, afterDc, settledBy, released, dcMarks, iqMarks, evidence, marksIn, ringOf}
 use Rattle.rules.specs.Mode.{isApply, runs}
+use Rattle.rules.specs.Constants.{sizeLimit, totalLimit}
 use Rattle.log.specs.View.{bare}
 use Rattle.log.specs.Check.{ringFits, endFits}
 use Rattle.log.specs.laws.CheckLaws.{InRange, range-ring, end-fits}
@@ -37,7 +39,8 @@ lengths-total (m ∷ ms) = ap (λ (n : ℕ). m .len + n) (lengths-total ms)
 
 climbing-end : (lo b : ℕ) (ms : List Span) → Up lo b ms → AllEndBy b ms
 climbing-end lo b [] u = tt
-climbing-end lo b (m ∷ ms) u = let t = total-fits (m .start + m .len) ms (u .0 .1) in (omega (arith, u .1), climbing-end (m .start + m .len) b ms (u .0 .1, u .1))
+climbing-end lo b (m ∷ ms) u = let t = total-fits (m .start + m .len) ms (u .0 .1) in
+    (omega (arith, u .1), climbing-end (m .start + m .len) b ms (u .0 .1, u .1))
 
 -- what number 5 tests of a ring of spans and its count
 abbrev pub Good : ℕ → Marks → Type 0
@@ -50,8 +53,11 @@ marks-good cap ms h u =
     let t = total-fits 0 ms (u .0) in
     let n = marked-samples cap ms h in
     let d = marked-dropped cap ms h in
-    let r : InRange cap (bare (marked cap ms .ring)) (marked cap ms .samples) = record { headIn = k .headIn; countIn = k .countIn; dropped = omega (arith, u .1); count = omega (arith, u .1) } in
-    (range-ring cap (bare (marked cap ms .ring)) (marked cap ms .samples) r, end-fits cap (marked cap ms .ring) (marked-ends cap ms (2 ^ 49) h (climbing-end 0 (2 ^ 49) ms u)))
+    let r : InRange cap (bare (marked cap ms .ring)) (marked cap ms .samples) =
+    record { headIn = k .headIn; countIn = k .countIn; dropped = omega (arith, u .1); count = omega (arith, u .1) } in (
+      range-ring cap (bare (marked cap ms .ring)) (marked cap ms .samples) r,
+      end-fits cap (marked cap ms .ring) (marked-ends cap ms (2 ^ 49) h (climbing-end 0 (2 ^ 49) ms u)),
+    )
 
 up-later : (lo a b : ℕ) (ms : List Span) → a ≤ b → Up lo a ms → Up lo b ms
 up-later lo a b ms h u = (u .0, omega (arith, u .1))
@@ -76,7 +82,8 @@ module _ (s : Setting) (F : ℕ → Bool) (xs : List ℕ) where
 
 happened-up : (s : Setting) (xs : List ℕ) (r : Mark) → Up 0 (length xs) (marksOf r (happened s xs))
 unfolding happened
-happened-up s xs r = up-later 0 (judged s (length xs)) (length xs) (marksOf r (happened s xs)) (omega arith) (events-up s (flagged s xs) xs r (judged s (length xs)))
+happened-up s xs r =
+    up-later 0 (judged s (length xs)) (length xs) (marksOf r (happened s xs)) (omega arith) (events-up s (flagged s xs) xs r (judged s (length xs)))
 
 pub impulse-up : (c : Config) (xs : List ℕ) (r : Mark) → Up 0 (length xs) (marksOf r (impulseEvents c xs))
 unfolding impulseEvents marksOf
@@ -123,7 +130,8 @@ abbrev firstOf : List Hop → ℕ → ℕ
 firstOf [] end = end
 firstOf (g ∷ w) end = g .start
 
-starts : (w : List Hop) (h : Hop) (lo end : ℕ) → lo ≤ firstOf w end → firstOf w end ≤ end → end ≤ h .start → (lo ≤ windowStart (w ++ (h ∷ []))) × (windowStart (w ++ (h ∷ [])) ≤ h .start)
+starts : (w : List Hop) (h : Hop) (lo end : ℕ) → lo ≤ firstOf w end → firstOf w end ≤ end → end ≤ h .start
+    → (lo ≤ windowStart (w ++ (h ∷ []))) × (windowStart (w ++ (h ∷ [])) ≤ h .start)
 starts [] h lo end a b e = (omega arith, omega arith)
 starts (g ∷ w) h lo end a b e = (a, omega arith)
 
@@ -148,27 +156,31 @@ one-up n length lo end b w hs h x y e r = go (due n length w h)
 
     go : (t : Bool) → Up lo b (suspectedSpan (cond t (report (reportOf n w h)) noReport) ++ suspectedSpans (answers n length (cond t [] (w ++ (h ∷ []))) hs))
     go true =
-        after-one (reportOf n w h .suspected) (windowStart (w ++ (h ∷ []))) (hopEnd n h) lo b (suspectedSpans (answers n length [] hs)) (begun .0) (omega (arith, begun .1))
+        after-one (reportOf n w h .suspected) (windowStart (w ++ (h ∷ []))) (hopEnd n h) lo b (suspectedSpans (answers n length [] hs)) (begun .0)
+        (omega (arith, begun .1))
         (λ l k. r [] l k (omega arith))
     go false = let f = first-of w h (hopEnd n h) in r (w ++ (h ∷ [])) lo (omega (arith, begun .0)) (omega (arith, begun .1))
 
-suspected-up : (n length lo end : ℕ) (w hs : List Hop) → lo ≤ firstOf w end → firstOf w end ≤ end → InOrder n end hs → Up lo (lastEnd n end hs) (suspectedSpans (answers n length w hs))
+suspected-up : (n length lo end : ℕ) (w hs : List Hop) → lo ≤ firstOf w end → firstOf w end ≤ end → InOrder n end hs
+    → Up lo (lastEnd n end hs) (suspectedSpans (answers n length w hs))
 unfolding answers suspectedSpans lastEnd
 suspected-up n length lo end w [] a b o = (tt, omega arith)
 suspected-up n length lo end w (h ∷ hs) a b o =
     one-up n length lo end (lastEnd n (hopEnd n h) hs) w hs h a b (is-next end (h .start) (o .0 .start) .1)
     (λ v l x y. suspected-up n length l (hopEnd n h) v hs x y (o .1))
 
-pub evidence-up : (c : Config) (hs : List Hop) → c .n ≤ 2048 → InOrder (c .n) 0 hs → Up 0 (2 ^ 48 + 512) (suspectedSpans (evidence c hs))
+pub evidence-up : (c : Config) (hs : List Hop) → c .n ≤ sizeLimit → InOrder (c .n) 0 hs → Up 0 (totalLimit + 512) (suspectedSpans (evidence c hs))
 unfolding evidence
 evidence-up c hs big o =
     let n = windowLength (c .fs) in
     let s = sound-hops (c .n) n 0 [] hs big o (sound-none (c .n)) in
-    up-later 0 (lastEnd (c .n) 0 hs) (2 ^ 48 + 512) (suspectedSpans (answers (c .n) n [] hs)) (s .late) (suspected-up (c .n) n 0 0 [] hs (omega arith) (omega arith) o)
+    up-later 0 (lastEnd (c .n) 0 hs) (totalLimit + 512) (suspectedSpans (answers (c .n) n [] hs)) (s .late)
+    (suspected-up (c .n) n 0 0 [] hs (omega arith) (omega arith) o)
 
 -- ---- the IQ stage
 
-pub iq-up : (c : Config) (xs : List ℕ) (given : List Answer) (z : Settled) (r : Mark) → length xs ≤ 2 ^ 48 → Up 0 (2 ^ 48 + 512) (suspectedSpans given) → Up 0 (2 ^ 49) (iqMarks c xs given z r)
+pub iq-up : (c : Config) (xs : List ℕ) (given : List Answer) (z : Settled) (r : Mark) → length xs ≤ totalLimit → Up 0 (totalLimit + 512) (suspectedSpans given)
+    → Up 0 (2 ^ 49) (iqMarks c xs given z r)
 iq-up c xs given (Correcting q) Corrected h u = up-one (length (released c xs)) (2 ^ 49) (omega (arith, released-length c xs))
 iq-up c xs given (Correcting q) Repaired h u = up-none (2 ^ 49)
 iq-up c xs given (Correcting q) Flagged h u = up-none (2 ^ 49)
@@ -177,7 +189,7 @@ iq-up c xs given Withheld Uncertain h u = up-one (length (released c xs)) (2 ^ 4
 iq-up c xs given Withheld Repaired h u = up-none (2 ^ 49)
 iq-up c xs given Withheld Flagged h u = up-none (2 ^ 49)
 iq-up c xs given Withheld Corrected h u = up-none (2 ^ 49)
-iq-up c xs given Observing Uncertain h u = up-later 0 (2 ^ 48 + 512) (2 ^ 49) (suspectedSpans given) (omega arith) u
+iq-up c xs given Observing Uncertain h u = up-later 0 (totalLimit + 512) (2 ^ 49) (suspectedSpans given) (omega arith) u
 iq-up c xs given Observing Repaired h u = up-none (2 ^ 49)
 iq-up c xs given Observing Flagged h u = up-none (2 ^ 49)
 iq-up c xs given Observing Corrected h u = up-none (2 ^ 49)
@@ -185,12 +197,14 @@ iq-up c xs given Off r h u = up-none (2 ^ 49)
 
 -- ---- all twelve rings
 
-pub marks-up : (c : Config) (xs : List ℕ) (hs : List Hop) → length xs ≤ 2 ^ 48 → c .n ≤ 2048 → InOrder (c .n) 0 hs → (st : Stage) (m : Mark) → Up 0 (2 ^ 49) (marksIn c xs hs st m)
+pub marks-up : (c : Config) (xs : List ℕ) (hs : List Hop) → length xs ≤ totalLimit → c .n ≤ sizeLimit → InOrder (c .n) 0 hs → (st : Stage) (m : Mark)
+    → Up 0 (2 ^ 49) (marksIn c xs hs st m)
 marks-up c xs hs h big o impulse m = up-later 0 (length xs) (2 ^ 49) (marksOf m (impulseEvents c xs)) (omega arith) (impulse-up c xs m)
 marks-up c xs hs h big o dc m = up-later 0 (length xs) (2 ^ 49) (dcMarks c xs m) (omega arith) (dc-up c xs m)
 marks-up c xs hs h big o iq m = iq-up c xs (evidence c hs) (settledBy c) m h (evidence-up c hs big o)
 
 -- THE RINGS OF SPANS pass number 5's tests
-pub ring-good : (c : Config) (xs : List ℕ) (hs : List Hop) → 0 < c .spans → length xs ≤ 2 ^ 48 → c .n ≤ 2048 → InOrder (c .n) 0 hs → (st : Stage) (m : Mark) → Good (c .spans) (ringOf c xs hs st m)
+pub ring-good : (c : Config) (xs : List ℕ) (hs : List Hop) → 0 < c .spans → length xs ≤ totalLimit → c .n ≤ sizeLimit → InOrder (c .n) 0 hs
+    → (st : Stage) (m : Mark) → Good (c .spans) (ringOf c xs hs st m)
 unfolding ringOf
 ring-good c xs hs p h big o st m = marks-good (c .spans) (marksIn c xs hs st m) p (marks-up c xs hs h big o st m)

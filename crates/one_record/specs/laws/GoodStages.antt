@@ -1,4 +1,5 @@
--- Number 5's tests on the other stages, the counts and the settings find nothing: the DC stage after usable samples, at most 2 ^ 48 of them; the monitor after accepted hops. Assumes nothing.
+-- Number 5's tests on the other stages, the counts and the settings find nothing: the DC stage after usable samples, at most 2 ^ 48 of them; the monitor after
+-- accepted hops. Assumes nothing.
 use mathlib.Core.Path.{_≡_, refl, sym, subst}
 use mathlib.Core.Bool.{Bool, true, false, cond, _&&_}
 use mathlib.Core.List.{List, [], _∷_, _++_}
@@ -10,7 +11,7 @@ use lib.Ieee.{Float, le, ofBits}
 use lib.ListN.{length}
 use Rattle.ieee.specs.laws.Bounds.{within-mono}
 use Rattle.complex.specs.Complex.{sampleOf}
-use Rattle.rules.specs.Constants.{one, rateLimit}
+use Rattle.rules.specs.Constants.{one, rateLimit, sizeLimit, totalLimit}
 use Rattle.rules.specs.laws.TestLaws.{both, and-so}
 use Rattle.rules.specs.Lists.{upTo, at}
 use Rattle.rules.specs.laws.ListLaws.{length-upTo}
@@ -42,10 +43,16 @@ use Rattle.chain_state.specs.Fits.{counter, settingsFit, heldBy, countsFit, blo
 value-within : (s : Setting) → s .run ≤ 32 → (F : ℕ → Bool) (xs : List ℕ) → ((i : ℕ) → i < length xs → WordWithin (2 ^ 57) (at xs i))
     → (j k : ℕ) → j ≤ length xs → k < length xs → WordWithin (2 ^ 59) (value s F xs j k)
 value-within s short F xs each =
-    value-keeps (WordWithin (2 ^ 57)) (WordWithin (2 ^ 59)) s F xs (λ x w. within-more (2 ^ 57) (2 ^ 59) x (lit≤ tt) w) (λ l r t n wl wr a b. mended-within l r t n a (omega arith) wl wr) each
+    value-keeps (WordWithin (2 ^ 57)) (WordWithin (2 ^ 59)) s F xs (λ x w. within-more (2 ^ 57) (2 ^ 59) x (lit≤ tt) w)
+    (λ l r t n wl wr a b. mended-within l r t n a (omega arith) wl wr) each
 
 given : (w : ℕ) → WordWithin (2 ^ 59) w → Given w
-given w h = record { re = within-mono (sampleOf w .re) (2 ^ 59) 1 (2 ^ 60) 1 (lit< tt) (lit≤ tt) (h .0); im = within-mono (sampleOf w .im) (2 ^ 59) 1 (2 ^ 60) 1 (lit< tt) (lit≤ tt) (h .1) }
+given w h =
+    record {
+      re = within-mono (sampleOf w .re) (2 ^ 59) 1 (2 ^ 60) 1 (lit< tt) (lit≤ tt) (h .0);
+      im =
+          within-mono (sampleOf w .im) (2 ^ 59) 1 (2 ^ 60) 1 (lit< tt) (lit≤ tt) (h .1);
+    }
 
 all-snoc : (P : ℕ → Type 0) (l : List ℕ) (x : ℕ) → level.All P l → P x → level.All P (l ++ (x ∷ []))
 all-snoc P [] x a p = level.All.more p level.All.none
@@ -71,7 +78,9 @@ handed-given s short xs u = go (s .apply)
     each i q = usable-within (at xs i) (all-getD (λ w. T (usable w)) xs i 0 u q)
 
     go : (b : Bool) → level.All Given (cond b (upTo f (length xs - lookahead s)) xs)
-    go true = all-up-to Given f (length xs - lookahead s) (λ k l. given (f k) (value-within s short (flagged s xs) xs each (judged s (length xs)) k (omega arith) (omega arith)))
+    go true =
+        all-up-to Given f (length xs - lookahead s)
+        (λ k l. given (f k) (value-within s short (flagged s xs) xs each (judged s (length xs)) k (omega arith) (omega arith)))
     go false = usable-given xs u
 
 handed-most : (s : Setting) (xs : List ℕ) → length (handedOn s xs) ≤ length xs
@@ -108,10 +117,11 @@ level-good : (a : Float) (l : Level) → l .updates ≤ 2 ^ 52 → limited (l .l
 unfolding blockerFits
 level-good a l h r m = let n : counter (l .updates) ≡ true = le-leb (l .updates) (2 ^ 52) h in λ i. n i && r i && m i
 
-pub blocker-good : (c : Config) (xs : List ℕ) → ranged one rateLimit (c .fs) ≡ true → Usable xs → length xs ≤ 2 ^ 48 → blockerFits (blockerOf (corner (c .fs)) (levelAfter (corner (c .fs)) firstLevel (afterImpulse c xs))) ≡ true
+pub blocker-good : (c : Config) (xs : List ℕ) → ranged one rateLimit (c .fs) ≡ true → Usable xs → length xs ≤ totalLimit
+    → blockerFits (blockerOf (corner (c .fs)) (levelAfter (corner (c .fs)) firstLevel (afterImpulse c xs))) ≡ true
 blocker-good c xs r u h =
     let ys = afterImpulse c xs in
-    let few : length ys ≤ 2 ^ 48 = omega (arith, after-most c xs) in
+    let few : length ys ≤ totalLimit = omega (arith, after-most c xs) in
     let b = level-bounded (c .fs) ys (subst T (sym r) tt) (after-given c xs u) few in
     let n : levelAfter (corner (c .fs)) firstLevel ys .updates ≤ 2 ^ 52 = omega (arith, b .updates) in
     level-good (corner (c .fs)) (levelAfter (corner (c .fs)) firstLevel ys) n (b .re-limited) (b .im-limited)
@@ -146,7 +156,7 @@ unfolding monitorFits
 window-good [] e h k = and-so (counter e) true (le-leb e (2 ^ 52) k) refl
 window-good (a ∷ w) e h k = and-so (counter e) (leb (a .start) e) (le-leb e (2 ^ 52) k) (le-leb (a .start) e h)
 
-module _ (fs : Float) (n : ℕ) (hs : List Hop) (few : n ≤ 2048) (o : InOrder n 0 hs) where
+module _ (fs : Float) (n : ℕ) (hs : List Hop) (few : n ≤ sizeLimit) (o : InOrder n 0 hs) where
   pub monitor-good : monitorFits (byRules fs n [] 0 hs .monitor) ≡ true
   monitor-good = let r = no-five fs n hs few o in window-good (openWindow n (windowLength fs) [] hs) (lastEnd n 0 hs) (r .first) (r .end)
 
@@ -159,7 +169,7 @@ pub held-most : (a : Bool) (n : ℕ) → heldBy a n ≤ n
 held-most true n = omega arith
 held-most false n = omega arith
 
-pub counts-good : (a : Bool) (n : ℕ) → n ≤ 2 ^ 52 → countsFit a n (n - heldBy a n) (heldBy a n) ≡ true
+pub counts-good : (a : Bool) (n : ℕ) → n ≤ 2 ^ 52 → countsFit a (record { seen = n; released = n - heldBy a n; held = heldBy a n }) ≡ true
 unfolding countsFit
 counts-good a n h =
     let m = held-most a n in
@@ -175,7 +185,8 @@ counts-good a n h =
     back : (n k : ℕ) → k ≤ n → n - k + k ≡ n
     back n k h = omega arith
 
-pub settings-good : (s : Settings) (block : ℕ) → settingRefusal (s .fs) (s .n) (s .spans) (s .repairs) ≡ 0 → block ≡ blockLength (s .fs) → settingsFit s block ≡ true
+pub settings-good : (s : Settings) (block : ℕ) → settingRefusal (s .fs) (s .n) (s .spans) (s .repairs) ≡ 0 → block ≡ blockLength (s .fs)
+    → settingsFit s block ≡ true
 unfolding settingsFit
 settings-good s block e b =
     let r = settingRefusal (s .fs) (s .n) (s .spans) (s .repairs) in

@@ -10,16 +10,17 @@ use Rattle.rules.specs.Iq.{Settled, Off, Observing, Withheld, Correcting}
 use Rattle.rules.specs.Mode.{Mode, off, observe, apply}
 use Rattle.rules.specs.Log as rules
 use Rattle.rules.specs.Log.{Span, mark}
-use Rattle.log.specs.View.{Logged, bare, marksAt}
+use Rattle.log.specs.View.{Logged, marksAt}
 use Rattle.log.specs.Ready.{Twelve}
 use Rattle.iq_monitor.specs.declared.ImageMonitor.{ImageMonitor}
 use Rattle.impulse_slice.specs.Noted.{marksFor, Rings}
 use Rattle.impulse_slice.specs.laws.NotedRings.{marked-rings, noted-repairs, noted-long}
 use Rattle.iq.specs.View.{settledOf}
 use Rattle.stage_mode.specs.View.{modeOf}
-use Rattle.chain.specs.Stages.{Machine, notesIn, impulseAfter, impulseOut, impulseTold, releasedSpan, notesAfter, loggedAfter, process, handsOn}
+use Rattle.chain.specs.Stages.{Machine, notesIn, impulseAfter, impulseOut, impulseTold, releasedSpan, notesAfter, loggedAfter, machineAfter, process, handsOn}
 use Rattle.chain_state.specs.declared.InputConditioner.{InputConditioner}
-use Rattle.chain_hop.specs.Hops.{uncertain, withMonitor, isObserving}
+use Rattle.chain_state.specs.Changed.{afterHop}
+use Rattle.chain_hop.specs.Hops.{uncertain, isObserving}
 use Rattle.one_record.specs.Rings.{dcMarks, iqMarks, markIf, ringAfter}
 use Rattle.one_record.specs.laws.RingLaws.{same-rings, marked-at, call-rings, call-at}
 
@@ -28,7 +29,7 @@ abbrev pub hopLogged : Machine → List Span → Logged
 hopLogged m ms = foldl (uncertain (m .state .settings .spans)) (notesIn m .logged) ms
 
 unfoldable pub withHops : Machine → ImageMonitor → List Span → Machine
-withHops m monitor ms = record { state = withMonitor (m .state) monitor (hopLogged m ms .log); spans = hopLogged m ms .spans; repairs = m .repairs }
+withHops m monitor ms = record { state = afterHop (m .state) monitor (hopLogged m ms .log); spans = hopLogged m ms .spans; repairs = m .repairs }
 
 -- ---- the ring, and the others
 
@@ -69,7 +70,9 @@ iq-not-last (Correcting r) e = refl
 ring-still : (cap : ℕ) (c : InputConditioner) (new : List ℕ) (q : rules.Marks) → isObserving (settledOf (c .settings .iq)) ≡ true → ringAfter cap c new 11 q ≡ q
 unfolding ringAfter
 ring-still cap c new q e =
-    (λ i. markIf cap (iq-not-last (settledOf (c .settings .iq)) e i) (markIf cap (dc-not-last (modeOf (c .settings .dc)) i) (foldl (mark cap) q (marksFor 11 (impulseTold c new))) (releasedSpan c new)) (releasedSpan c new))
+    (λ i. markIf cap (iq-not-last (settledOf (c .settings .iq)) e i)
+    (markIf cap (dc-not-last (modeOf (c .settings .dc)) i) (foldl (mark cap) q (marksFor 11 (impulseTold c new))) (releasedSpan c new))
+    (releasedSpan c new))
 
 module _ (m : Machine) (monitor : ImageMonitor) (ms : List Span) (new : List ℕ) (r : Rings (m .state .settings .spans) (notesIn m .logged))
     (only : isObserving (settledOf (m .state .settings .iq)) ≡ false → ms ≡ []) where
@@ -88,7 +91,8 @@ module _ (m : Machine) (monitor : ImageMonitor) (ms : List Span) (new : List ℕ
           let cap = m .state .settings .spans in
           ring-still cap (m .state) new (marksAt cap (hopLogged m ms) 11) e
           ∙ uncertain-own cap (notesIn m .logged) ms r
-          ∙ ap (λ (q : rules.Marks). foldl (mark cap) q ms) (sym (ring-still cap (m .state) new (marksAt cap (notesIn m .logged) 11) e) ∙ sym (call-at m new r 11))
+          ∙ ap (λ (q : rules.Marks). foldl (mark cap) q ms)
+          (sym (ring-still cap (m .state) new (marksAt cap (notesIn m .logged) 11) e) ∙ sym (call-at m new r 11))
           ∙ sym (uncertain-own cap (loggedAfter m new) ms (call-rings m new r))
       go false e =
           let cap = m .state .settings .spans in
@@ -119,7 +123,8 @@ module _ (m : Machine) (monitor : ImageMonitor) (ms : List Span) (new : List ℕ
   logged-hops : loggedAfter (withHops m monitor ms) new ≡ foldl (uncertain (m .state .settings .spans)) (loggedAfter m new) ms
   logged-hops =
       let cap = m .state .settings .spans in
-      same-rings cap (loggedAfter (withHops m monitor ms) new) (foldl (uncertain cap) (loggedAfter m new) ms) hop-twelve (uncertain-rings cap (loggedAfter m new) ms (call-rings m new r) .twelve) (λ k h. ring-same k)
+      same-rings cap (loggedAfter (withHops m monitor ms) new) (foldl (uncertain cap) (loggedAfter m new) ms) hop-twelve
+      (uncertain-rings cap (loggedAfter m new) ms (call-rings m new r) .twelve) (λ k h. ring-same k)
 
   repairs-hops : notesAfter (withHops m monitor ms) new .repairs ≡ notesAfter m new .repairs
   unfolding withHops notesAfter impulseTold
@@ -138,25 +143,9 @@ module _ (m : Machine) (monitor : ImageMonitor) (ms : List Span) (new : List ℕ
   pub process-hops : process (withHops m monitor ms) new ≡ withHops (process m new) monitor ms
   unfolding process withHops impulseAfter impulseOut
   process-hops =
-      let c = m .state in
-      λ i.
-      record {
-        state =
-            record {
-              settings = c .settings;
-              seen = process m new .state .seen;
-              released = process m new .state .released;
-              held = process m new .state .held;
-              suppressor = impulseAfter c new;
-              blocker = process m new .state .blocker;
-              monitor = monitor;
-              log = logged-hops i .log;
-              repairs = bare (repairs-hops i);
-              longruns = long-hops i;
-            };
-        spans = logged-hops i .spans;
-        repairs = repairs-hops i .words;
-      }
+      let c = withHops m monitor ms .state in
+      let after = process m new .state in
+      λ i. machineAfter c (after .counts) (after .suppressor) (after .blocker) (logged-hops i) (repairs-hops i) (long-hops i)
 
   pub hands-hops : handsOn (withHops m monitor ms .state) new ≡ handsOn (m .state) new
   unfolding withHops handsOn impulseOut

@@ -9,6 +9,8 @@ use Rattle.rules.specs.Constants.{one, rateLimit}
 use Rattle.rules.specs.Iq.{ranged}
 use Rattle.rules.specs.Impulse.{blockLength}
 use Rattle.rules.specs.Refusals.{firstOf, badSize, badCapacity, makingRefusal}
+use Rattle.rules.specs.Log.{repairWidth, storeWidth}
+use Rattle.rules.specs.Monitor.{channelWidth}
 use Rattle.chain_config.specs.declared.ConditioningConfig.{ConditioningConfig}
 use Rattle.chain_config.specs.Config.{configOf, allOff, settingRefusal, refusal}
 use Rattle.chain_config.specs.laws.ConfigLaws.{Limits, setting-limits}
@@ -22,13 +24,14 @@ pub record Fit (g : ConditioningConfig) : Type 0 where
 
 pub record Lent (g : ConditioningConfig) (spans repairs words : ℕ) : Type 0 where
   pub fit : Fit g
-  pub spans-long : spans ≡ 24 * g .spans
-  pub repairs-long : repairs ≡ 6 * g .repairs
-  pub words-long : words ≡ 4 * g .n
+  pub spans-long : spans ≡ storeWidth * g .spans
+  pub repairs-long : repairs ≡ repairWidth * g .repairs
+  pub words-long : words ≡ channelWidth * g .n
 
 -- making's number by the answers of its tests
 abbrev makingNumber : Bool → Bool → Bool → Bool → Bool → Bool → ℕ
-makingNumber rate size capacity repairs spans words = cond (not rate) 1 (cond size 2 (cond capacity 3 (cond (not repairs) 4 (cond (not spans) 4 (cond (not words) 4 0)))))
+makingNumber rate size capacity repairs spans words =
+    cond (not rate) 1 (cond size 2 (cond capacity 3 (cond (not repairs) 4 (cond (not spans) 4 (cond (not words) 4 0)))))
 
 number-none : (k : ℕ) → isMade (numbered k) ≡ true → k ≡ 0
 number-none zero e = refl
@@ -40,7 +43,7 @@ made-fit g spans repairs words e = from-off (allOff (configOf g)) (ap isMade e)
   where
     tests : (rate size capacity r s w : Bool)
         → ranged one rateLimit (g .fs) ≡ rate → badSize (g .n) .holds ≡ size → badCapacity (g .spans) (g .repairs) .holds ≡ capacity
-        → eqb repairs (6 * g .repairs) ≡ r → eqb spans (24 * g .spans) ≡ s → eqb words (4 * g .n) ≡ w
+        → eqb repairs (repairWidth * g .repairs) ≡ r → eqb spans (storeWidth * g .spans) ≡ s → eqb words (channelWidth * g .n) ≡ w
         → makingNumber rate size capacity r s w ≡ 0
         → Lent g spans repairs words
     tests true false false true true true a b d p q t z =
@@ -48,9 +51,9 @@ made-fit g spans repairs words e = from-off (allOff (configOf g)) (ap isMade e)
         let l = setting-limits (g .fs) (g .n) (g .spans) (g .repairs) (eq-eqb _ _ none) in
         record {
           fit = record { setting = none; limits = l; blocks = block-some (g .fs) (l .rate) };
-          spans-long = eqb-true spans (24 * g .spans) q;
-          repairs-long = eqb-true repairs (6 * g .repairs) p;
-          words-long = eqb-true words (4 * g .n) t;
+          spans-long = eqb-true spans (storeWidth * g .spans) q;
+          repairs-long = eqb-true repairs (repairWidth * g .repairs) p;
+          words-long = eqb-true words (channelWidth * g .n) t;
         }
     tests true false false true true false a b d p q t z = absurd (omega arith)
     tests true false false true false w a b d p q t z = absurd (omega arith)

@@ -1,4 +1,5 @@
--- Acts that bring samples and acts that are hops, merged in any order: each leads as it does alone, since neither reads what the other moves. Knows no act. Assumes nothing.
+-- Acts that bring samples and acts that are hops, merged in any order: each leads as it does alone, since neither reads what the other moves. Knows no act.
+-- Assumes nothing.
 use mathlib.Core.Path.{_≡_, refl, sym, subst}
 use mathlib.Core.Bool.{Bool, true, false}
 use mathlib.Core.List.{List, [], _∷_, _++_}
@@ -23,19 +24,26 @@ module _ (g : ConditioningConfig) where
   Hops hs [] ks = hs ≡ ks
   Hops hs (a ∷ l) ks = (es : List Hop) × ((xs : List ℕ) → Reached g xs hs → Step g xs hs a xs es) × Hops es l ks
 
-  then : (xs xs' : List ℕ) (hs hs' : List Hop) (a : Act) (os : List Operation) (z : Chain) → Step g xs hs a xs' hs' → Ends (chainAt g xs' hs') os z → Ends (chainAt g xs hs) (ownly a ∷ os) z
+  then : (xs xs' : List ℕ) (hs hs' : List Hop) (a : Act) (os : List Operation) (z : Chain) → Step g xs hs a xs' hs' → Ends (chainAt g xs' hs') os z
+      → Ends (chainAt g xs hs) (ownly a ∷ os) z
   then xs xs' hs hs' a os z s e =
       let q = subst (λ (y : Chain). Ends y os z) (sym (s .is)) e in
       ((s .taken, q .0), ((λ t. refl, q .1 .0), q .1 .1))
 
-  joined : (l r : List Act) (xs zs : List ℕ) (hs ks : List Hop) → Hops hs l ks → Brings xs r zs → Reached g xs hs → Ends (chainAt g xs hs) (ownAll (l ++ r)) (chainAt g zs ks)
+  joined : (l r : List Act) (xs zs : List ℕ) (hs ks : List Hop) → Hops hs l ks → Brings xs r zs → Reached g xs hs
+      → Ends (chainAt g xs hs) (ownAll (l ++ r)) (chainAt g zs ks)
   joined [] [] xs zs hs ks p q t = (tt, (tt, λ i. chainAt g (q i) (p i)))
-  joined [] (b ∷ r) xs zs hs ks p q t = let s = q .1 hs t in then xs (q .0) hs hs b (ownAll r) (chainAt g zs ks) s (joined [] r (q .0) zs hs ks p (q .2) (s .reached))
-  joined (a ∷ l) r xs zs hs ks p q t = let s = p .1 xs t in then xs xs hs (p .0) a (ownAll (l ++ r)) (chainAt g zs ks) s (joined l r xs zs (p .0) ks (p .2) q (s .reached))
+  joined [] (b ∷ r) xs zs hs ks p q t = let s = q .1 hs t in
+      then xs (q .0) hs hs b (ownAll r) (chainAt g zs ks) s (joined [] r (q .0) zs hs ks p (q .2) (s .reached))
+  joined (a ∷ l) r xs zs hs ks p q t = let s = p .1 xs t in
+      then xs xs hs (p .0) a (ownAll (l ++ r)) (chainAt g zs ks) s (joined l r xs zs (p .0) ks (p .2) q (s .reached))
 
-  pub merging : (turns : List Bool) (l r : List Act) (xs zs : List ℕ) (hs ks : List Hop) → Hops hs l ks → Brings xs r zs → Reached g xs hs → Ends (chainAt g xs hs) (ownAll (merged turns l r)) (chainAt g zs ks)
+  pub merging : (turns : List Bool) (l r : List Act) (xs zs : List ℕ) (hs ks : List Hop) → Hops hs l ks → Brings xs r zs → Reached g xs hs
+      → Ends (chainAt g xs hs) (ownAll (merged turns l r)) (chainAt g zs ks)
   merging [] l r xs zs hs ks p q t = joined l r xs zs hs ks p q t
   merging (true ∷ turns) [] r xs zs hs ks p q t = merging turns [] r xs zs hs ks p q t
-  merging (true ∷ turns) (a ∷ l) r xs zs hs ks p q t = let s = p .1 xs t in then xs xs hs (p .0) a (ownAll (merged turns l r)) (chainAt g zs ks) s (merging turns l r xs zs (p .0) ks (p .2) q (s .reached))
+  merging (true ∷ turns) (a ∷ l) r xs zs hs ks p q t = let s = p .1 xs t in
+      then xs xs hs (p .0) a (ownAll (merged turns l r)) (chainAt g zs ks) s (merging turns l r xs zs (p .0) ks (p .2) q (s .reached))
   merging (false ∷ turns) l [] xs zs hs ks p q t = merging turns l [] xs zs hs ks p q t
-  merging (false ∷ turns) l (b ∷ r) xs zs hs ks p q t = let s = q .1 hs t in then xs (q .0) hs hs b (ownAll (merged turns l r)) (chainAt g zs ks) s (merging turns l r (q .0) zs hs ks p (q .2) (s .reached))
+  merging (false ∷ turns) l (b ∷ r) xs zs hs ks p q t = let s = q .1 hs t in
+      then xs (q .0) hs hs b (ownAll (merged turns l r)) (chainAt g zs ks) s (merging turns l r (q .0) zs hs ks p (q .2) (s .reached))

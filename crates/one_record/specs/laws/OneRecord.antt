@@ -14,7 +14,7 @@ use Rattle.rules.specs.Dc.{corner, firstLevel, levelAfter, blockedAll}
 use Rattle.rules.specs.Guard.{usable, Usable}
 use Rattle.rules.specs.Iq.{Off, settled, correctedBy}
 use Rattle.rules.specs.Mode.{off, isApply, runs}
-use Rattle.rules.specs.Log.{repairsOf}
+use Rattle.rules.specs.Log.{repairsOf, repairWidth, storeWidth}
 use Rattle.rules.specs.Monitor.{Hop}
 use Rattle.rules.specs.Refusals.{badStart, tooMany, unusableAt, anyUnusable}
 use Rattle.rules.specs.Answers.{accepted, refused, numberOf}
@@ -43,6 +43,7 @@ use Rattle.chain_hop.specs.Hops as hop
 use Rattle.iq_monitor.specs.declared.HopAnswer.{HopAnswer}
 use Rattle.iq_monitor.specs.declared.HopAnswer.the-variants as answer
 use Rattle.rules.specs.Undo.{undoneAll}
+use Rattle.rules.specs.Constants.{totalLimit}
 use Rattle.chain_hop.specs.Hops.{isOffIq, saidHop, Hopped, hopOf, hopRefusal}
 use Rattle.chain_hop.specs.laws.HopLaws as hopLaws
 use Rattle.chain_undo.specs.Undoing as undo
@@ -53,11 +54,13 @@ use Rattle.one_record.specs.Lists as list
 use Rattle.one_record.specs.laws.Hopping.{withHops, uncertain-rings}
 use Rattle.one_record.specs.laws.RingLaws.{call-rings}
 use Rattle.one_record.specs.laws.Accepted.{Taken}
-use Rattle.one_record.specs.laws.Reaching.{freshMachine, freshChain, hopMarks, core, chainAt, Reached, Step, Leads, own-call, own-hop, ends, fresh-rings, end-next, monitor-end}
+use Rattle.one_record.specs.laws.Reaching.{freshMachine, freshChain, hopMarks, core, chainAt, Reached, Step, Leads, own-call, own-hop, ends, fresh-rings}
+use Rattle.one_record.specs.laws.Reaching.{end-next, monitor-end}
 use Rattle.one_record.specs.laws.Merging.{Ends, Hops, Brings, merging}
 use Rattle.one_record.specs.laws.ByRules.{released-is, rings-are}
 use Rattle.one_record.specs.laws.Made.{Fit, made-fit}
-use Rattle.one_record.specs.laws.Good.{seen-is, released-count, held-is, repair-ring, long-runs, blocker-is, settled-is, state-good, spans-good, words-fit}
+use Rattle.one_record.specs.laws.Good.{seen-is, released-count, held-is, repair-ring, long-runs, blocker-is, settled-is, state-good, spans-good}
+use Rattle.one_record.specs.laws.Good.{words-fit}
 use Rattle.one_record.specs.laws.GoodStages.{held-most}
 use Rattle.one_record.specs.laws.Fresh.{fresh-is, made-is}
 
@@ -94,10 +97,11 @@ module _ (g : ConditioningConfig) (f : Fit g) (xs : List ℕ) (hs : List Hop) (r
 
   -- ---- the lengths of its stores
 
-  pub spans-long : length (chainAt g xs hs .machine .spans) ≡ 24 * chainAt g xs hs .machine .state .settings .spans
+  pub spans-long : length (chainAt g xs hs .machine .spans) ≡ storeWidth * chainAt g xs hs .machine .state .settings .spans
   unfolding chainAt withHops core process freshState freshSettings
   spans-long =
-      let t = uncertain-rings (g .spans) (loggedAfter (freshMachine g) xs) (hopMarks g hs) (call-rings (freshMachine g) xs (fresh-rings g (f .limits .some-spans))) .twelve .store in
+      let t = uncertain-rings (g .spans) (loggedAfter (freshMachine g) xs) (hopMarks g hs)
+      (call-rings (freshMachine g) xs (fresh-rings g (f .limits .some-spans))) .twelve .store in
       omega (arith, t)
 
   same-spans : chainAt g xs hs .machine .state .settings .spans ≡ g .spans
@@ -108,7 +112,7 @@ module _ (g : ConditioningConfig) (f : Fit g) (xs : List ℕ) (hs : List Hop) (r
   unfolding chainAt withHops core process freshState freshSettings
   same-repairs = refl
 
-  repairs-long : length (chainAt g xs hs .machine .repairs) ≡ 6 * chainAt g xs hs .machine .state .settings .repairs
+  repairs-long : length (chainAt g xs hs .machine .repairs) ≡ repairWidth * chainAt g xs hs .machine .state .settings .repairs
   repairs-long =
       made-length (chain .machine .state) (chain .machine .repairs) (repairsOf (impulseEvents (configOf g) xs))
       (chain-made (configOf g) (chain .machine .state) (chain .machine .repairs) xs (r .few) (state-good g f xs hs r) same-repairs (repair-ring g f xs hs r))
@@ -121,7 +125,8 @@ module _ (g : ConditioningConfig) (f : Fit g) (xs : List ℕ) (hs : List Hop) (r
 
   call-number : (slice : List ℕ) → let c = chainAt g xs hs .machine .state in
       callRefusal c slice (chainAt g xs hs .machine .spans) (chainAt g xs hs .machine .repairs)
-      ≡ callNumber true true true true (ltb (length slice) (c .held)) (tooMany (c .seen) (length slice - c .held) .holds) (anyUnusable (c .held) (newPart c slice) .holds)
+      ≡ callNumber true true true true (ltb (length slice) (c .counts .held)) (tooMany (c .counts .seen) (length slice - c .counts .held) .holds)
+      (anyUnusable (c .counts .held) (newPart c slice) .holds)
   call-number slice =
       refusal-by (chain .machine .state) slice (chain .machine .spans) (chain .machine .repairs) true true true true _ _ _
       (state-good g f xs hs r) (eq-eqb _ _ repairs-long) (eq-eqb _ _ spans-long) (spans-good g f xs hs r) refl refl refl
@@ -130,11 +135,13 @@ module _ (g : ConditioningConfig) (f : Fit g) (xs : List ℕ) (hs : List Hop) (r
   hop-number : hopRefusal (chainAt g xs hs .machine .state) (chainAt g xs hs .machine .spans) (chainAt g xs hs .words) ≡ 0
   hop-number =
       sym
-      (hopLaws.refusal-by (chain .machine .state) (chain .machine .spans) (chain .words) true true true true true (state-good g f xs hs r) (eq-eqb _ _ spans-long) (eq-eqb _ _ words-long)
+      (hopLaws.refusal-by (chain .machine .state) (chain .machine .spans) (chain .words) true true true true true (state-good g f xs hs r)
+      (eq-eqb _ _ spans-long) (eq-eqb _ _ words-long)
       (spans-good g f xs hs r) (words-fit g f xs hs r))
 
   undo-number : undoRefusal (chainAt g xs hs .machine .state) (chainAt g xs hs .machine .repairs) ≡ 0
-  undo-number = chain-accepted (configOf g) (chain .machine .state) (chain .machine .repairs) xs (r .few) (state-good g f xs hs r) same-repairs (repair-ring g f xs hs r)
+  undo-number =
+      chain-accepted (configOf g) (chain .machine .state) (chain .machine .repairs) xs (r .few) (state-good g f xs hs r) same-repairs (repair-ring g f xs hs r)
 
   -- ---- by the rules
 
@@ -146,14 +153,15 @@ module _ (g : ConditioningConfig) (f : Fit g) (xs : List ℕ) (hs : List Hop) (r
   unfolding chainAt withHops core process freshState freshSettings
   dc-is = refl
 
-  level-same : cond (runs (modeOf (chainAt g xs hs .machine .state .settings .dc))) (levelIs (view64 (chainAt g xs hs .machine .state .blocker .dc))) noLevel ≡ dcLevel (configOf g) xs
+  level-same : cond (runs (modeOf (chainAt g xs hs .machine .state .settings .dc))) (levelIs (view64 (chainAt g xs hs .machine .state .blocker .dc))) noLevel
+      ≡ dcLevel (configOf g) xs
   unfolding dcLevel
   level-same =
       let a = blockerOf (corner (g .fs)) (levelAfter (corner (g .fs)) firstLevel (afterImpulse (configOf g) xs)) in
       let z = blockerOf (corner (g .fs)) firstLevel in
       (λ i. cond (runs (modeOf (dc-is i))) (levelIs (view64 (blocker-is g f xs hs r i .dc))) noLevel) ∙ level-by (runs (modeOf (g .dc))) a z
 
-  count-is : chainAt g xs hs .machine .state .released ≡ length (handsOn (freshState g) xs)
+  count-is : chainAt g xs hs .machine .state .counts .released ≡ length (handsOn (freshState g) xs)
   unfolding chainAt withHops core process freshState
   count-is = let l = hands-length (freshState g) xs in omega (arith, l)
 
@@ -165,7 +173,7 @@ module _ (g : ConditioningConfig) (f : Fit g) (xs : List ℕ) (hs : List Hop) (r
         seen = seen-is g f xs hs r;
         count = count-is;
         held = held-is g f xs hs r;
-        span-words = spans-long ∙ ap (λ (n : ℕ). 24 * n) same-spans;
+        span-words = spans-long ∙ ap (λ (n : ℕ). storeWidth * n) same-spans;
         rings = rings-are g (f .blocks) xs (r .usable) (f .limits .some-spans) hs;
         repair-words = repairs-long ∙ ap (λ (n : ℕ). 6 * n) same-repairs;
         repairs = repair-ring g f xs hs r;
@@ -201,13 +209,14 @@ module _ (g : ConditioningConfig) (f : Fit g) (xs : List ℕ) (hs : List Hop) (r
       n = callRefusal (chainAt g xs hs .machine .state) slice (chainAt g xs hs .machine .spans) (chainAt g xs hs .machine .repairs)
 
       place : ℕ
-      place = unusableAt (chainAt g xs hs .machine .state .held) (newPart (chainAt g xs hs .machine .state) slice)
+      place = unusableAt (chainAt g xs hs .machine .state .counts .held) (newPart (chainAt g xs hs .machine .state) slice)
 
       go : (b : Bool) → numberOf (cond b (taken (chainAt g xs hs .machine) slice) (declined (chainAt g xs hs .machine) slice (returned n place)) .said) ≡ 5 → ⊥
       go true h = omega arith
       go false h =
           let c = chainAt g xs hs .machine .state in
-          slice-number (ltb (length slice) (c .held)) (tooMany (c .seen) (length slice - c .held) .holds) (anyUnusable (c .held) (newPart c slice) .holds)
+          slice-number (ltb (length slice) (c .counts .held)) (tooMany (c .counts .seen) (length slice - c .counts .held) .holds)
+          (anyUnusable (c .counts .held) (newPart c slice) .holds)
           (sym (call-number slice) ∙ sym (number-returned n place) ∙ h)
 
   monitor-number : (a : HopAnswer) → numberOf (saidHop (hop.answerOf a)) ≡ 5 → ⊥
@@ -217,12 +226,17 @@ module _ (g : ConditioningConfig) (f : Fit g) (xs : List ℕ) (hs : List Hop) (r
   monitor-number answer.Early e = omega arith
   monitor-number (answer.Beyond k) e = omega arith
 
-  no-five-hop : (h : Hop) → numberOf (saidHop (hopOf (chainAt g xs hs .machine .state) (h .channels) (h .start) (chainAt g xs hs .machine .spans) (chainAt g xs hs .words) .called .answer)) ≡ 5 → ⊥
+  no-five-hop : (h : Hop)
+      → numberOf
+      (saidHop
+      (hopOf (chainAt g xs hs .machine .state) (h .channels) (h .start) (chainAt g xs hs .machine .spans)
+      (chainAt g xs hs .words) .called .answer)) ≡ 5 → ⊥
   unfolding hop.taken
   no-five-hop h e =
       let c = chain .machine .state in
       monitor-number (hop.watched c (h .channels) (h .start) (chain .words) .seen .answer)
-      (ap (λ (o : Hopped). numberOf (saidHop (o .called .answer))) (sym (hopLaws.hop-taken c (h .channels) (h .start) (chain .machine .spans) (chain .words) hop-number)) ∙ e)
+      (ap (λ (o : Hopped). numberOf (saidHop (o .called .answer)))
+      (sym (hopLaws.hop-taken c (h .channels) (h .start) (chain .machine .spans) (chain .words) hop-number)) ∙ e)
 
   -- a row for each act
   no-five-act : (a : Act) → on (chainAt g xs hs) (ownly a) .said ≡ refused (5 ∷ []) → ⊥
@@ -234,11 +248,15 @@ module _ (g : ConditioningConfig) (f : Fit g) (xs : List ℕ) (hs : List Hop) (r
   unfolding undoOf
   undo-said c repairs samples first e = go (eqb (undoRefusal c repairs) 0) (eq-eqb _ _ e)
     where
-      go : (b : Bool) → b ≡ true → numberOf (cond {A = undo.Outcome} b (record { said = accepted tt; samples = undoneAll first (undo.recordsOf c repairs) samples }) (record { said = refused (undoRefusal c repairs ∷ []); samples = samples }) .said) ≡ 0
+      go : (b : Bool) → b ≡ true
+          → numberOf
+          (cond {A = undo.Outcome} b (record { said = accepted tt; samples = undoneAll first (undo.recordsOf c repairs) samples })
+          (record { said = refused (undoRefusal c repairs ∷ []); samples = samples }) .said) ≡ 0
       go true t = refl
       go false t = absurd (false≢true t)
 
-  no-five-undo : (samples : List ℕ) (first : ℕ) → undoOf (chainAt g xs hs .machine .state) (chainAt g xs hs .machine .repairs) samples first .said ≡ refused (5 ∷ []) → ⊥
+  no-five-undo : (samples : List ℕ) (first : ℕ)
+      → undoOf (chainAt g xs hs .machine .state) (chainAt g xs hs .machine .repairs) samples first .said ≡ refused (5 ∷ []) → ⊥
   no-five-undo samples first e =
       let a = undo-said (chain .machine .state) (chain .machine .repairs) samples first undo-number in
       let b = ap numberOf e in
@@ -249,7 +267,7 @@ module _ (g : ConditioningConfig) (f : Fit g) (xs : List ℕ) (hs : List Hop) (r
 
   -- ---- seen = released + held
 
-  at-sum : chainAt g xs hs .machine .state .seen ≡ chainAt g xs hs .machine .state .released + chainAt g xs hs .machine .state .held
+  at-sum : chainAt g xs hs .machine .state .counts .seen ≡ chainAt g xs hs .machine .state .counts .released + chainAt g xs hs .machine .state .counts .held
   at-sum =
       let a = seen-is g f xs hs r in
       let b = released-count g f xs hs r in
@@ -257,7 +275,7 @@ module _ (g : ConditioningConfig) (f : Fit g) (xs : List ℕ) (hs : List Hop) (r
       let m = held-most (isApply (modeOf (g .impulse))) (length xs) in
       omega (arith, a, b, d, m)
 
-  pub at-few : chainAt g xs hs .machine .state .held ≤ 21
+  pub at-few : chainAt g xs hs .machine .state .counts .held ≤ 21
   at-few = subst (λ (n : ℕ). n ≤ 21) (sym (held-is g f xs hs r)) (go (isApply (modeOf (g .impulse))))
     where
       go : (b : Bool) → heldBy b (length xs) ≤ 21
@@ -269,15 +287,18 @@ module _ (g : ConditioningConfig) (f : Fit g) (xs : List ℕ) (hs : List Hop) (r
   alone : modeOf (g .dc) ≡ off → modeOf (g .iq) ≡ off → rules.released (configOf g) xs ≡ afterImpulse (configOf g) xs
   unfolding rules.released afterDc settled
   alone d q =
-      (λ i. map (correctedBy (settled (q i) (calibratedOf (g .calibration)) (g .centre))) (cond (isApply (d i)) (blockedAll (corner (g .fs)) firstLevel (afterImpulse (configOf g) xs)) (afterImpulse (configOf g) xs)))
+      (λ i. map (correctedBy (settled (q i) (calibratedOf (g .calibration)) (g .centre)))
+      (cond (isApply (d i)) (blockedAll (corner (g .fs)) firstLevel (afterImpulse (configOf g) xs)) (afterImpulse (configOf g) xs)))
       ∙ sym (unchanged Off (λ w. refl) (afterImpulse (configOf g) xs))
 
   at-undone : modeOf (g .dc) ≡ off → modeOf (g .iq) ≡ off → length (repairsOf (impulseEvents (configOf g) xs)) ≤ g .repairs
-      → undoOf (chainAt g xs hs .machine .state) (chainAt g xs hs .machine .repairs) (chainAt g xs hs .released) 0 ≡ record { said = accepted tt; samples = take (length (chainAt g xs hs .released)) xs }
+      → undoOf (chainAt g xs hs .machine .state) (chainAt g xs hs .machine .repairs) (chainAt g xs hs .released) 0
+      ≡ record { said = accepted tt; samples = take (length (chainAt g xs hs .released)) xs }
   at-undone d q h =
       let e = at-rules .released ∙ ap (rules.released (configOf g)) (brought-is g xs hs) ∙ alone d q in
       ap (λ (l : List ℕ). undoOf (chain .machine .state) (chain .machine .repairs) l 0) e
-      ∙ chain-returns (configOf g) (chain .machine .state) (chain .machine .repairs) xs (r .few) (state-good g f xs hs r) same-repairs (repair-ring g f xs hs r) h
+      ∙ chain-returns (configOf g) (chain .machine .state) (chain .machine .repairs) xs (r .few) (state-good g f xs hs r) same-repairs
+      (repair-ring g f xs hs r) h
       ∙ ap (λ (l : List ℕ). record { said = accepted tt; samples = take (length l) xs }) (sym e)
 
 -- ---- lists of own operations
@@ -305,36 +326,44 @@ module _ (g : ConditioningConfig) (f : Fit g) where
     state = chainAt g xs hs .machine .state
 
     -- its number is that of the total
-    call-total : chainAt g xs hs .machine .state .held ≤ length slice → Usable (newPart (chainAt g xs hs .machine .state) slice) → (b : Bool)
-        → ltb (2 ^ 48) (chainAt g xs hs .machine .state .seen + (length slice - chainAt g xs hs .machine .state .held)) ≡ b
-        → callRefusal (chainAt g xs hs .machine .state) slice (chainAt g xs hs .machine .spans) (chainAt g xs hs .machine .repairs) ≡ callNumber true true true true false b false
+    call-total : chainAt g xs hs .machine .state .counts .held ≤ length slice → Usable (newPart (chainAt g xs hs .machine .state) slice) → (b : Bool)
+        → ltb totalLimit (chainAt g xs hs .machine .state .counts .seen + (length slice - chainAt g xs hs .machine .state .counts .held)) ≡ b
+        → callRefusal (chainAt g xs hs .machine .state) slice (chainAt g xs hs .machine .spans) (chainAt g xs hs .machine .repairs)
+        ≡ callNumber true true true true false b false
     call-total l u b e =
-        let scan = scan-all (state .held) (newPart state slice) u in
+        let scan = scan-all (state .counts .held) (newPart state slice) u in
         call-number g f xs hs r slice
         ∙ (λ i. callNumber true true true true
-        (le-ltb (length slice) (state .held) l i)
+        (le-ltb (length slice) (state .counts .held) l i)
         (e i)
-        (le-ltb (unusableAt (state .held) (newPart state slice)) (state .held + length (newPart state slice)) (omega (arith, scan)) i))
+        (le-ltb (unusableAt (state .counts .held) (newPart state slice)) (state .counts .held + length (newPart state slice)) (omega (arith, scan)) i))
 
     -- up to 2^48 in all it is accepted
-    pub call-accepted : chainAt g xs hs .machine .state .held ≤ length slice → Usable (newPart (chainAt g xs hs .machine .state) slice)
-        → length xs + length (newPart (chainAt g xs hs .machine .state) slice) ≤ 2 ^ 48
+    pub call-accepted : chainAt g xs hs .machine .state .counts .held ≤ length slice → Usable (newPart (chainAt g xs hs .machine .state) slice)
+        → length xs + length (newPart (chainAt g xs hs .machine .state) slice) ≤ totalLimit
         → callRefusal (chainAt g xs hs .machine .state) slice (chainAt g xs hs .machine .spans) (chainAt g xs hs .machine .repairs) ≡ 0
-    call-accepted l u m = call-total l u false (le-ltb (2 ^ 48) (state .seen + (length slice - state .held)) (omega (arith, seen-is g f xs hs r, length-drop (state .held) slice, m)))
+    call-accepted l u m =
+        call-total l u false
+        (le-ltb totalLimit (state .counts .seen + (length slice - state .counts .held))
+        (omega (arith, seen-is g f xs hs r, length-drop (state .counts .held) slice, m)))
 
     -- and above that it meets number 8
-    pub call-beyond : chainAt g xs hs .machine .state .held ≤ length slice → Usable (newPart (chainAt g xs hs .machine .state) slice)
-        → 2 ^ 48 < length xs + length (newPart (chainAt g xs hs .machine .state) slice)
+    pub call-beyond : chainAt g xs hs .machine .state .counts .held ≤ length slice → Usable (newPart (chainAt g xs hs .machine .state) slice)
+        → totalLimit < length xs + length (newPart (chainAt g xs hs .machine .state) slice)
         → callRefusal (chainAt g xs hs .machine .state) slice (chainAt g xs hs .machine .spans) (chainAt g xs hs .machine .repairs) ≡ 8
-    call-beyond l u m = call-total l u true (lt-ltb (2 ^ 48) (state .seen + (length slice - state .held)) (omega (arith, seen-is g f xs hs r, length-drop (state .held) slice, m)))
+    call-beyond l u m =
+        call-total l u true
+        (lt-ltb totalLimit (state .counts .seen + (length slice - state .counts .held))
+        (omega (arith, seen-is g f xs hs r, length-drop (state .counts .held) slice, m)))
 
   -- words in the held places, and then new samples
-  call-step : (xs : List ℕ) (hs : List Hop) → Reached g xs hs → (front new : List ℕ) → length front ≡ heldOf (configOf g) xs → Usable new → length xs + length new ≤ 2 ^ 48
+  call-step : (xs : List ℕ) (hs : List Hop) → Reached g xs hs → (front new : List ℕ) → length front ≡ heldOf (configOf g) xs → Usable new
+      → length xs + length new ≤ totalLimit
       → Step g xs hs (list.call (front ++ new)) (xs ++ new) hs
   call-step xs hs r front new l u few =
       let c = chainAt g xs hs .machine .state in
       let h = at-rules g f xs hs r .held ∙ ap (heldOf (configOf g)) (brought-is g xs hs) ∙ sym l in
-      let d : newPart c (front ++ new) ≡ new = drop-at front new (c .held) (sym h) in
+      let d : newPart c (front ++ new) ≡ new = drop-at front new (c .counts .held) (sym h) in
       let s = own-call g some xs hs (front ++ new) r
       (call-accepted xs hs r (front ++ new) (omega (arith, h, length-append front new)) (subst Usable (sym d) u) (omega (arith, ap length d, few))) in
       subst (λ (zs : List ℕ). Step g xs hs (list.call (front ++ new)) (xs ++ zs) hs) d s
@@ -342,7 +371,8 @@ module _ (g : ConditioningConfig) (f : Fit g) where
   -- ---- all the samples and hops, merged
 
   -- hops that are accepted by the rules
-  hopping-leads : (hs es : List Hop) → InOrder (g .n) (lastEnd (g .n) 0 hs) es → (isOffIq (settledBy (configOf g)) ≡ true → es ≡ []) → Hops g hs (hopping es) (hs ++ es)
+  hopping-leads : (hs es : List Hop) → InOrder (g .n) (lastEnd (g .n) 0 hs) es → (isOffIq (settledBy (configOf g)) ≡ true → es ≡ [])
+      → Hops g hs (hopping es) (hs ++ es)
   hopping-leads hs [] o w = sym (append-nil hs)
   hopping-leads hs (h ∷ es) o w = (
     hs ++ (h ∷ []),
@@ -352,7 +382,8 @@ module _ (g : ConditioningConfig) (f : Fit g) where
   )
 
   -- samples in calls
-  calling-leads : (front : ℕ → List ℕ) → ((k : ℕ) → length (front k) ≡ k) → (sizes xs ys : List ℕ) → Usable ys → length xs + length ys ≤ 2 ^ 48 → Brings g xs (calling front g xs ys sizes) (xs ++ ys)
+  calling-leads : (front : ℕ → List ℕ) → ((k : ℕ) → length (front k) ≡ k) → (sizes xs ys : List ℕ) → Usable ys → length xs + length ys ≤ totalLimit
+      → Brings g xs (calling front g xs ys sizes) (xs ++ ys)
   calling-leads front long [] xs ys u few = (xs ++ ys, λ hs r. call-step xs hs r (front (heldOf (configOf g) xs)) ys (long _) u few, refl)
   calling-leads front long (n ∷ sizes) xs ys u few =
       let parts : take n ys ++ drop n ys ≡ ys = take-append-drop n ys in
@@ -360,7 +391,8 @@ module _ (g : ConditioningConfig) (f : Fit g) where
       let sum' = length-append xs (take n ys) in (
         xs ++ take n ys,
         λ hs r. call-step xs hs r (front (heldOf (configOf g) xs)) (take n ys) (long _) (all-take (λ w. T (usable w)) n ys u) (omega (arith, few, sum)),
-        subst (Brings g (xs ++ take n ys) (calling front g (xs ++ take n ys) (drop n ys) sizes)) (append-assoc xs (take n ys) (drop n ys) ∙ ap (λ (l : List ℕ). xs ++ l) parts)
+        subst (Brings g (xs ++ take n ys) (calling front g (xs ++ take n ys) (drop n ys) sizes))
+            (append-assoc xs (take n ys) (drop n ys) ∙ ap (λ (l : List ℕ). xs ++ l) parts)
             (calling-leads front long sizes (xs ++ take n ys) (drop n ys) (all-drop (λ w. T (usable w)) n ys u) (omega (arith, few, sum, sum'))),
       )
 
@@ -372,7 +404,8 @@ module _ (g : ConditioningConfig) (f : Fit g) where
   unfolding lastEnd
   once-run xs hs r front long sizes turns =
       subst (λ (y : Chain). Ends y (ownAll (merged turns (hopping hs) (calling front g [] xs sizes))) (chainAt g xs hs)) (sym (fresh-is g some))
-      (merging g turns (hopping hs) (calling front g [] xs sizes) [] xs [] hs (hopping-leads [] hs (r .order) (r .watching)) (calling-leads front long sizes [] xs (r .usable) (omega (arith, r .few))) none)
+      (merging g turns (hopping hs) (calling front g [] xs sizes) [] xs [] hs (hopping-leads [] hs (r .order) (r .watching))
+      (calling-leads front long sizes [] xs (r .usable) (omega (arith, r .few))) none)
 
   from-fresh : (os : List Operation) → Proper (freshChain g) os → Leads g some (run (freshChain g) os)
   from-fresh os p =
@@ -402,13 +435,17 @@ module _ (g : ConditioningConfig) (f : Fit g) where
         once = λ front long sizes turns.
             subst (λ (zs : List ℕ). Ends (freshChain g) (ownAll (merged turns (hopping (y .hops)) (calling front g [] zs sizes))) y) (sym x-is)
             (subst (λ (ks : List Hop). Ends (freshChain g) (ownAll (merged turns (hopping ks) (calling front g [] xs sizes))) y) (sym h-is)
-            (subst (Ends (freshChain g) (ownAll (merged turns (hopping hs) (calling front g [] xs sizes)))) (sym (n .is)) (once-run xs hs t front long sizes turns)));
+            (subst (Ends (freshChain g) (ownAll (merged turns (hopping hs) (calling front g [] xs sizes)))) (sym (n .is))
+            (once-run xs hs t front long sizes turns)));
         no-five = subst NoFive (sym (n .is)) (at-no-five g f xs hs t);
-        sum = subst (λ (c : Chain). c .machine .state .seen ≡ c .machine .state .released + c .machine .state .held) (sym (n .is)) (at-sum g f xs hs t);
-        few = subst (λ (c : Chain). c .machine .state .held ≤ 21) (sym (n .is)) (at-few g f xs hs t);
+        sum = subst (λ (c : Chain). c .machine .state .counts .seen ≡ c .machine .state .counts .released + c .machine .state .counts .held) (sym (n .is))
+            (at-sum g f xs hs t);
+        few = subst (λ (c : Chain). c .machine .state .counts .held ≤ 21) (sym (n .is)) (at-few g f xs hs t);
         undone = λ i d s h.
-            subst (λ (c : Chain). undoOf (c .machine .state) (c .machine .repairs) (c .released) 0 ≡ record { said = accepted tt; samples = take (length (c .released)) (c .brought) }) (sym (n .is))
-            (at-undone g f xs hs t d s (subst (λ (zs : List ℕ). length (repairsOf (impulseEvents (configOf g) zs)) ≤ g .repairs) x-is h) ∙ ap (λ (zs : List ℕ). record { said = accepted tt; samples = take (length (chainAt g xs hs .released)) zs }) (sym (brought-is g xs hs)));
+            subst (λ (c : Chain). undoOf (c .machine .state) (c .machine .repairs) (c .released) 0
+            ≡ record { said = accepted tt; samples = take (length (c .released)) (c .brought) }) (sym (n .is))
+            (at-undone g f xs hs t d s (subst (λ (zs : List ℕ). length (repairsOf (impulseEvents (configOf g) zs)) ≤ g .repairs) x-is h)
+            ∙ ap (λ (zs : List ℕ). record { said = accepted tt; samples = take (length (chainAt g xs hs .released)) zs }) (sym (brought-is g xs hs)));
       }
 
 -- ---- THE THEOREM

@@ -8,10 +8,11 @@ use borrow.Author.Tests.{ltb-false}
 use lib.ListN.{length, drop, replicate, length-append, length-drop}
 use lib.Seq.{take-at}
 use lib.Ieee.{Float}
-use Rattle.rules.specs.Constants.{zeroF}
+use Rattle.rules.specs.Constants.{zeroF, totalLimit}
 use Rattle.rules.specs.Guard.{usable, Usable}
-use Rattle.rules.specs.Log.{Span}
-use Rattle.rules.specs.Monitor.{Hop, Answer, noReport, report, windowLength, answers, openWindow, monitorWords, nextWindow, answerTo, hopEnd, suspectedSpan, suspectedSpans}
+use Rattle.rules.specs.Log.{Span, repairWidth, storeWidth}
+use Rattle.rules.specs.Monitor.{Hop, Answer, noReport, report, windowLength, answers, openWindow, monitorWords, nextWindow, answerTo, hopEnd, suspectedSpan}
+use Rattle.rules.specs.Monitor.{suspectedSpans, channelWidth}
 use Rattle.rules.specs.Answers.{Said, accepted, nothing, refused, isAccepted}
 use Rattle.rules.specs.Chain.{settledBy, evidence}
 use Rattle.log.specs.View.{freshLog}
@@ -28,6 +29,7 @@ use Rattle.chain_config.specs.Config.{configOf}
 use Rattle.rules.specs.Refusals.{badStart}
 use Rattle.chain_state.specs.declared.Settings.{Settings}
 use Rattle.chain_state.specs.declared.InputConditioner.{InputConditioner}
+use Rattle.chain_state.specs.Changed.{afterHop}
 use Rattle.chain_make.specs.Making.{freshState, freshSettings}
 use Rattle.chain_make.specs.laws.MakingLaws.{settled-again}
 use Rattle.chain.specs.Stages.{Machine, machineOf, notesIn, newPart, process, handsOn}
@@ -36,7 +38,8 @@ use Rattle.chain.specs.Calls.{callRefusal}
 use Rattle.chain_hop.specs.Hops as hops
 use Rattle.chain_hop.specs.Hops.{isObserving, isOffIq, uncertain, saidHop, Hopped}
 use Rattle.one_record.specs.Lists as list
-use Rattle.one_record.specs.Lists.{Given, own, other, handed, kept, Lent, allOwn, Act, call, hop, Operation, ownly, Value, Outcome, afterCalled, afterHopped, applied, Chain, leave, on, settle, next, run, Proper}
+use Rattle.one_record.specs.Lists.{Given, own, other, handed, kept, Lent, allOwn, Act, call, hop, Operation, ownly, Value, Outcome, afterCalled}
+use Rattle.one_record.specs.Lists.{afterHopped, applied, Chain, leave, on, settle, next, run, Proper}
 use Rattle.one_record.specs.laws.RingLaws.{call-rings}
 use Rattle.one_record.specs.laws.Append.{process-append, hands-append}
 use Rattle.one_record.specs.laws.Hopping.{withHops, process-hops, hands-hops}
@@ -48,10 +51,10 @@ use Rattle.chain_hop.specs.laws.HopKeeps.{hop-keeps}
 -- ---- a fresh chain
 
 abbrev pub freshMachine : ConditioningConfig → Machine
-freshMachine g = machineOf (freshState g) (replicate (24 * g .spans) 0) (replicate (6 * g .repairs) 0)
+freshMachine g = machineOf (freshState g) (replicate (storeWidth * g .spans) 0) (replicate (repairWidth * g .repairs) 0)
 
 unfoldable pub freshChain : ConditioningConfig → Chain
-freshChain g = record { machine = freshMachine g; words = replicate (4 * g .n) zeroF; brought = []; released = []; hops = []; answers = [] }
+freshChain g = record { machine = freshMachine g; words = replicate (channelWidth * g .n) zeroF; brought = []; released = []; hops = []; answers = [] }
 
 -- ---- the chain after samples xs and hops hs
 
@@ -78,7 +81,7 @@ chainAt g xs hs =
 -- the samples are usable, and at most 2^48; the hops are accepted, one after another, and none where IQ is off
 pub record Reached (g : ConditioningConfig) (xs : List ℕ) (hs : List Hop) : Type 0 where
   pub usable : Usable xs
-  pub few : length xs ≤ 2 ^ 48
+  pub few : length xs ≤ totalLimit
   pub order : InOrder (g .n) 0 hs
   pub watching : isOffIq (settledBy (configOf g)) ≡ true → hs ≡ []
 
@@ -101,7 +104,8 @@ said-is (report r) = refl
 suspected-snoc : (l : List Answer) (a : Answer) → suspectedSpans (l ++ (a ∷ [])) ≡ suspectedSpans l ++ suspectedSpan a
 unfolding suspectedSpans
 suspected-snoc [] a = append-nil (suspectedSpan a)
-suspected-snoc (b ∷ l) a = ap (λ (t : List Span). suspectedSpan b ++ t) (suspected-snoc l a) ∙ sym (append-assoc (suspectedSpan b) (suspectedSpans l) (suspectedSpan a))
+suspected-snoc (b ∷ l) a = ap (λ (t : List Span). suspectedSpan b ++ t) (suspected-snoc l a)
+    ∙ sym (append-assoc (suspectedSpan b) (suspectedSpans l) (suspectedSpan a))
 
 in-order : (n end : ℕ) (hs : List Hop) (h : Hop) → InOrder n end hs → Accepted n (lastEnd n end hs) h → InOrder n end (hs ++ (h ∷ []))
 unfolding lastEnd
@@ -139,7 +143,8 @@ not-accepted y o e = go (on y o .said) refl
     m : Machine
     m = y .machine
 
-    k : Left (o .act) (machineOf (handed (l .state) (m .state)) (handed (l .spans) (m .spans)) (handed (l .repairs) (m .repairs))) (handed (l .words) (y .words))
+    k : Left (o .act) (machineOf (handed (l .state) (m .state)) (handed (l .spans) (m .spans)) (handed (l .repairs) (m .repairs)))
+        (handed (l .words) (y .words))
     k = left (o .act) _ _ e
 
     same : leave l y (on y o) ≡ y
@@ -178,8 +183,9 @@ module _ (g : ConditioningConfig) (some : 0 < g .spans) where
   pub fresh-rings : Rings (freshMachine g .state .settings .spans) (notesIn (freshMachine g) .logged)
   unfolding freshState freshSettings
   fresh-rings =
-      bounded-rings (g .spans) 0 (record { log = freshLog; spans = replicate (24 * g .spans) 0 })
-      (subst (λ (n : ℕ). Bounded (g .spans) 0 (record { log = freshLog; spans = replicate n 0 })) (let q : g .spans * 24 ≡ 24 * g .spans = omega arith in q) (fresh-bounded (g .spans) some))
+      bounded-rings (g .spans) 0 (record { log = freshLog; spans = replicate (storeWidth * g .spans) 0 })
+      (subst (λ (n : ℕ). Bounded (g .spans) 0 (record { log = freshLog; spans = replicate n 0 }))
+      (let q : g .spans * storeWidth ≡ storeWidth * g .spans = omega arith in q) (fresh-bounded (g .spans) some))
 
   rings-at : (xs : List ℕ) → Rings (core g xs .state .settings .spans) (notesIn (core g xs) .logged)
   unfolding core process
@@ -202,10 +208,12 @@ module _ (g : ConditioningConfig) (some : 0 < g .spans) where
       process-hops (core g xs) (byRules (g .fs) (g .n) [] 0 hs .monitor) (hopMarks g hs) ys (rings-at xs) (no-marks xs hs)
       ∙ ap (λ (m : Machine). withHops m (byRules (g .fs) (g .n) [] 0 hs .monitor) (hopMarks g hs)) (core-more xs ys)
 
-  pub released-more : (xs ys : List ℕ) (hs : List Hop) → handsOn (freshState g) xs ++ handsOn (chainAt g xs hs .machine .state) ys ≡ handsOn (freshState g) (xs ++ ys)
+  pub released-more : (xs ys : List ℕ) (hs : List Hop)
+      → handsOn (freshState g) xs ++ handsOn (chainAt g xs hs .machine .state) ys ≡ handsOn (freshState g) (xs ++ ys)
   unfolding chainAt core
   released-more xs ys hs =
-      ap (λ (l : List ℕ). handsOn (freshState g) xs ++ l) (hands-hops (core g xs) (byRules (g .fs) (g .n) [] 0 hs .monitor) (hopMarks g hs) ys (rings-at xs) (no-marks xs hs))
+      ap (λ (l : List ℕ). handsOn (freshState g) xs ++ l)
+      (hands-hops (core g xs) (byRules (g .fs) (g .n) [] 0 hs .monitor) (hopMarks g hs) ys (rings-at xs) (no-marks xs hs))
       ∙ sym (hands-append (freshMachine g) xs ys)
 
   -- the parts of the chain that are no machine
@@ -233,7 +241,7 @@ module _ (g : ConditioningConfig) (some : 0 < g .spans) where
   unfolding chainAt
   chain-again xs new hs = refl
 
-  seen-at : (xs : List ℕ) (hs : List Hop) → chainAt g xs hs .machine .state .seen ≡ length xs
+  seen-at : (xs : List ℕ) (hs : List Hop) → chainAt g xs hs .machine .state .counts .seen ≡ length xs
   unfolding chainAt withHops core process freshState
   seen-at xs hs = omega arith
 
@@ -248,7 +256,7 @@ module _ (g : ConditioningConfig) (some : 0 < g .spans) where
       let new = newPart c slice in
       let ys = handsOn c new in
       let p = passes c slice (m .spans) (m .repairs) e in
-      let few = ltb-false (2 ^ 48) (c .seen + (length slice - c .held)) (p .few) in
+      let few = ltb-false totalLimit (c .counts .seen + (length slice - c .counts .held)) (p .few) in
       let at = chain-is xs hs in
       record {
         taken = ap (λ (o : calls.Outcome). isAccepted (o .said)) (taken-by c slice (m .spans) (m .repairs) e);
@@ -259,15 +267,17 @@ module _ (g : ConditioningConfig) (some : 0 < g .spans) where
               machine = machine-more xs new hs i;
               words = y .words;
               brought = at .brought i ++ new;
-              released = (ap (λ (l : List ℕ). y .released ++ l) (take-at ys (drop (length ys) slice) (length ys) refl) ∙ ap (λ (l : List ℕ). l ++ ys) (at .released) ∙ released-more xs new hs) i;
+              released =
+                  (ap (λ (l : List ℕ). y .released ++ l) (take-at ys (drop (length ys) slice) (length ys) refl) ∙ ap (λ (l : List ℕ). l ++ ys) (at .released)
+                  ∙ released-more xs new hs) i;
               hops = at .hops i;
               answers = at .answers i;
             })
             ∙ chain-again xs new hs;
         reached =
             record {
-              usable = usable-append xs new (r .usable) (scan-usable (c .held) new (p .fine));
-              few = omega (arith, length-append xs new, length-drop (c .held) slice, few, seen-at xs hs, r .few);
+              usable = usable-append xs new (r .usable) (scan-usable (c .counts .held) new (p .fine));
+              few = omega (arith, length-append xs new, length-drop (c .counts .held) slice, few, seen-at xs hs, r .few);
               order = r .order;
               watching = r .watching;
             };
@@ -302,7 +312,9 @@ module _ (g : ConditioningConfig) (some : 0 < g .spans) where
     unfolding hopMarks
     marks-next = go (isObserving (settledBy (configOf g)))
       where
-        go : (b : Bool) → cond b (suspectedSpans (evidence (configOf g) (hs ++ (h ∷ [])))) [] ≡ cond b (suspectedSpans (evidence (configOf g) hs)) [] ++ cond b (suspectedSpan answerAt) []
+        go : (b : Bool)
+            → cond b (suspectedSpans (evidence (configOf g) (hs ++ (h ∷ [])))) []
+            ≡ cond b (suspectedSpans (evidence (configOf g) hs)) [] ++ cond b (suspectedSpan answerAt) []
         go true = ap suspectedSpans evidence-next ∙ suspected-snoc (evidence (configOf g) hs) answerAt
         go false = refl
 
@@ -314,7 +326,8 @@ module _ (g : ConditioningConfig) (some : 0 < g .spans) where
       state = chainAt g xs hs .machine .state
 
       -- what the monitor makes of it
-      seen-is : hops.watched (chainAt g xs hs .machine .state) (h .channels) (h .start) (chainAt g xs hs .words) ≡ stepped (g .n) (windowLength (g .fs)) (windowAt hs) h
+      seen-is : hops.watched (chainAt g xs hs .machine .state) (h .channels) (h .start) (chainAt g xs hs .words)
+          ≡ stepped (g .n) (windowLength (g .fs)) (windowAt hs) h
       unfolding chainAt withHops core process freshState freshSettings
       seen-is =
           watched-by (chainAt g xs hs .machine .state) (h .channels) (h .start) (chainAt g xs hs .words) false (ap isOffIq settled-at ∙ on)
@@ -332,7 +345,8 @@ module _ (g : ConditioningConfig) (some : 0 < g .spans) where
           let cap = g .spans in
           let base = notesIn (core g xs) .logged in
           let observes = isObserving (settledOf (freshSettings g .iq)) in
-          let l : foldl (uncertain cap) (foldl (uncertain cap) base (hopMarks g hs)) (cond observes (hops.suspectedBy (answerOf answerAt)) []) ≡ foldl (uncertain cap) base (hopMarks g (hs ++ (h ∷ []))) =
+          let l : foldl (uncertain cap) (foldl (uncertain cap) base (hopMarks g hs)) (cond observes (hops.suspectedBy (answerOf answerAt)) [])
+          ≡ foldl (uncertain cap) base (hopMarks g (hs ++ (h ∷ []))) =
           sym (foldl-append (uncertain cap) base (hopMarks g hs) (cond observes (hops.suspectedBy (answerOf answerAt)) []))
           ∙ ap (λ (l : List Span). foldl (uncertain cap) base (hopMarks g hs ++ cond observes l [])) (suspected-is answerAt)
           ∙ ap (λ (b : Bool). foldl (uncertain cap) base (hopMarks g hs ++ cond b (suspectedSpan answerAt) [])) (ap isObserving settled-at)
@@ -343,19 +357,7 @@ module _ (g : ConditioningConfig) (some : 0 < g .spans) where
           record {
             called =
                 record {
-                  state =
-                      record {
-                        settings = freshSettings g;
-                        seen = core g xs .state .seen;
-                        released = core g xs .state .released;
-                        held = core g xs .state .held;
-                        suppressor = core g xs .state .suppressor;
-                        blocker = core g xs .state .blocker;
-                        monitor = windowState (w i) (e i);
-                        log = l i .log;
-                        repairs = core g xs .state .repairs;
-                        longruns = core g xs .state .longruns;
-                      };
+                  state = afterHop (core g xs .state) (windowState (w i) (e i)) (l i .log);
                   answer = hops.answerOf (answerOf answerAt);
                 };
             spans = l i .spans;
@@ -452,12 +454,14 @@ module _ (g : ConditioningConfig) (some : 0 < g .spans) where
       let n = own-hop xs hs h r (answered-taken (y .machine .state) (h .channels) (h .start) (y .machine .spans) (y .words) e) in
       record { samples = xs; hops = hs ++ (h ∷ []); is = n .is; reached = n .reached }
 
-  leads : (xs : List ℕ) (hs : List Hop) (o : Operation) → Reached g xs hs → (list.Accepted (chainAt g xs hs) o → o .lent ≡ allOwn) → Leads (next (chainAt g xs hs) o)
+  leads : (xs : List ℕ) (hs : List Hop) (o : Operation) → Reached g xs hs → (list.Accepted (chainAt g xs hs) o → o .lent ≡ allOwn)
+      → Leads (next (chainAt g xs hs) o)
   leads xs hs o r f = go (isAccepted (on (chainAt g xs hs) o .said)) refl
     where
       go : (b : Bool) → isAccepted (on (chainAt g xs hs) o .said) ≡ b → Leads (next (chainAt g xs hs) o)
       go true e =
-          subst (λ (l : Lent). let p : Operation = record { lent = l; act = o .act } in list.Accepted (chainAt g xs hs) p → Leads (next (chainAt g xs hs) p)) (sym (f e)) (steps xs hs (o .act) r) e
+          subst (λ (l : Lent). let p : Operation = record { lent = l; act = o .act } in list.Accepted (chainAt g xs hs) p → Leads (next (chainAt g xs hs) p))
+          (sym (f e)) (steps xs hs (o .act) r) e
       go false e = record { samples = xs; hops = hs; is = not-accepted (chainAt g xs hs) o e; reached = r }
 
   pub ends : (xs : List ℕ) (hs : List Hop) (os : List Operation) → Reached g xs hs → Proper (chainAt g xs hs) os → Leads (run (chainAt g xs hs) os)

@@ -59,7 +59,8 @@ module _ (cap : ℕ) (x : Logged) (t : Twelve cap x) where
       let f : rules.Marks → _ = λ (m : rules.Marks). bare (m .ring) in
       ext-getD freshRing (map f (ringsOf cap x)) (x .log .rings)
       (length-map f (ringsOf cap x) ∙ length-upTo (marksAt cap x) 12 ∙ sym (t .rings))
-      (λ k h. List·getD-map f (ringsOf cap x) k (noMarks cap) ∙ ap f (getD-upTo (noMarks cap) (marksAt cap x) 12 k (omega (arith, length-map f (ringsOf cap x), length-upTo (marksAt cap x) 12))))
+      (λ k h. List·getD-map f (ringsOf cap x) k (noMarks cap)
+      ∙ ap f (getD-upTo (noMarks cap) (marksAt cap x) 12 k (omega (arith, length-map f (ringsOf cap x), length-upTo (marksAt cap x) 12))))
 
   counts-again : map (λ (m : rules.Marks). m .samples) (ringsOf cap x) ≡ x .log .counts
   unfolding marksAt
@@ -67,7 +68,8 @@ module _ (cap : ℕ) (x : Logged) (t : Twelve cap x) where
       let f : rules.Marks → ℕ = λ (m : rules.Marks). m .samples in
       ext-getD 0 (map f (ringsOf cap x)) (x .log .counts)
       (length-map f (ringsOf cap x) ∙ length-upTo (marksAt cap x) 12 ∙ sym (t .counts))
-      (λ k h. List·getD-map f (ringsOf cap x) k (noMarks cap) ∙ ap f (getD-upTo (noMarks cap) (marksAt cap x) 12 k (omega (arith, length-map f (ringsOf cap x), length-upTo (marksAt cap x) 12))))
+      (λ k h. List·getD-map f (ringsOf cap x) k (noMarks cap)
+      ∙ ap f (getD-upTo (noMarks cap) (marksAt cap x) 12 k (omega (arith, length-map f (ringsOf cap x), length-upTo (marksAt cap x) 12))))
 
   spans-again : joined (ringsOf cap x) ≡ x .spans
   unfolding marksAt
@@ -131,9 +133,12 @@ module _ (m : Machine) (new : List ℕ) (r : Rings (m .state .settings .spans) (
       let c = m .state in
       let d = modeOf (c .settings .dc) in
       let s = releasedSpan c new in
-      iq-rings (c .settings .spans) (notedDc (c .settings .spans) d (notesAfter m new .logged) s) s (dc-rings (c .settings .spans) (notesAfter m new .logged) s noted d) (settledOf (c .settings .iq))
+      iq-rings (c .settings .spans) (notedDc (c .settings .spans) d (notesAfter m new .logged) s) s
+      (dc-rings (c .settings .spans) (notesAfter m new .logged) s noted d) (settledOf (c .settings .iq))
 
-  pub call-at : (k : ℕ) → marksAt (m .state .settings .spans) (loggedAfter m new) k ≡ ringAfter (m .state .settings .spans) (m .state) new k (marksAt (m .state .settings .spans) (notesIn m .logged) k)
+  pub call-at : (k : ℕ)
+      → marksAt (m .state .settings .spans) (loggedAfter m new) k
+      ≡ ringAfter (m .state .settings .spans) (m .state) new k (marksAt (m .state .settings .spans) (notesIn m .logged) k)
   unfolding loggedAfter notesAfter ringAfter
   call-at k =
       let c = m .state in

@@ -8,7 +8,8 @@ use Rattle.replay.proofs.play.Tie as tie
 
 abbrev Inv-loop : tie.InvT-loop
 Inv-loop bytes₀ samples₀ spans₀ repairs₀ played₀ left₀ bytes samples spans repairs played left =
-    Counts (played .size) bytes × (length bytes ≡ length bytes₀) × (length samples ≡ length samples₀) × (length spans ≡ length spans₀) × (length repairs ≡ length repairs₀)
+    Counts (played .size) bytes × (length bytes ≡ length bytes₀) × (length samples ≡ length samples₀) × (length spans ≡ length spans₀)
+    × (length repairs ≡ length repairs₀)
 
 abbrev μ-loop : tie.MeasureT-loop
 μ-loop bytes₀ samples₀ spans₀ repairs₀ played₀ left₀ bytes samples spans repairs played left = left

@@ -19,7 +19,9 @@ use Rattle.replay_feed.proofs.feed.Statement.{statement}
 use Rattle.replay_feed.proofs.feed.Tie as tie
 
 -- nothing is refused
-none : (c : tie.Else1) → let a = c .before .before .before .before .before .before .before .before .before .before .before .args in unreadRefusal (a .state) (c .before .before .before .before .before .before .least .result + c .before .before .before .before .before .least2 .result) (now (a .spans)) (now (a .repairs)) ≡ 0
+none : (c : tie.Else1) → let a = c .before .before .before .before .before .before .before .before .before .before .before .args in
+    unreadRefusal (a .state) (c .before .before .before .before .before .before .least .result + c .before .before .before .before .before .least2 .result)
+    (now (a .spans)) (now (a .repairs)) ≡ 0
 none c = told-number _ _ _ (c .before .before .refusal .ensures) (c .before .number .ensures) ∙ c .if1 .left
 
 least-requires : tie.Need-least-requires
@@ -49,11 +51,20 @@ same-length-2 c = search needs
 returns : tie.Need-returns
 returns c =
     let a = c .before .before .before .before .before .before .before .before .before .before .before .args in
-    let n = unreadRefusal (a .state) (c .before .before .before .before .before .before .least .result + c .before .before .before .before .before .least2 .result) (now (a .spans)) (now (a .repairs)) in
+    let n = unreadRefusal (a .state)
+    (c .before .before .before .before .before .before .least .result + c .before .before .before .before .before .least2 .result) (now (a .spans))
+    (now (a .repairs)) in
     let told = c .before .before .refusal .ensures in
     let some = ap (λ (k : ℕ). eqb k 0) (told-number n _ _ told (c .before .number .ensures)) ∙ ne-eqb _ _ (c .if1 .taken) in
-    let e = sym (block-refused (a .state) (now (a .bytes)) (now (a .samples)) _ _ (c .before .before .before .before .before .before .least .ensures) (c .before .before .before .before .before .least2 .ensures) (now (a .spans)) (now (a .repairs)) n refl some) in
-    (told ∙ ap (λ (o : BlockOutcome). o .said) e, (ap (λ (o : BlockOutcome). o .machine) e, (ap (λ (o : BlockOutcome). o .samples) e, (ap (λ (o : BlockOutcome). o .replaced) e, ap (λ (o : BlockOutcome). o .taken) e))))
+    let e = sym
+    (block-refused (a .state) (now (a .bytes)) (now (a .samples)) _ _ (c .before .before .before .before .before .before .least .ensures)
+    (c .before .before .before .before .before .least2 .ensures) (now (a .spans)) (now (a .repairs)) n refl some) in (
+      told ∙ ap (λ (o : BlockOutcome). o .said) e,
+      (
+        ap (λ (o : BlockOutcome). o .machine) e,
+        (ap (λ (o : BlockOutcome). o .samples) e, (ap (λ (o : BlockOutcome). o .replaced) e, ap (λ (o : BlockOutcome). o .taken) e)),
+      ),
+    )
 
 mul-read-guarded : tie.Need-mul-read-guarded
 mul-read-guarded c = search needs
@@ -76,16 +87,29 @@ slice-relend-prefix-accept c = search needs
 slice-aggregate-accept : tie.Need-slice-aggregate-accept
 slice-aggregate-accept c =
     let a = c .before .before .before .before .before .before .before .before .before .before .before .before .before .before .before .before .args in
-    call-long (a .state) (now (a .bytes)) (now (a .samples)) _ _ (c .before .before .before .before .before .before .before .before .before .before .before .least .ensures) (c .before .before .before .before .before .before .before .before .before .before .least2 .ensures) _ (c .before .before .before .read-guarded .ensures .0)
+    call-long (a .state) (now (a .bytes)) (now (a .samples)) _ _
+    (c .before .before .before .before .before .before .before .before .before .before .before .least .ensures)
+    (c .before .before .before .before .before .before .before .before .before .before .least2 .ensures) _
+    (c .before .before .before .read-guarded .ensures .0)
 
 accept-requires : tie.Need-accept-requires
 accept-requires c κs =
-    let a = c .before .before .before .before .before .before .before .before .before .before .before .before .before .before .before .before .before .before .args in
-    let long = call-long (a .state) (now (a .bytes)) (now (a .samples)) _ _ (c .before .before .before .before .before .before .before .before .before .before .before .before .before .least .ensures) (c .before .before .before .before .before .before .before .before .before .before .before .before .least2 .ensures) _ (c .before .before .before .before .before .read-guarded .ensures .0) in
+    let a = c .before .before .before .before .before .before .before .before .before .before .before .before .before .before .before .before .before .before
+    .args in
+    let long =
+    call-long (a .state) (now (a .bytes)) (now (a .samples)) _ _
+    (c .before .before .before .before .before .before .before .before .before .before .before .before .before .least .ensures)
+    (c .before .before .before .before .before .before .before .before .before .before .before .before .least2 .ensures) _
+    (c .before .before .before .before .before .read-guarded .ensures .0) in
     ap (λ (l : ℕ). unreadRefusal (a .state) l (now (a .spans)) (now (a .repairs))) (sym long) ∙ none (c .before .before .before .before .before .before .before)
 
 mul-t16 : tie.Need-mul-t16
-mul-t16 c = let new = c .before .before .before .before .before .before .before .before .before .before .before .before .before .before .before .before .before .before .before .before .least2 .ensures in let few = c .before .before .before .before .before .before .before .before .before .before .before .before .before .before .before .before .before .before .before .before .before .before .before .before .before .before .good .1 .0 in omega arith
+mul-t16 c = let new =
+    c .before .before .before .before .before .before .before .before .before .before .before .before .before .before .before .before .before .before .before
+    .before .least2 .ensures in
+    let few =
+    c .before .before .before .before .before .before .before .before .before .before .before .before .before .before .before .before .before
+    .before .before .before .before .before .before .before .before .before .good .1 .0 in omega arith
 
 same-length-3 : tie.Need-same-length-3
 same-length-3 c = search needs
@@ -98,16 +122,23 @@ same-length-5 c = search needs
 
 returns-2 : tie.Need-returns-2
 returns-2 c =
-    let a = c .before .before .before .before .before .before .before .before .before .before .before .before .before .before .before .before .before .before .before .before .before .before .before .before .before .before .args in
+    let a = c .before .before .before .before .before .before .before .before .before .before .before .before .before .before .before .before .before .before
+    .before .before .before .before .before .before .before .before .args in
     let m = machineOf (a .state) (now (a .spans)) (now (a .repairs)) in
-    let held = c .before .before .before .before .before .before .before .before .before .before .before .before .before .before .before .before .before .before .before .before .before .least .ensures in
-    let new = c .before .before .before .before .before .before .before .before .before .before .before .before .before .before .before .before .before .before .before .before .least2 .ensures in
+    let held =
+    c .before .before .before .before .before .before .before .before .before .before .before .before .before .before .before .before .before .before
+    .before .before .before .least .ensures in
+    let new =
+    c .before .before .before .before .before .before .before .before .before .before .before .before .before .before .before .before .before .before
+    .before .before .least2 .ensures in
     let read = c .before .before .before .before .before .before .before .before .before .before .before .before .before .read-guarded .ensures in
     let r = c .before .before .before .before .before .before .before .accept .ensures in
     let front = call-slice (a .state) (now (a .bytes)) (now (a .samples)) _ _ held new _ (read .0) in
     let back = call-behind (a .state) (now (a .bytes)) (now (a .samples)) _ _ held new _ (read .0) in
     let out = r .1 .1 ∙ ap (λ (l : List ℕ). taken m l .samples) front in
-    let e = sym (block-taken (a .state) (now (a .bytes)) (now (a .samples)) _ _ held new (now (a .spans)) (now (a .repairs)) (none (c .before .before .before .before .before .before .before .before .before .before .before .before .before .before .before))) in (
+    let e = sym
+    (block-taken (a .state) (now (a .bytes)) (now (a .samples)) _ _ held new (now (a .spans)) (now (a .repairs))
+    (none (c .before .before .before .before .before .before .before .before .before .before .before .before .before .before .before))) in (
       r .0 ∙ ap (λ (l : List ℕ). taken m l .said) front ∙ ap (λ (o : BlockOutcome). o .said) e,
       (
         r .1 .0 ∙ ap (λ (l : List ℕ). taken m l .machine) front ∙ ap (λ (o : BlockOutcome). o .machine) e,

@@ -89,9 +89,9 @@ module _ (c : InputConditioner) (bytes samples : List ℕ) (a k : ℕ) (held : a
   behind-is = λ i. drop (held i + sym many i) samples
 
   -- where there is room for what is held, the new part is what was read, guarded
-  pub new-part : c .held ≤ a + k → newPart c (slice c bytes samples) ≡ guarded (newWords c bytes samples)
+  pub new-part : c .counts .held ≤ a + k → newPart c (slice c bytes samples) ≡ guarded (newWords c bytes samples)
   new-part h =
-      let all : c .held ≡ length (take a samples) = omega (arith, held, new, front-long, h) in
+      let all : c .counts .held ≡ length (take a samples) = omega (arith, held, new, front-long, h) in
       (λ i. drop (all i) (sym slice-is i)) ∙ drop-append-seam (take a samples) (guarded (newWords c bytes samples))
 
   -- ---- a block, by what is refused before its samples are read
@@ -116,17 +116,19 @@ module _ (c : InputConditioner) (bytes samples : List ℕ) (a k : ℕ) (held : a
 
     -- a call that is taken
     pub fed-taken : called (machineOf c spans repairs) (slice c bytes samples) ≡ taken (machineOf c spans repairs) (slice c bytes samples)
-        → fed (machineOf c spans repairs) bytes samples ≡ takenBlock (machineOf c spans repairs) bytes samples (taken (machineOf c spans repairs) (slice c bytes samples))
+        → fed (machineOf c spans repairs) bytes samples
+        ≡ takenBlock (machineOf c spans repairs) bytes samples (taken (machineOf c spans repairs) (slice c bytes samples))
     unfolding fed
     fed-taken e =
         let m = machineOf c spans repairs in
         ap (λ (o : Outcome). cond (eqb (numberOf (o .said)) 0) (takenBlock m bytes samples o) (refusedBlock m samples (o .said))) e
 
     pub block-taken : unreadRefusal c (a + k) spans repairs ≡ 0
-        → fed (machineOf c spans repairs) bytes samples ≡ takenBlock (machineOf c spans repairs) bytes samples (taken (machineOf c spans repairs) (slice c bytes samples))
+        → fed (machineOf c spans repairs) bytes samples
+        ≡ takenBlock (machineOf c spans repairs) bytes samples (taken (machineOf c spans repairs) (slice c bytes samples))
     block-taken z =
         let part = new-part (passes c (a + k) spans repairs z .held-in) in
-        let scan = scan-all (c .held) (newPart c (slice c bytes samples)) (subst Usable (sym part) (guarded-usable (newWords c bytes samples))) in
-        let end = c .held + length (newPart c (slice c bytes samples)) in
-        let fine = le-ltb (unusableAt (c .held) (newPart c (slice c bytes samples))) end (omega (arith, scan)) in
+        let scan = scan-all (c .counts .held) (newPart c (slice c bytes samples)) (subst Usable (sym part) (guarded-usable (newWords c bytes samples))) in
+        let end = c .counts .held + length (newPart c (slice c bytes samples)) in
+        let fine = le-ltb (unusableAt (c .counts .held) (newPart c (slice c bytes samples))) end (omega (arith, scan)) in
         fed-taken (accepted-call c (slice c bytes samples) spans repairs (slice-refusal 0 z) fine)

@@ -11,7 +11,8 @@ use Rattle.rules.specs.laws.ListLaws.{length-upTo, getD-upTo}
 use Rattle.replay_format.specs.Format.{littleEndian, wordAt, wordsIn}
 
 -- one byte, and those behind it, from j on
-little-next : (bytes : List ℕ) (k j n : ℕ) → suc k ≡ j → k < length bytes → littleEndian (take (suc n) (drop k bytes)) ≡ at bytes k + 256 * littleEndian (take n (drop j bytes))
+little-next : (bytes : List ℕ) (k j n : ℕ) → suc k ≡ j → k < length bytes
+    → littleEndian (take (suc n) (drop k bytes)) ≡ at bytes k + 256 * littleEndian (take n (drop j bytes))
 unfolding littleEndian
 little-next bytes k j n e h = rw (drop-cons bytes k 0, e)
 
@@ -59,7 +60,8 @@ module _ (bytes words₀ : List ℕ) (enough : 8 * length words₀ ≤ length by
   pub reading-start : Reading bytes words₀ words₀ 0
   reading-start = record { within = omega arith; same = refl; so-far = paste-zero words₀ 0 (wordsIn bytes) }
 
-  pub reading-next : (words : List ℕ) (k : ℕ) → k < length words₀ → Reading bytes words₀ words k → Reading bytes words₀ (set words k (wordAt bytes (8 * k))) (k + 1)
+  pub reading-next : (words : List ℕ) (k : ℕ) → k < length words₀ → Reading bytes words₀ words k
+      → Reading bytes words₀ (set words k (wordAt bytes (8 * k))) (k + 1)
   reading-next words k h r =
       let many : k < length (wordsIn bytes) = omega (arith, words-many bytes) in
       record {

@@ -18,7 +18,8 @@ same-length c = search needs
 
 returns : tie.Need-returns
 returns c =
-    written-then (c .before .before .before .before .before .before .before .before .before .before .put-stage-counts .ensures) (written-then (c .before .before .before .before .before .before .put-stage-counts2 .ensures) (c .before .before .put-stage-counts3 .ensures))
+    written-then (c .before .before .before .before .before .before .before .before .before .before .put-stage-counts .ensures)
+    (written-then (c .before .before .before .before .before .before .put-stage-counts2 .ensures) (c .before .before .put-stage-counts3 .ensures))
 
 pub put-counts-spec : {M : Type 1} → statement M
 put-counts-spec =

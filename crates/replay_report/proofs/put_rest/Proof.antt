@@ -27,8 +27,9 @@ returns : tie.Need-returns
 unfolding logOf
 returns c =
     let g = c .before .before .before .before .before .before .before .before .before .before .before .before .before .log .ensures in
-    written-as (λ j. droppedLine (g .0 j .dropped) (g .0 j .repairs .dropped) ++ (levelLine (g .1 j) ++ settledLine (settledOf (g .0 j .iq))))
-    (written-then (c .before .before .before .before .before .before .before .before .before .before .put-dropped .ensures) (written-then (c .before .before .before .before .before .before .put-level .ensures) (c .before .before .put-settled .ensures)))
+    written-as (λ j. droppedLine (g .0 j .dropped) (g .0 j .notes .repairs .dropped) ++ (levelLine (g .1 j) ++ settledLine (settledOf (g .0 j .iq))))
+    (written-then (c .before .before .before .before .before .before .before .before .before .before .put-dropped .ensures)
+    (written-then (c .before .before .before .before .before .before .put-level .ensures) (c .before .before .put-settled .ensures)))
 
 pub put-rest-spec : {M : Type 1} → statement M
 put-rest-spec =

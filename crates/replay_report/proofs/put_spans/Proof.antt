@@ -18,7 +18,8 @@ same-length c = search needs
 
 returns : tie.Need-returns
 returns c =
-    written-then (c .before .before .before .before .before .before .before .before .before .before .put-stage-spans .ensures) (written-then (c .before .before .before .before .before .before .put-stage-spans2 .ensures) (c .before .before .put-stage-spans3 .ensures))
+    written-then (c .before .before .before .before .before .before .before .before .before .before .put-stage-spans .ensures)
+    (written-then (c .before .before .before .before .before .before .put-stage-spans2 .ensures) (c .before .before .put-stage-spans3 .ensures))
 
 pub put-spans-spec : {M : Type 1} → statement M
 put-spans-spec =

@@ -51,11 +51,13 @@ returns : tie.Need-returns Inv-loop μ-loop
 returns c =
     let s = c .before .before .before .before .before .before in
     let l = c .before .before .before .loop in
-    let e = sym (shown-read (s .args .state) (s .args .spans .now) (ringNumber (stageOf (s .args .stage)) (markOf (s .args .kind))) (l .i)) ∙ sym (c .before .before .span .ensures) ∙ ap saidSpan (c .enum-told .given .1) in
+    let e = sym (shown-read (s .args .state) (s .args .spans .now) (ringNumber (stageOf (s .args .stage)) (markOf (s .args .kind))) (l .i))
+    ∙ sym (c .before .before .span .ensures) ∙ ap saidSpan (c .enum-told .given .1) in
     rw (take-all _ _ (number-none (shown s) (l .i) e)) at (l .inv .1)
 
 -- the span that was read
-held : (c : tie.After-read Inv-loop μ-loop) → numberIn (shown (c .before .before .before .before .before .before)) (c .before .before .before .loop .i) ≡ saidSpan (Held (c .read .given .0 .0))
+held : (c : tie.After-read Inv-loop μ-loop)
+    → numberIn (shown (c .before .before .before .before .before .before)) (c .before .before .before .loop .i) ≡ saidSpan (Held (c .read .given .0 .0))
 held c =
     let a = c .before .before .before .before .before .before .args in
     sym (shown-read (a .state) (a .spans .now) (ringNumber (stageOf (a .stage)) (markOf (a .kind))) (c .before .before .before .loop .i))
@@ -85,7 +87,9 @@ loop-again c =
     let r = c .before .before .before .before .before in
     let s = r .read .given .0 .0 in (
       omega (arith, inside r),
-      span-next (spanLine (stageOf (a .stage)) (markOf (a .kind))) (shown (r .before .before .before .before .before .before)) (c .before .before .before .before .before .before .before .before .loop .i) (spanOf (s .start) (s .len)) (held r) (c .before .before .before .before .before .before .before .before .loop .inv .1) (c .before .before .put-span .ensures),
+      span-next (spanLine (stageOf (a .stage)) (markOf (a .kind))) (shown (r .before .before .before .before .before .before))
+          (c .before .before .before .before .before .before .before .before .loop .i) (spanOf (s .start) (s .len)) (held r)
+          (c .before .before .before .before .before .before .before .before .loop .inv .1) (c .before .before .put-span .ensures),
     )
 
 pub put-spans-of-spec : {M : Type 1} → statement M

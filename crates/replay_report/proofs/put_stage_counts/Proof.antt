@@ -24,7 +24,8 @@ returns : tie.Need-returns
 unfolding each
 returns c =
     written-then (c .before .before .before .before .before .before .before .before .before .before .before .before .before .before .put-count-of .ensures)
-    (written-then (c .before .before .before .before .before .before .before .before .before .before .put-count-of2 .ensures) (written-then (c .before .before .before .before .before .before .put-count-of3 .ensures) (written-last (c .before .before .put-count-of4 .ensures))))
+    (written-then (c .before .before .before .before .before .before .before .before .before .before .put-count-of2 .ensures)
+    (written-then (c .before .before .before .before .before .before .put-count-of3 .ensures) (written-last (c .before .before .put-count-of4 .ensures))))
 
 pub put-stage-counts-spec : {M : Type 1} → statement M
 put-stage-counts-spec =

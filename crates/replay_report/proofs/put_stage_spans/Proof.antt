@@ -24,7 +24,8 @@ returns : tie.Need-returns
 unfolding each
 returns c =
     written-then (c .before .before .before .before .before .before .before .before .before .before .before .before .before .before .put-spans-of .ensures)
-    (written-then (c .before .before .before .before .before .before .before .before .before .before .put-spans-of2 .ensures) (written-then (c .before .before .before .before .before .before .put-spans-of3 .ensures) (written-last (c .before .before .put-spans-of4 .ensures))))
+    (written-then (c .before .before .before .before .before .before .before .before .before .before .put-spans-of2 .ensures)
+    (written-then (c .before .before .before .before .before .before .put-spans-of3 .ensures) (written-last (c .before .before .put-spans-of4 .ensures))))
 
 pub put-stage-spans-spec : {M : Type 1} → statement M
 put-stage-spans-spec =

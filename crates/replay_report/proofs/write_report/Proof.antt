@@ -23,11 +23,13 @@ same-length c = search needs
 
 returns : tie.Need-returns
 returns c =
-    let a = c .before .before .before .before .before .before .before .before .before .before .before .before .before .before .before .before .before .before .before .args in
+    let a = c .before .before .before .before .before .before .before .before .before .before .before .before .before .before .before .before .before .before
+    .before .before .args in
     let w =
     written-as (report-pieces (a .state) (a .spans .now) (a .replaced))
     (written-then (c .before .before .before .before .before .before .before .before .before .before .before .before .before .before .put-samples .ensures)
-    (written-then (c .before .before .before .before .before .before .before .before .before .before .put-counts .ensures) (written-then (c .before .before .before .before .before .before .put-spans .ensures) (c .before .before .put-rest .ensures)))) in
+    (written-then (c .before .before .before .before .before .before .before .before .before .before .put-counts .ensures)
+    (written-then (c .before .before .before .before .before .before .put-spans .ensures) (c .before .before .put-rest .ensures)))) in
     (w .store, omega (arith, w .stop))
 
 pub write-report-spec : {M : Type 1} → statement M

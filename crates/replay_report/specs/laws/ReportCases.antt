@@ -32,12 +32,14 @@ mendedOnce =
 
 pub record Texts : Type 0 where
   -- document 01's block
-  pub block : reportText mendedOnce ≡ letters "replaced 0\nseen 60 final 39 held 21\ncount impulse repaired 1\nspan impulse repaired 20 1\ndropped 0 0\ndc none\niq off\n"
+  pub block : reportText mendedOnce
+      ≡ letters "replaced 0\nseen 60 final 39 held 21\ncount impulse repaired 1\nspan impulse repaired 20 1\ndropped 0 0\ndc none\niq off\n"
   pub level : levelLine (levelIs (record { re = one; im = zeroF })) ≡ letters "dc 3ff0000000000000 0000000000000000\n"
   pub mismatch : settledLine Withheld ≡ letters "iq mismatch\n"
   pub refused : refusedText 14 ≡ letters "refused 14\n"
   pub allOff : offText ≡ letters "off\n"
 
 pub texts : Texts
-unfolding floats letters decimalBy hexadecimal line each ringName sampleLines countLine spanLine droppedLine levelLine settledLine reportText refusedText offText
+unfolding floats letters decimalBy hexadecimal line each ringName sampleLines countLine spanLine droppedLine levelLine settledLine reportText refusedText
+    offText
 texts = record { block = refl; level = refl; mismatch = refl; refused = refl; allOff = refl }

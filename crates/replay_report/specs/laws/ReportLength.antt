@@ -55,7 +55,16 @@ unfolding letters sampleLines
 samples-length a b c d =
     let u = letters "replaced" ∷ decimal a ∷ [] in
     let v = letters "seen" ∷ decimal b ∷ letters "final" ∷ decimal c ∷ letters "held" ∷ decimal d ∷ [] in
-    omega (arith, length-append (line u) (line v), line-length (letters "replaced") (decimal a ∷ []), line-length (letters "seen") (decimal b ∷ letters "final" ∷ decimal c ∷ letters "held" ∷ decimal d ∷ []), decimal-length 20 a, decimal-length 20 b, decimal-length 20 c, decimal-length 20 d)
+    omega (
+      arith,
+      length-append (line u) (line v),
+      line-length (letters "replaced") (decimal a ∷ []),
+      line-length (letters "seen") (decimal b ∷ letters "final" ∷ decimal c ∷ letters "held" ∷ decimal d ∷ []),
+      decimal-length 20 a,
+      decimal-length 20 b,
+      decimal-length 20 c,
+      decimal-length 20 d,
+    )
 
 count-length : (s : Stage) (m : Mark) (n : ℕ) → length (countLine s m n) ≤ 45
 unfolding letters countLine
@@ -68,7 +77,13 @@ count-length s m n = go (eqb n 0)
 span-length : (s : Stage) (m : Mark) (x : Span) → length (spanLine s m x) ≤ 65
 unfolding letters spanLine
 span-length s m x =
-    omega (arith, line-length (letters "span") (ringName s m ∷ decimal (x .start) ∷ decimal (x .len) ∷ []), ring-length s m, decimal-length 20 (x .start), decimal-length 20 (x .len))
+    omega (
+      arith,
+      line-length (letters "span") (ringName s m ∷ decimal (x .start) ∷ decimal (x .len) ∷ []),
+      ring-length s m,
+      decimal-length 20 (x .start),
+      decimal-length 20 (x .len),
+    )
 
 dropped-length : (a b : ℕ) → length (droppedLine a b) ≤ 50
 unfolding letters droppedLine
@@ -92,7 +107,14 @@ iq-length s = omega (arith, line-length (letters "iq") (letters (settledName s) 
 three-length : (f : Stage → Mark → List ℕ) (n : ℕ) → ((s : Stage) (m : Mark) → length (f s m) ≤ n)
     → length (each (f impulse) marks ++ (each (f dc) marks ++ each (f iq) marks)) ≤ 12 * n
 three-length f n h =
-    omega (arith, length-append (each (f impulse) marks) (each (f dc) marks ++ each (f iq) marks), length-append (each (f dc) marks) (each (f iq) marks), each-length (f impulse) n (h impulse) marks, each-length (f dc) n (h dc) marks, each-length (f iq) n (h iq) marks)
+    omega (
+      arith,
+      length-append (each (f impulse) marks) (each (f dc) marks ++ each (f iq) marks),
+      length-append (each (f dc) marks) (each (f iq) marks),
+      each-length (f impulse) n (h impulse) marks,
+      each-length (f dc) n (h dc) marks,
+      each-length (f iq) n (h iq) marks,
+    )
 
 module _ (c : InputConditioner) (ws : List ℕ) where
   ring-lines : (s : Stage) (m : Mark) → length (shownLines c ws s m) ≤ 16640
@@ -102,24 +124,39 @@ module _ (c : InputConditioner) (ws : List ℕ) where
 
   rest-length : length (shownRest c) ≤ 101
   rest-length =
-      let u = droppedLine (droppedInAll (c .log)) (c .repairs .dropped) in
+      let u = droppedLine (droppedInAll (c .notes .log)) (c .notes .repairs .dropped) in
       let v = levelLine (stateLevel c) in
       let w = settledLine (settledOf (c .settings .iq)) in
-      omega (arith, length-append u (v ++ w), length-append v w, dropped-length (droppedInAll (c .log)) (c .repairs .dropped), level-length (stateLevel c), iq-length (settledOf (c .settings .iq)))
+      omega (
+        arith,
+        length-append u (v ++ w),
+        length-append v w,
+        dropped-length (droppedInAll (c .notes .log)) (c .notes .repairs .dropped),
+        level-length (stateLevel c),
+        iq-length (settledOf (c .settings .iq)),
+      )
 
   -- for any state, any store and any numbers
   pub report-length : (replaced : ℕ) → length (reportText (reportIn c ws replaced)) ≤ 262144
   report-length replaced =
-      let u = sampleLines replaced (c .seen) (c .released) (c .held) in
-      let v = shownCounts (c .log) in
+      let u = sampleLines replaced (c .counts .seen) (c .counts .released) (c .counts .held) in
+      let v = shownCounts (c .notes .log) in
       let w = allLines c ws in
       let x = shownRest c in
-      let counts : length v ≤ 12 * 45 = three-length (shownCount (c .log)) 45 (λ s m. count-length s m (countOf (c .log) (ringNumber s m))) in
+      let counts : length v ≤ 12 * 45 = three-length (shownCount (c .notes .log)) 45 (λ s m. count-length s m (countOf (c .notes .log) (ringNumber s m))) in
       let spans : length w ≤ 12 * 16640 = three-length (shownLines c ws) 16640 ring-lines in
       rw (← report-pieces c ws replaced)
-      (omega (arith, length-append u (v ++ (w ++ x)), length-append v (w ++ x), length-append w x, samples-length replaced (c .seen) (c .released) (c .held), rest-length))
+      (omega (
+        arith,
+        length-append u (v ++ (w ++ x)),
+        length-append v (w ++ x),
+        length-append w x,
+        samples-length replaced (c .counts .seen) (c .counts .released) (c .counts .held),
+        rest-length,
+      ))
 
   -- what write_report leaves in such a store, up to where it stops
   pub report-whole : (replaced : ℕ) (text : List ℕ) → 262144 ≤ length text
-      → take (min (length text) (length (reportText (reportIn c ws replaced)))) (put text 0 (reportText (reportIn c ws replaced))) ≡ reportText (reportIn c ws replaced)
+      → take (min (length text) (length (reportText (reportIn c ws replaced)))) (put text 0 (reportText (reportIn c ws replaced)))
+      ≡ reportText (reportIn c ws replaced)
   report-whole replaced text h = put-whole text (reportText (reportIn c ws replaced)) (omega (arith, report-length replaced))

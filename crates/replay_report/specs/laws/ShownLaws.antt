@@ -57,7 +57,7 @@ module _ (c : InputConditioner) (ws : List ℕ) (k : ℕ) where
   cap = c .settings .spans
 
   abbrev ring : Ring·log
-  ring = ringOf (c .log) k
+  ring = ringOf (c .notes .log) k
 
   pub shown-read : (i : ℕ) → spanRead c ws k i ≡ numberIn (shownSpans c ws k) i
   unfolding spanRead shownSpans
@@ -75,7 +75,12 @@ module _ (c : InputConditioner) (ws : List ℕ) (k : ℕ) where
       go true e =
           let p = both (storeFits cap (length ws)) (readable cap ring) e in
           let q = both (ltb (ring .head) cap) (leb (ring .count) cap) (p .1) in
-          omega (arith, store-is cap (length ws) (p .0) .few, leb-true (ring .count) cap (q .1), length-spans cap (marksAt cap (record { log = c .log; spans = ws }) k .ring))
+          omega (
+            arith,
+            store-is cap (length ws) (p .0) .few,
+            leb-true (ring .count) cap (q .1),
+            length-spans cap (marksAt cap (record { log = c .notes .log; spans = ws }) k .ring),
+          )
       go false e = omega arith
 
 -- ---- the parts of a report
@@ -84,7 +89,7 @@ each-three : {A : Type 0} (f : A → List ℕ) (x y z : List A) → each f (x ++
 each-three f x y z = each-append f x (y ++ z) ∙ ap (λ (t : List ℕ). each f x ++ t) (each-append f y z)
 
 module _ (c : InputConditioner) (ws : List ℕ) where
-  counts-pieces : countLines (ringsOf (shownRing c ws)) ≡ shownCounts (c .log)
+  counts-pieces : countLines (ringsOf (shownRing c ws)) ≡ shownCounts (c .notes .log)
   unfolding each
   counts-pieces = each-three ringCount (map (shownRing c ws impulse) marks) (map (shownRing c ws dc) marks) (map (shownRing c ws iq) marks)
 
@@ -92,6 +97,9 @@ module _ (c : InputConditioner) (ws : List ℕ) where
   unfolding each
   spans-pieces = each-three ringSpans (map (shownRing c ws impulse) marks) (map (shownRing c ws dc) marks) (map (shownRing c ws iq) marks)
 
-  pub report-pieces : (replaced : ℕ) → sampleLines replaced (c .seen) (c .released) (c .held) ++ (shownCounts (c .log) ++ (allLines c ws ++ shownRest c)) ≡ reportText (reportIn c ws replaced)
+  pub report-pieces : (replaced : ℕ)
+      → sampleLines replaced (c .counts .seen) (c .counts .released) (c .counts .held) ++ (shownCounts (c .notes .log) ++ (allLines c ws ++ shownRest c))
+      ≡ reportText (reportIn c ws replaced)
   unfolding reportText reportIn
-  report-pieces replaced = λ j. sampleLines replaced (c .seen) (c .released) (c .held) ++ (sym counts-pieces j ++ (sym spans-pieces j ++ shownRest c))
+  report-pieces replaced =
+      λ j. sampleLines replaced (c .counts .seen) (c .counts .released) (c .counts .held) ++ (sym counts-pieces j ++ (sym spans-pieces j ++ shownRest c))

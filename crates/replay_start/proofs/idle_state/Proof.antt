@@ -21,7 +21,8 @@ with-geometry-requires : tie.Need-with-geometry-requires
 with-geometry-requires c κs = search needs
 
 returns : tie.Need-returns
-returns c = c .before .before .before .before .with-geometry .ensures .1 .0 ∙ ap freshState (c .before .before .before .before .before .before .before .before .idle .ensures)
+returns c = c .before .before .before .before .with-geometry .ensures .1 .0
+    ∙ ap freshState (c .before .before .before .before .before .before .before .before .idle .ensures)
 
 pub idle-state-spec : {M : Type 1} → statement M
 idle-state-spec =

@@ -27,7 +27,8 @@ idle-state-requires c κs = search needs
 returns : tie.Need-returns
 returns c =
     let a = c .before .before .before .before .before .before .before .before .before .args in
-    let e = bad-header (now (a .head)) (now (a .block)) (no-header _ (ap saidHeader (sym (c .before .enum-told .given .1)) ∙ c .before .before .before .header .ensures)) in (
+    let e = bad-header (now (a .head)) (now (a .block))
+    (no-header _ (ap saidHeader (sym (c .before .enum-told .given .1)) ∙ c .before .before .before .header .ensures)) in (
       sym (said-is (now (a .head)) (now (a .block)) 14 e _ _ _),
       (
         c .idle-state .ensures ∙ sym (state-is (now (a .head)) (now (a .block)) 14 e),
@@ -47,7 +48,9 @@ idle-state-requires-2 c κs = search needs
 returns-2 : tie.Need-returns-2
 returns-2 c =
     let a = c .before .before .before .before .before .before .before .before .before .before .before .args in
-    let e = no-sample (now (a .head)) (now (a .block)) (is-header _ _ (ap saidHeader (sym (c .before .before .before .read .given .1)) ∙ c .before .before .before .before .before .header .ensures) .0) (c .before .if1 .taken) in (
+    let e = no-sample (now (a .head)) (now (a .block))
+    (is-header _ _ (ap saidHeader (sym (c .before .before .before .read .given .1)) ∙ c .before .before .before .before .before .header .ensures) .0)
+    (c .before .if1 .taken) in (
       sym (said-is (now (a .head)) (now (a .block)) 15 e _ _ _),
       (
         c .idle-state2 .ensures ∙ sym (state-is (now (a .head)) (now (a .block)) 15 e),
@@ -75,17 +78,26 @@ same-length-3 c = search needs
 
 returns-3 : tie.Need-returns-3
 returns-3 c =
-    let a = c .before .before .before .before .before .before .before .before .before .before .before .before .before .before .before .before .before .before .before .before .before .args in
-    let h = is-header _ _ (ap saidHeader (sym (c .before .before .before .before .before .before .before .before .before .before .before .before .before .read .given .1)) ∙ c .before .before .before .before .before .before .before .before .before .before .before .before .before .before .before .header .ensures) in
-    let e = some-sample (now (a .head)) (now (a .block)) (h .0) (c .before .before .before .before .before .before .before .before .before .before .before .if1 .left) in
+    let a = c .before .before .before .before .before .before .before .before .before .before .before .before .before .before .before .before .before .before
+    .before .before .before .args in
+    let h = is-header _ _
+    (ap saidHeader (sym (c .before .before .before .before .before .before .before .before .before .before .before .before .before .read .given .1))
+    ∙ c .before .before .before .before .before .before .before .before .before .before .before .before .before .before .before .header .ensures) in
+    let e = some-sample (now (a .head)) (now (a .block)) (h .0)
+    (c .before .before .before .before .before .before .before .before .before .before .before .if1 .left) in
     let m = c .before .before .before .before .before .before .before .with-geometry .ensures in
-    let said = ap (λ (g : Config). makingSaid g (length (now (a .spans))) (length (now (a .repairs))) (length (now (a .words)))) (sym (h .1)) ∙ sym (said-is (now (a .head)) (now (a .block)) 0 e _ _ _) in (
+    let said = ap (λ (g : Config). makingSaid g (length (now (a .spans))) (length (now (a .repairs))) (length (now (a .words)))) (sym (h .1))
+    ∙ sym (said-is (now (a .head)) (now (a .block)) 0 e _ _ _) in (
       m .0 ∙ said,
       (
         m .1 .0 ∙ ap freshState (sym (config-again _) ∙ ap configFrom (sym (h .1))) ∙ sym (state-is (now (a .head)) (now (a .block)) 0 e),
         (
           m .1 .1 .0 ∙ ap (λ (s : Said). madeWords 0 s (now (a .spans))) said,
-          (m .1 .1 .1 .0 ∙ ap (λ (s : Said). madeWords 0 s (now (a .repairs))) said, m .1 .1 .1 .1 ∙ ap (λ (s : Said). madeWords zeroF s (now (a .words))) said),
+          (
+            m .1 .1 .1 .0 ∙ ap (λ (s : Said). madeWords 0 s (now (a .repairs))) said,
+            m .1 .1 .1 .1
+                ∙ ap (λ (s : Said). madeWords zeroF s (now (a .words))) said,
+          ),
         ),
       ),
     )

@@ -17,7 +17,8 @@ use Rattle.replay_start.specs.Starting.{startSaid, idle, startState}
 
 module _ (head block : List ℕ) where
   -- by the answers of the two tests
-  refusal-by : (fits none : Bool) → headerFits head ≡ fits → eqb (length (wordsIn block)) 0 ≡ none → startRefusal head block ≡ cond (not fits) 14 (cond none 15 0)
+  refusal-by : (fits none : Bool) → headerFits head ≡ fits → eqb (length (wordsIn block)) 0 ≡ none
+      → startRefusal head block ≡ cond (not fits) 14 (cond none 15 0)
   unfolding startRefusal firstOf
   refusal-by fits none e f = λ i. cond (not (e i)) 14 (cond (f i) 15 0)
 
@@ -31,7 +32,8 @@ module _ (head block : List ℕ) where
   some-sample e h = refusal-by true false e (ne-eqb (length (wordsIn block)) 0 (λ (z : length (wordsIn block) ≡ 0). omega (arith, words-many block)))
 
   module _ (n : ℕ) (e : startRefusal head block ≡ n) where
-    pub said-is : (spans repairs words : ℕ) → startSaid head block spans repairs words ≡ unlessRefused n (makingSaid (configIn head) spans repairs words) making.refused
+    pub said-is : (spans repairs words : ℕ)
+        → startSaid head block spans repairs words ≡ unlessRefused n (makingSaid (configIn head) spans repairs words) making.refused
     unfolding startSaid
     said-is spans repairs words = ap (λ (k : ℕ). unlessRefused k (makingSaid (configIn head) spans repairs words) making.refused) e
 
@@ -40,5 +42,6 @@ module _ (head block : List ℕ) where
     state-is = ap (λ (k : ℕ). freshState (unlessRefused k (configFrom (configIn head)) (λ j. idle))) e
 
   -- a refused start leaves every word
-  pub words-left : {A : Type 0} (z : A) (n : ℕ) → startRefusal head block ≡ suc n → (spans repairs words : ℕ) (ws : List A) → ws ≡ madeWords z (startSaid head block spans repairs words) ws
+  pub words-left : {A : Type 0} (z : A) (n : ℕ) → startRefusal head block ≡ suc n → (spans repairs words : ℕ) (ws : List A)
+      → ws ≡ madeWords z (startSaid head block spans repairs words) ws
   words-left z n e spans repairs words ws = sym (ap (λ (s : making.Said). madeWords z s ws) (said-is (suc n) e spans repairs words))

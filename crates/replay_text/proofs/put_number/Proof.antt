@@ -18,7 +18,8 @@ same-length c = search needs
 
 returns : tie.Need-returns
 returns c =
-    written-then (c .before .before .before .before .before .before .before .before .before .before .put .ensures) (written-then (c .before .before .before .before .before .before .put-decimal .ensures) (c .before .before .put-byte .ensures))
+    written-then (c .before .before .before .before .before .before .before .before .before .before .put .ensures)
+    (written-then (c .before .before .before .before .before .before .put-decimal .ensures) (c .before .before .put-byte .ensures))
 
 pub put-number-spec : {M : Type 1} → statement M
 put-number-spec =

@@ -49,7 +49,8 @@ unfolding put
 written-none text place = record { store = refl; stop = omega arith }
 
 -- the same bytes by another name
-pub written-as : {text : List ℕ} {place : ℕ} {cs bs : List ℕ} {after : List ℕ} {end : ℕ} → cs ≡ bs → Written text place cs after end → Written text place bs after end
+pub written-as : {text : List ℕ} {place : ℕ} {cs bs : List ℕ} {after : List ℕ} {end : ℕ} → cs ≡ bs → Written text place cs after end
+    → Written text place bs after end
 written-as {text} {place} {cs} {bs} {after} {end} e w = subst (λ (l : List ℕ). Written text place l after end) e w
 
 module _ {text : List ℕ} {place : ℕ} {cs : List ℕ} {middle : List ℕ} {stop : ℕ} {bs : List ℕ} {after : List ℕ} {end : ℕ} where
@@ -68,7 +69,8 @@ module _ {text : List ℕ} {place : ℕ} {cs : List ℕ} {middle : List ℕ} {st
       }
 
 -- and nothing behind it
-pub written-last : {text : List ℕ} {place : ℕ} {cs : List ℕ} {after : List ℕ} {end : ℕ} → Written text place cs after end → Written text place (cs ++ []) after end
+pub written-last : {text : List ℕ} {place : ℕ} {cs : List ℕ} {after : List ℕ} {end : ℕ} → Written text place cs after end
+    → Written text place (cs ++ []) after end
 written-last {text} {place} {cs} w = written-as (sym (append-nil cs)) w
 
 -- ---- the texts of a list's members

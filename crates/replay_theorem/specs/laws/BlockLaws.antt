@@ -20,7 +20,8 @@ use Rattle.replay_format.specs.Format.{littleEndian, wordAt, wordsIn, headerFit
 upTo-append : {A : Type 0} (f : ℕ → A) (m n : ℕ) → upTo f (m + n) ≡ upTo f m ++ upTo (λ i. f (m + i)) n
 unfolding upTo
 upTo-append f m zero = simp unary-clauses (sym (append-nil (upTo f m)))
-upTo-append f m (suc n) = simp unary-clauses (ap (λ l. l ++ (f (m + n) ∷ [])) (upTo-append f m n) ∙ append-assoc (upTo f m) (upTo (λ i. f (m + i)) n) (f (m + n) ∷ []))
+upTo-append f m (suc n) =
+    simp unary-clauses (ap (λ l. l ++ (f (m + n) ∷ [])) (upTo-append f m n) ∙ append-assoc (upTo f m) (upTo (λ i. f (m + i)) n) (f (m + n) ∷ []))
 
 -- a word before the seam of two lists, and one behind it
 word-front : (xs ys : List ℕ) (k : ℕ) → k + 8 ≤ length xs → wordAt (xs ++ ys) k ≡ wordAt xs k
@@ -42,8 +43,10 @@ words-append xs ys m e =
     ap (upTo (λ k. wordAt (xs ++ ys) (8 * k))) a
     ∙ upTo-append (λ k. wordAt (xs ++ ys) (8 * k)) m (length ys / 8)
     ∙ (λ i.
-    (upTo-same (λ k. wordAt (xs ++ ys) (8 * k)) (λ k. wordAt xs (8 * k)) m (λ k l. word-front xs ys (8 * k) (omega arith)) ∙ ap (upTo (λ k. wordAt xs (8 * k))) (sym b)) i
-    ++ upTo-same (λ k. wordAt (xs ++ ys) (8 * (m + k))) (λ k. wordAt ys (8 * k)) (length ys / 8) (λ k l. ap (wordAt (xs ++ ys)) (let q : 8 * (m + k) ≡ length xs + 8 * k = omega arith in q) ∙ word-back xs ys (8 * k)) i)
+    (upTo-same (λ k. wordAt (xs ++ ys) (8 * k)) (λ k. wordAt xs (8 * k)) m (λ k l. word-front xs ys (8 * k) (omega arith))
+    ∙ ap (upTo (λ k. wordAt xs (8 * k))) (sym b)) i
+    ++ upTo-same (λ k. wordAt (xs ++ ys) (8 * (m + k))) (λ k. wordAt ys (8 * k)) (length ys / 8)
+    (λ k l. ap (wordAt (xs ++ ys)) (let q : 8 * (m + k) ≡ length xs + 8 * k = omega arith in q) ∙ word-back xs ys (8 * k)) i)
 
 pub no-words : wordsIn [] ≡ []
 unfolding wordsIn upTo
@@ -62,7 +65,8 @@ module _ (head rest : List ℕ) (long : length head ≡ headerSize) where
   same-fits =
       λ i.
       size i
-      && (eqb (byte 0 (omega arith) i) 67 && eqb (byte 1 (omega arith) i) 78 && eqb (byte 2 (omega arith) i) 68 && eqb (byte 3 (omega arith) i) 1 && eqb (byte 4 (omega arith) i) 0)
+      && (eqb (byte 0 (omega arith) i) 67 && eqb (byte 1 (omega arith) i) 78 && eqb (byte 2 (omega arith) i) 68 && eqb (byte 3 (omega arith) i) 1
+      && eqb (byte 4 (omega arith) i) 0)
       && (leb (byte 5 (omega arith) i) 2 && leb (byte 6 (omega arith) i) 2 && leb (byte 7 (omega arith) i) 2 && leb (byte 8 (omega arith) i) 1)
     where
       size : leb headerSize (length (head ++ rest)) ≡ leb headerSize (length head)
@@ -79,7 +83,8 @@ module _ (head rest : List ℕ) (long : length head ≡ headerSize) where
         fs = real 0 (omega arith) i;
         centre = real 1 (omega arith) i;
         n = 8;
-        calibration = calibrationBy (byte 8 (omega arith) i) (record { gain = real 2 (omega arith) i; phase = real 3 (omega arith) i; centre = real 4 (omega arith) i });
+        calibration =
+            calibrationBy (byte 8 (omega arith) i) (record { gain = real 2 (omega arith) i; phase = real 3 (omega arith) i; centre = real 4 (omega arith) i });
         spans = 256;
         repairs = 1024;
       }

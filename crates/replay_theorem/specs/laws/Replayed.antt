@@ -15,11 +15,12 @@ use Rattle.rules.specs.Answers.{Said, refused}
 use Rattle.rules.specs.Guard.{guarded, unusable, Usable}
 use Rattle.rules.specs.Iq.{Calibrated, none, with}
 use Rattle.rules.specs.Mode.{Mode, off, observe, apply}
-use Rattle.rules.specs.Log.{Stage, impulse, dc, iq, Mark, Repaired, Flagged, Corrected, Uncertain, Marks, ringNumber, spansOf}
+use Rattle.rules.specs.Log.{Stage, impulse, dc, iq, Mark, Repaired, Flagged, Corrected, Uncertain, Marks, ringNumber, spansOf, storeWidth}
 use Rattle.rules.specs.Log as log
 use Rattle.rules.specs.Refusals.{firstOf, tooMany}
 use Rattle.rules.specs.Chain as rules
 use Rattle.rules.specs.Chain.{Config}
+use Rattle.rules.specs.Constants.{totalLimit}
 use Rattle.log.specs.Check.{ringOf, countOf, sumTo, spansDropped, droppedInAll}
 use Rattle.log.specs.laws.CheckLaws.{InRange, log-range}
 use Rattle.log.specs.View.{marksAt}
@@ -51,7 +52,8 @@ use Rattle.replay_start.specs.Starting.{idle, startSaid, startState}
 use Rattle.replay_report.specs.Report.{Ring, ringsOf, ringBy, reportText, reportBy, textUnless, playedText, printed}
 use Rattle.replay_text.specs.Notices.{refusedText, offText}
 use Rattle.replay_report.specs.Shown.{shownSpans, shownRing, reportIn}
-use Rattle.replay_theorem.specs.laws.BlockLaws.{words-append, no-words, same-fits, same-config, behind-header, guarded-append, guarded-count, unusable-append}
+use Rattle.replay_theorem.specs.laws.BlockLaws.{words-append, no-words, same-fits, same-config, behind-header, guarded-append, guarded-count}
+use Rattle.replay_theorem.specs.laws.BlockLaws.{unusable-append}
 use Rattle.replay_theorem.specs.Replay.{Block, joined, firstBytes, afterCall, played, answeredBy, replayed, Fits, Read}
 
 -- ---- the configuration in the code's types is the header's
@@ -107,15 +109,21 @@ module _ (g : ConditioningConfig) (f : Fit g) (raw : List ℕ) (r : Reached g (g
   unfolding chainAt withHops core process freshState freshSettings
   capacity-is = refl
 
-  range : (k : ℕ) → k < 12 → InRange (chain .machine .state .settings .spans) (ringOf (chain .machine .state .log) k) (countOf (chain .machine .state .log) k)
-  range k h = log-range (chain .machine .state .settings .spans) (chain .machine .state .log) k (state-groups (chain .machine .state) (state-good g f (guarded raw) [] r) .log) h
+  range : (k : ℕ) → k < 12
+      → InRange (chain .machine .state .settings .spans) (ringOf (chain .machine .state .notes .log) k) (countOf (chain .machine .state .notes .log) k)
+  range k h =
+      log-range (chain .machine .state .settings .spans) (chain .machine .state .notes .log) k
+      (state-groups (chain .machine .state) (state-good g f (guarded raw) [] r) .log) h
 
   -- a ring's marks, as the log has them
-  ring-is : (s : Stage) (m : Mark) → marksAt (g .spans) (record { log = chain .machine .state .log; spans = chain .machine .spans }) (ringNumber s m) ≡ rules.ringOf (configOf g) (guarded raw) [] s m
+  ring-is : (s : Stage) (m : Mark)
+      → marksAt (g .spans) (record { log = chain .machine .state .notes .log; spans = chain .machine .spans }) (ringNumber s m)
+      ≡ rules.ringOf (configOf g) (guarded raw) [] s m
   ring-is s m = by .rings s m ∙ (λ i. rules.ringOf (configOf g) (brought-is i) (hops-is i) s m)
 
   spans-shown : (k : ℕ) → k < 12
-      → shownSpans (chain .machine .state) (chain .machine .spans) k ≡ spansOf (g .spans) (marksAt (g .spans) (record { log = chain .machine .state .log; spans = chain .machine .spans }) k .ring)
+      → shownSpans (chain .machine .state) (chain .machine .spans) k
+      ≡ spansOf (g .spans) (marksAt (g .spans) (record { log = chain .machine .state .notes .log; spans = chain .machine .spans }) k .ring)
   unfolding shownSpans
   spans-shown k h =
       let c = chain .machine .state in
@@ -123,12 +131,14 @@ module _ (g : ConditioningConfig) (f : Fit g) (raw : List ℕ) (r : Reached g (g
       let t = range k h in
       λ i.
       cond
-      ((lt-ltb 0 cap (omega (arith, capacity-is, f .limits .some-spans)) i && le-leb cap 256 (omega (arith, capacity-is, f .limits .few-spans)) i && eq-eqb (length (chain .machine .spans)) (24 * cap) (spans-long g f (guarded raw) [] r) i)
-      && (lt-ltb (ringOf (c .log) k .head) cap (t .headIn) i && le-leb (ringOf (c .log) k .count) cap (t .countIn) i))
-      (spansOf (capacity-is i) (marksAt (capacity-is i) (record { log = c .log; spans = chain .machine .spans }) k .ring))
+      ((lt-ltb 0 cap (omega (arith, capacity-is, f .limits .some-spans)) i && le-leb cap 256 (omega (arith, capacity-is, f .limits .few-spans)) i
+      && eq-eqb (length (chain .machine .spans)) (storeWidth * cap) (spans-long g f (guarded raw) [] r) i)
+      && (lt-ltb (ringOf (c .notes .log) k .head) cap (t .headIn) i && le-leb (ringOf (c .notes .log) k .count) cap (t .countIn) i))
+      (spansOf (capacity-is i) (marksAt (capacity-is i) (record { log = c .notes .log; spans = chain .machine .spans }) k .ring))
       []
 
-  ring-shown : (s : Stage) (m : Mark) → ringNumber s m < 12 → shownRing (chain .machine .state) (chain .machine .spans) s m ≡ ringBy (g .spans) s m (rules.ringOf (configOf g) (guarded raw) [] s m)
+  ring-shown : (s : Stage) (m : Mark) → ringNumber s m < 12
+      → shownRing (chain .machine .state) (chain .machine .spans) s m ≡ ringBy (g .spans) s m (rules.ringOf (configOf g) (guarded raw) [] s m)
   unfolding marksAt
   ring-shown s m h =
       λ i.
@@ -140,14 +150,16 @@ module _ (g : ConditioningConfig) (f : Fit g) (raw : List ℕ) (r : Reached g (g
       }
 
   -- dropped spans
-  drop-is : (s : Stage) (m : Mark) → ringOf (chain .machine .state .log) (ringNumber s m) .dropped ≡ rules.ringOf (configOf g) (guarded raw) [] s m .ring .dropped
+  drop-is : (s : Stage) (m : Mark)
+      → ringOf (chain .machine .state .notes .log) (ringNumber s m) .dropped ≡ rules.ringOf (configOf g) (guarded raw) [] s m .ring .dropped
   unfolding marksAt
   drop-is s m = ap (λ (x : Marks). x .ring .dropped) (ring-is s m)
 
-  few : sumTo (λ k. ringOf (chain .machine .state .log) k .dropped) 12 ≤ 12 * 2 ^ 52
-  few = sum-most (λ k. ringOf (chain .machine .state .log) k .dropped) (2 ^ 52) 12 (λ k h. range k h .dropped)
+  few : sumTo (λ k. ringOf (chain .machine .state .notes .log) k .dropped) 12 ≤ 12 * 2 ^ 52
+  few = sum-most (λ k. ringOf (chain .machine .state .notes .log) k .dropped) (2 ^ 52) 12 (λ k h. range k h .dropped)
 
-  sum-is : sumTo (λ k. ringOf (chain .machine .state .log) k .dropped) 12 ≡ sum _+_ 0 (ringsOf (λ s m. rules.ringOf (configOf g) (guarded raw) [] s m .ring .dropped))
+  sum-is : sumTo (λ k. ringOf (chain .machine .state .notes .log) k .dropped) 12
+      ≡ sum _+_ 0 (ringsOf (λ s m. rules.ringOf (configOf g) (guarded raw) [] s m .ring .dropped))
   unfolding sumTo sum
   sum-is =
       omega (
@@ -166,9 +178,9 @@ module _ (g : ConditioningConfig) (f : Fit g) (raw : List ℕ) (r : Reached g (g
         drop-is iq Uncertain,
       )
 
-  drops-are : droppedInAll (chain .machine .state .log) ≡ sum _+_ 0 (ringsOf (λ s m. rules.ringOf (configOf g) (guarded raw) [] s m .ring .dropped))
+  drops-are : droppedInAll (chain .machine .state .notes .log) ≡ sum _+_ 0 (ringsOf (λ s m. rules.ringOf (configOf g) (guarded raw) [] s m .ring .dropped))
   unfolding spansDropped
-  drops-are = min-eq-left (let q : sumTo (λ k. ringOf (chain .machine .state .log) k .dropped) 12 ≤ 2 ^ 64 - 1 = omega (arith, few) in q) ∙ sum-is
+  drops-are = min-eq-left (let q : sumTo (λ k. ringOf (chain .machine .state .notes .log) k .dropped) 12 ≤ 2 ^ 64 - 1 = omega (arith, few) in q) ∙ sum-is
 
   report-is : reportIn (chain .machine .state) (chain .machine .spans) (unusable raw) ≡ reportBy (configOf g) raw
   unfolding reportIn reportBy
@@ -180,9 +192,12 @@ module _ (g : ConditioningConfig) (f : Fit g) (raw : List ℕ) (r : Reached g (g
         final = (by .count ∙ ap length (by .released ∙ ap (rules.released (configOf g)) brought-is)) i;
         held = (by .held ∙ ap (rules.heldOf (configOf g)) brought-is) i;
         rings =
-            ring-shown impulse Repaired (omega arith) i ∷ ring-shown impulse Flagged (omega arith) i ∷ ring-shown impulse Corrected (omega arith) i ∷ ring-shown impulse Uncertain (omega arith) i
-            ∷ ring-shown dc Repaired (omega arith) i ∷ ring-shown dc Flagged (omega arith) i ∷ ring-shown dc Corrected (omega arith) i ∷ ring-shown dc Uncertain (omega arith) i
-            ∷ ring-shown iq Repaired (omega arith) i ∷ ring-shown iq Flagged (omega arith) i ∷ ring-shown iq Corrected (omega arith) i ∷ ring-shown iq Uncertain (omega arith) i
+            ring-shown impulse Repaired (omega arith) i ∷ ring-shown impulse Flagged (omega arith) i ∷ ring-shown impulse Corrected
+            (omega arith) i ∷ ring-shown impulse Uncertain (omega arith) i
+            ∷ ring-shown dc Repaired (omega arith) i ∷ ring-shown dc Flagged (omega arith) i ∷ ring-shown dc Corrected (omega arith) i ∷ ring-shown dc Uncertain
+            (omega arith) i
+            ∷ ring-shown iq Repaired (omega arith) i ∷ ring-shown iq Flagged (omega arith) i ∷ ring-shown iq Corrected (omega arith) i ∷ ring-shown iq Uncertain
+            (omega arith) i
             ∷ [];
         droppedSpans = drops-are i;
         droppedRepairs = (ap (λ (x : log.Ring). x .dropped) (by .repairs ∙ ap (rules.repairRing (configOf g)) brought-is)) i;
@@ -203,10 +218,10 @@ module _ (g : ConditioningConfig) (f : Fit g) where
     abbrev words : List ℕ
     words = wordsIn (b .bytes)
 
-    held-few : machine .state .held ≤ 21
+    held-few : machine .state .counts .held ≤ 21
     held-few = at-few g f (guarded raw) [] r
 
-    held-all : heldIn (machine .state) (b .store) ≡ machine .state .held
+    held-all : heldIn (machine .state) (b .store) ≡ machine .state .counts .held
     held-all = omega (arith, held-few, t .room)
 
     -- there is room for all its samples
@@ -219,7 +234,7 @@ module _ (g : ConditioningConfig) (f : Fit g) where
     abbrev part : List ℕ
     part = slice (machine .state) (b .bytes) (b .store)
 
-    held-in : machine .state .held ≤ length (slice (machine .state) (b .bytes) (b .store))
+    held-in : machine .state .counts .held ≤ length (slice (machine .state) (b .bytes) (b .store))
     held-in = omega (arith, held-all, slice-long (machine .state) (b .bytes) (b .store) _ _ refl refl)
 
     new-part : newPart (machine .state) (slice (machine .state) (b .bytes) (b .store)) ≡ guarded (wordsIn (b .bytes))
@@ -232,32 +247,46 @@ module _ (g : ConditioningConfig) (f : Fit g) where
     new-count = ap length new-part ∙ guarded-count words
 
     -- up to 2^48 samples in all the chain goes on with them
-    fed-on : length raw + length (wordsIn (b .bytes)) ≤ 2 ^ 48
-        → (fed (chainAt g (guarded raw) [] .machine) (b .bytes) (b .store) ≡ takenBlock (chainAt g (guarded raw) [] .machine) (b .bytes) (b .store) (taken (chainAt g (guarded raw) [] .machine) (slice (machine .state) (b .bytes) (b .store))))
-        × ((process (chainAt g (guarded raw) [] .machine) (newPart (machine .state) (slice (machine .state) (b .bytes) (b .store))) ≡ chainAt g (guarded (raw ++ wordsIn (b .bytes))) [] .machine)
+    fed-on : length raw + length (wordsIn (b .bytes)) ≤ totalLimit
+        → (fed (chainAt g (guarded raw) [] .machine) (b .bytes) (b .store)
+        ≡ takenBlock (chainAt g (guarded raw) [] .machine) (b .bytes) (b .store)
+        (taken (chainAt g (guarded raw) [] .machine) (slice (machine .state) (b .bytes) (b .store))))
+        × ((process (chainAt g (guarded raw) [] .machine) (newPart (machine .state) (slice (machine .state) (b .bytes) (b .store)))
+        ≡ chainAt g (guarded (raw ++ wordsIn (b .bytes))) [] .machine)
         × Reached g (guarded (raw ++ wordsIn (b .bytes))) [])
     fed-on h =
         let none = call-accepted g f (guarded raw) [] r part held-in all-usable (omega (arith, guarded-count raw, new-count, h)) in
-        let joined : guarded raw ++ newPart (machine .state) part ≡ guarded (raw ++ words) = ap (λ (l : List ℕ). guarded raw ++ l) new-part ∙ sym (guarded-append raw words) in (
-          fed-taken (machine .state) (b .bytes) (b .store) _ _ refl refl (machine .spans) (machine .repairs) (taken-by (machine .state) part (machine .spans) (machine .repairs) none),
+        let joined : guarded raw ++ newPart (machine .state) part ≡ guarded (raw ++ words) = ap (λ (l : List ℕ). guarded raw ++ l) new-part
+        ∙ sym (guarded-append raw words) in (
+          fed-taken (machine .state) (b .bytes) (b .store) _ _ refl refl (machine .spans) (machine .repairs)
+              (taken-by (machine .state) part (machine .spans) (machine .repairs) none),
           (
             machine-more g some (guarded raw) (newPart (machine .state) part) [] ∙ ap (λ (l : List ℕ). chainAt g l [] .machine) joined,
-            record { usable = guarded-usable (raw ++ words); few = omega (arith, guarded-count (raw ++ words), length-append raw words, h); order = tt; watching = λ e. refl },
+            record {
+              usable = guarded-usable (raw ++ words);
+              few = omega (arith, guarded-count (raw ++ words), length-append raw words, h);
+              order =
+                  tt;
+              watching = λ e. refl;
+            },
           ),
         )
 
     -- and above that it meets number 8
-    fed-beyond : 2 ^ 48 < length raw + length (wordsIn (b .bytes)) → fed (chainAt g (guarded raw) [] .machine) (b .bytes) (b .store) .said ≡ refused (8 ∷ [])
+    fed-beyond : totalLimit < length raw + length (wordsIn (b .bytes))
+        → fed (chainAt g (guarded raw) [] .machine) (b .bytes) (b .store) .said ≡ refused (8 ∷ [])
     unfolding returned
     fed-beyond h =
         let eight = call-beyond g f (guarded raw) [] r part held-in all-usable (omega (arith, guarded-count raw, new-count, h)) in
-        fed-said machine (b .bytes) (b .store) ∙ ap (λ (o : Outcome). o .said) (declined-by (machine .state) part (machine .spans) (machine .repairs) 8 eight refl)
+        fed-said machine (b .bytes) (b .store)
+        ∙ ap (λ (o : Outcome). o .said) (declined-by (machine .state) part (machine .spans) (machine .repairs) 8 eight refl)
 
   -- ---- all blocks
 
   -- a block that is followed by another holds whole samples
   blocks-append : (b : Block) (bs : List Block) → Read (b ∷ bs) → wordsIn (joined (b ∷ bs)) ≡ wordsIn (b .bytes) ++ wordsIn (joined bs)
-  blocks-append b [] t = ap wordsIn (append-nil (b .bytes)) ∙ sym (append-nil (wordsIn (b .bytes))) ∙ ap (λ (l : List ℕ). wordsIn (b .bytes) ++ l) (sym no-words)
+  blocks-append b [] t = ap wordsIn (append-nil (b .bytes)) ∙ sym (append-nil (wordsIn (b .bytes)))
+      ∙ ap (λ (l : List ℕ). wordsIn (b .bytes) ++ l) (sym no-words)
   blocks-append b (c ∷ bs) t = words-append (b .bytes) (joined (c ∷ bs)) 8192 (t .1 .0)
 
   first-fits : (b : Block) (bs : List Block) → Read (b ∷ bs) → Fits b × Read bs
@@ -267,21 +296,23 @@ module _ (g : ConditioningConfig) (f : Fit g) where
   abbrev told : List ℕ → List ℕ
   told raw = textUnless (firstOf (tooMany 0 (length raw) ∷ [])) (reportText (reportBy (configOf g) raw))
 
-  total-fits : (raw : List ℕ) → length raw ≤ 2 ^ 48 → told raw ≡ reportText (reportBy (configOf g) raw)
+  total-fits : (raw : List ℕ) → length raw ≤ totalLimit → told raw ≡ reportText (reportBy (configOf g) raw)
   unfolding firstOf
-  total-fits raw h = ap (λ (b : Bool). textUnless (cond b 8 0) (reportText (reportBy (configOf g) raw))) (le-ltb (2 ^ 48) (0 + length raw) (omega arith))
+  total-fits raw h = ap (λ (b : Bool). textUnless (cond b 8 0) (reportText (reportBy (configOf g) raw))) (le-ltb totalLimit (0 + length raw) (omega arith))
 
-  total-beyond : (raw : List ℕ) → 2 ^ 48 < length raw → told raw ≡ refusedText 8
+  total-beyond : (raw : List ℕ) → totalLimit < length raw → told raw ≡ refusedText 8
   unfolding firstOf
-  total-beyond raw h = ap (λ (b : Bool). textUnless (cond b 8 0) (reportText (reportBy (configOf g) raw))) (lt-ltb (2 ^ 48) (0 + length raw) (omega arith))
+  total-beyond raw h = ap (λ (b : Bool). textUnless (cond b 8 0) (reportText (reportBy (configOf g) raw))) (lt-ltb totalLimit (0 + length raw) (omega arith))
 
-  played-is : (raw : List ℕ) → Reached g (guarded raw) [] → (bs : List Block) → Read bs → played (chainAt g (guarded raw) [] .machine) (unusable raw) bs ≡ told (raw ++ wordsIn (joined bs))
+  played-is : (raw : List ℕ) → Reached g (guarded raw) [] → (bs : List Block) → Read bs
+      → played (chainAt g (guarded raw) [] .machine) (unusable raw) bs ≡ told (raw ++ wordsIn (joined bs))
   unfolding played
   played-is raw r [] t =
       ap reportText (report-is g f raw r)
       ∙ sym (total-fits raw (omega (arith, guarded-count raw, r .few)))
       ∙ ap told (sym (ap (λ (l : List ℕ). raw ++ l) no-words ∙ append-nil raw))
-  played-is raw r (b ∷ bs) t = go (λ w. played-is (raw ++ wordsIn (b .bytes)) w bs (first-fits b bs t .1)) (decLt (2 ^ 48) (length raw + length (wordsIn (b .bytes))))
+  played-is raw r (b ∷ bs) t =
+      go (λ w. played-is (raw ++ wordsIn (b .bytes)) w bs (first-fits b bs t .1)) (decLt totalLimit (length raw + length (wordsIn (b .bytes))))
     where
       fits : Fits b
       fits = first-fits b bs t .0
@@ -289,22 +320,29 @@ module _ (g : ConditioningConfig) (f : Fit g) where
       all-is : raw ++ wordsIn (joined (b ∷ bs)) ≡ (raw ++ wordsIn (b .bytes)) ++ wordsIn (joined bs)
       all-is = ap (λ (l : List ℕ). raw ++ l) (blocks-append b bs t) ∙ sym (append-assoc raw (wordsIn (b .bytes)) (wordsIn (joined bs)))
 
-      go : (Reached g (guarded (raw ++ wordsIn (b .bytes))) [] → played (chainAt g (guarded (raw ++ wordsIn (b .bytes))) [] .machine) (unusable (raw ++ wordsIn (b .bytes))) bs ≡ told ((raw ++ wordsIn (b .bytes)) ++ wordsIn (joined bs)))
-          → Dec (2 ^ 48 < length raw + length (wordsIn (b .bytes))) → played (chainAt g (guarded raw) [] .machine) (unusable raw) (b ∷ bs) ≡ told (raw ++ wordsIn (joined (b ∷ bs)))
+      go : (Reached g (guarded (raw ++ wordsIn (b .bytes))) []
+          → played (chainAt g (guarded (raw ++ wordsIn (b .bytes))) [] .machine) (unusable (raw ++ wordsIn (b .bytes))) bs
+          ≡ told ((raw ++ wordsIn (b .bytes)) ++ wordsIn (joined bs)))
+          → Dec (totalLimit < length raw + length (wordsIn (b .bytes)))
+          → played (chainAt g (guarded raw) [] .machine) (unusable raw) (b ∷ bs) ≡ told (raw ++ wordsIn (joined (b ∷ bs)))
       go rest (yes h) =
           let o = fed (chainAt g (guarded raw) [] .machine) (b .bytes) (b .store) in
           ap (λ (s : Said ℕ). afterCall s (played (o .machine) (unusable raw + o .replaced) bs)) (fed-beyond raw r b fits h)
-          ∙ sym (ap told all-is ∙ total-beyond ((raw ++ wordsIn (b .bytes)) ++ wordsIn (joined bs)) (omega (arith, length-append raw (wordsIn (b .bytes)), length-append (raw ++ wordsIn (b .bytes)) (wordsIn (joined bs)), h)))
+          ∙ sym (ap told all-is
+          ∙ total-beyond ((raw ++ wordsIn (b .bytes)) ++ wordsIn (joined bs))
+          (omega (arith, length-append raw (wordsIn (b .bytes)), length-append (raw ++ wordsIn (b .bytes)) (wordsIn (joined bs)), h)))
       go rest (no h) =
           let on = fed-on raw r b fits (omega arith) in
           (λ i. afterCall (on .0 i .said) (played (on .0 i .machine) (unusable raw + on .0 i .replaced) bs))
-          ∙ (λ i. played (on .1 .0 i) ((ap (λ (l : List ℕ). unusable raw + unusable l) (new-all raw r b fits) ∙ sym (unusable-append raw (wordsIn (b .bytes)))) i) bs)
+          ∙ (λ i. played (on .1 .0 i)
+          ((ap (λ (l : List ℕ). unusable raw + unusable l) (new-all raw r b fits) ∙ sym (unusable-append raw (wordsIn (b .bytes)))) i) bs)
           ∙ rest (on .1 .1)
           ∙ ap told (sym all-is)
 
 -- ---- a chain that was made
 
-module _ (g : ConditioningConfig) (spans repairs : List ℕ) (words : List Float) (e : makingSaid (configOf g) (length spans) (length repairs) (length words) ≡ made) where
+module _ (g : ConditioningConfig) (spans repairs : List ℕ) (words : List Float)
+    (e : makingSaid (configOf g) (length spans) (length repairs) (length words) ≡ made) where
   abbrev fit : Fit g
   fit = made-fit g (length spans) (length repairs) (length words) e .fit
 
@@ -324,7 +362,8 @@ module _ (head : List ℕ) (bs : List Block) (most : length head ≤ headerSize)
   none-first (b ∷ []) t = ap (λ (l : List ℕ). eqb (length (wordsIn l)) 0) (sym (append-nil (b .bytes)))
   none-first (b ∷ c ∷ bs) t =
       let some : 0 < length (wordsIn (b .bytes)) = omega (arith, words-many (b .bytes), t .1 .0) in
-      let all : 0 < length (wordsIn (joined (b ∷ c ∷ bs))) = omega (arith, words-many (joined (b ∷ c ∷ bs)), length-append (b .bytes) (joined (c ∷ bs)), t .1 .0) in
+      let all : 0 < length (wordsIn (joined (b ∷ c ∷ bs))) =
+      omega (arith, words-many (joined (b ∷ c ∷ bs)), length-append (b .bytes) (joined (c ∷ bs)), t .1 .0) in
       ne-eqb (length (wordsIn (b .bytes))) 0 (λ (q : length (wordsIn (b .bytes)) ≡ 0). omega (arith, some, q))
       ∙ sym (ne-eqb (length (wordsIn (joined (b ∷ c ∷ bs)))) 0 (λ (q : length (wordsIn (joined (b ∷ c ∷ bs))) ≡ 0). omega (arith, all, q)))
 
@@ -339,10 +378,12 @@ module _ (head : List ℕ) (bs : List Block) (most : length head ≤ headerSize)
       go (yes h) =
           let l : length (head ++ joined bs) < 49 = omega (arith, length-append head (joined bs), ap length (short h), h) in
           ap (λ (b : Bool). cond (not b) 14 (cond (eqb (length (wordsIn (firstBytes bs))) 0) 15 0)) (too-short head h)
-          ∙ sym (ap (λ (b : Bool). cond (not b) 14 (cond (eqb (length (wordsIn (drop headerSize (head ++ joined bs)))) 0) 15 0)) (too-short (head ++ joined bs) l))
+          ∙ sym (ap (λ (b : Bool). cond (not b) 14 (cond (eqb (length (wordsIn (drop headerSize (head ++ joined bs)))) 0) 15 0))
+          (too-short (head ++ joined bs) l))
       go (no h) =
           let l : length head ≡ headerSize = omega arith in
-          λ i. cond (not (sym (same-fits head (joined bs) l) i)) 14 (cond ((none-first bs t ∙ ap (λ (x : List ℕ). eqb (length (wordsIn x)) 0) (sym (behind-header head (joined bs) l))) i) 15 0)
+          λ i. cond (not (sym (same-fits head (joined bs) l) i)) 14
+          (cond ((none-first bs t ∙ ap (λ (x : List ℕ). eqb (length (wordsIn x)) 0) (sym (behind-header head (joined bs) l))) i) 15 0)
 
   -- where neither holds there is a whole header
   whole-header : startRefusal head (firstBytes bs) ≡ 0 → length head ≡ headerSize
@@ -369,30 +410,36 @@ module _ (head : List ℕ) (bs : List Block) (most : length head ≤ headerSize)
     made-by : (all : Bool) (k : ℕ) → allOff (configIn head) ≡ all → refusal (configIn head) (length spans) (length repairs) (length words) ≡ k
         → let s = cond {A = making.Said} all nothing (numbered k) in
         answeredBy s (played (machineOf (freshState (configFrom (configIn head))) (madeWords 0 s spans) (madeWords 0 s repairs)) 0 bs)
-        ≡ cond all offText (textUnless k (textUnless (firstOf (tooMany 0 (length (wordsIn (joined bs))) ∷ [])) (reportText (reportBy (configIn head) (wordsIn (joined bs))))))
+        ≡ cond all offText
+        (textUnless k (textUnless (firstOf (tooMany 0 (length (wordsIn (joined bs))) ∷ [])) (reportText (reportBy (configIn head) (wordsIn (joined bs))))))
     unfolding makingSaid madeChain
     made-by true k p q = refl
     made-by false (suc k) p q = refl
     made-by false zero p q =
         let c = config-again (configIn head) in
-        let e : makingSaid (configOf g) (length spans) (length repairs) (length words) ≡ made = ap (λ (x : Config). makingSaid x (length spans) (length repairs) (length words)) c ∙ (λ i. cond (p i) nothing (numbered (q i))) in
+        let e : makingSaid (configOf g) (length spans) (length repairs) (length words) ≡ made =
+        ap (λ (x : Config). makingSaid x (length spans) (length repairs) (length words)) c ∙ (λ i. cond (p i) nothing (numbered (q i))) in
         (λ i. played (machineOf (freshState g) (madeWords 0 (sym e i) spans) (madeWords 0 (sym e i) repairs)) 0 bs)
         ∙ made-text g spans repairs words e bs t
         ∙ ap (λ (x : Config). textUnless (firstOf (tooMany 0 (length (wordsIn (joined bs))) ∷ [])) (reportText (reportBy x (wordsIn (joined bs))))) c
 
     text-is : (k : ℕ) → startRefusal head (firstBytes bs) ≡ k
         → let s = unlessRefused k (makingSaid (configIn head) (length spans) (length repairs) (length words)) making.refused in
-        answeredBy s (played (machineOf (freshState (unlessRefused k (configFrom (configIn head)) (λ n. idle))) (madeWords 0 s spans) (madeWords 0 s repairs)) 0 bs)
+        answeredBy s
+        (played (machineOf (freshState (unlessRefused k (configFrom (configIn head)) (λ n. idle))) (madeWords 0 s spans) (madeWords 0 s repairs)) 0 bs)
         ≡ textUnless k (playedText (configIn (head ++ joined bs)) (samplesIn (head ++ joined bs)))
     unfolding makingSaid
     text-is (suc k) z = refl
     text-is zero z =
         let l = whole-header z in
         made-by (allOff (configIn head)) (refusal (configIn head) (length spans) (length repairs) (length words)) refl refl
-        ∙ (λ i. cond (allOff (configIn head)) offText (textUnless (refusal (configIn head) (a i) (b i) (d i)) (textUnless (firstOf (tooMany 0 (length (wordsIn (joined bs))) ∷ [])) (reportText (reportBy (configIn head) (wordsIn (joined bs)))))))
+        ∙ (λ i. cond (allOff (configIn head)) offText
+        (textUnless (refusal (configIn head) (a i) (b i) (d i))
+        (textUnless (firstOf (tooMany 0 (length (wordsIn (joined bs))) ∷ [])) (reportText (reportBy (configIn head) (wordsIn (joined bs)))))))
         ∙ (λ i. playedText (sym (same-config head (joined bs) l) i) (wordsIn (sym (behind-header head (joined bs) l) i)))
 
     -- what is printed is what the rules give for the whole recording
     pub replay-is : replayed head bs spans repairs words ≡ printed (head ++ joined bs)
     unfolding replayed printed startSaid startState
-    replay-is = text-is (startRefusal head (firstBytes bs)) refl ∙ ap (λ (k : ℕ). textUnless k (playedText (configIn (head ++ joined bs)) (samplesIn (head ++ joined bs)))) same-refusal
+    replay-is = text-is (startRefusal head (firstBytes bs)) refl
+        ∙ ap (λ (k : ℕ). textUnless k (playedText (configIn (head ++ joined bs)) (samplesIn (head ++ joined bs)))) same-refusal

@@ -153,9 +153,11 @@ module _ (s : Setting) where
       let x = at (drop i xs) h in
       let a : h + i - h ≡ i = omega arith in
       let b : h + i + h + 1 ≡ i + (h + h + 1) = omega arith in
-      let win : around s xs (h + i) ≡ w = ap (λ (k : ℕ). drop k (take (h + i + h + 1) xs)) a ∙ ap (λ (k : ℕ). drop i (take k xs)) b ∙ drop-take i (h + h + 1) xs in
+      let win : around s xs (h + i) ≡ w = ap (λ (k : ℕ). drop k (take (h + i + h + 1) xs)) a ∙ ap (λ (k : ℕ). drop i (take k xs)) b
+      ∙ drop-take i (h + h + 1) xs in
       let is-x : x ≡ at xs (h + i) = getD-drop i xs h 0 ∙ ap (at xs) (add-comm i h) in
-      let f : answer s w x ≡ flagged s xs (h + i) = ap (λ (l : List ℕ). answer s l x) (sym win) ∙ ap (answer s (around s xs (h + i))) is-x ∙ flag-is s xs (h + i) in
+      let f : answer s w x ≡ flagged s xs (h + i) = ap (λ (l : List ℕ). answer s l x) (sym win) ∙ ap (answer s (around s xs (h + i))) is-x
+      ∙ flag-is s xs (h + i) in
       let d : drop 1 (drop i xs) ≡ drop (suc i) xs = drop-drop 1 i xs ∙ ap (λ (k : ℕ). drop k xs) (add-one i) in
       let t : h + suc i ≡ suc (h + i) = omega arith in
       ap (λ (b : Bool). b ∷ slide n (drop 1 (drop i xs)) w x b) (again-is v q w x)

@@ -48,7 +48,8 @@ all-done : {A : Type 0} (p : A → Bool) (l : List A) (k : ℕ) → length l ≤
 unfolding allOf
 all-done p l k h = sym (ap (allOf p) (drop-of-length-le l {i = k} h))
 
-pub good-next : {A : Type 0} (p : A → Bool) (d : A) (l : List A) (k : ℕ) (good here : Bool) → k < length l → here ≡ p (getD l k d) → (good && allOf p (drop k l)) ≡ allOf p l → ((here && good) && allOf p (drop (k + 1) l)) ≡ allOf p l
+pub good-next : {A : Type 0} (p : A → Bool) (d : A) (l : List A) (k : ℕ) (good here : Bool) → k < length l → here ≡ p (getD l k d)
+    → (good && allOf p (drop k l)) ≡ allOf p l → ((here && good) && allOf p (drop (k + 1) l)) ≡ allOf p l
 unfolding allOf
 good-next {A = A} p d l k good here h e i =
     ap (λ (b : Bool). (b && good) && allOf p (drop (k + 1) l)) e
@@ -70,7 +71,8 @@ good-done p l k good h i = sym (unit good) ∙ ap (λ (b : Bool). good && b) (al
     unit false = refl
 
 -- by how many before k do not pass
-pub none-next : {A : Type 0} (p : A → Bool) (d : A) (l : List A) (k others : ℕ) (here : Bool) → k < length l → here ≡ p (getD l k d) → (eqb others 0 && allOf p (drop k l)) ≡ allOf p l → (eqb (others + boolByte (not here)) 0 && allOf p (drop (k + 1) l)) ≡ allOf p l
+pub none-next : {A : Type 0} (p : A → Bool) (d : A) (l : List A) (k others : ℕ) (here : Bool) → k < length l → here ≡ p (getD l k d)
+    → (eqb others 0 && allOf p (drop k l)) ≡ allOf p l → (eqb (others + boolByte (not here)) 0 && allOf p (drop (k + 1) l)) ≡ allOf p l
 none-next p d l k others here h e i = ap (λ (b : Bool). b && allOf p (drop (k + 1) l)) (one here) ∙ good-next p d l k (eqb others 0) here h e i
   where
     one : (b : Bool) → eqb (others + boolByte (not b)) 0 ≡ (b && eqb others 0)

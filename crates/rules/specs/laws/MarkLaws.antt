@@ -9,7 +9,8 @@ use borrow.Author.Tests.{lt-ltb, eq-eqb, ltb-true, eqb-true, eqb-false}
 use lib.Dec.{eqb}
 use lib.ListN.{length, getD, set, length-set}
 use lib.Seq.{getD-set-same, getD-set-other, set-set}
-use Rattle.rules.specs.Log.{Ring, write, roomed, nextPlace, append, Span, spanOf, Marks, noMarks, newestPlace, startAt, lenAt, joins, lengthened, mark, marked, Sound, newestEnd}
+use Rattle.rules.specs.Log.{Ring, write, roomed, nextPlace, append, Span, spanOf, Marks, noMarks, newestPlace, startAt, lenAt, joins, lengthened, mark}
+use Rattle.rules.specs.Log.{marked, Sound, newestEnd}
 use Rattle.rules.specs.laws.TestLaws.{both}
 use Rattle.rules.specs.Lists.{All}
 use Rattle.rules.specs.laws.RingLaws.{place-fits, roomed-sound, append-sound, append-drops, empty-sound}
@@ -120,10 +121,12 @@ module _ (cap : ℕ) (r : Ring) (k : Sound 2 cap r) where
   -- ---- two adjacent marks are one
   spanned-join : (s a b : ℕ) → spanned cap (spanned cap r s a) (s + a) b ≡ spanned cap r s (a + b)
   spanned-join s a b =
-      ap (λ (t : Bool). cond t (lengthened cap (spanned cap r s a) b) (append cap (spanned cap r s a) ((s + a) ∷ b ∷ []))) (joins-at cap (spanned cap r s a) (s + a) a (spanned-newest s a))
+      ap (λ (t : Bool). cond t (lengthened cap (spanned cap r s a) b) (append cap (spanned cap r s a) ((s + a) ∷ b ∷ [])))
+      (joins-at cap (spanned cap r s a) (s + a) a (spanned-newest s a))
       ∙ go (joins cap r s)
     where
-      go : (t : Bool) → lengthened cap (cond t (lengthened cap r a) (append cap r (s ∷ a ∷ []))) b ≡ cond t (lengthened cap r (a + b)) (append cap r (s ∷ (a + b) ∷ []))
+      go : (t : Bool)
+          → lengthened cap (cond t (lengthened cap r a) (append cap r (s ∷ a ∷ []))) b ≡ cond t (lengthened cap r (a + b)) (append cap r (s ∷ (a + b) ∷ []))
       go true = lengthened-twice a b
       go false = entered-lengthened s a b
 
@@ -210,7 +213,8 @@ module _ (cap : ℕ) (r : Marks) (k : Sound 2 cap (r .ring)) where
 abbrev pub EndsBy : ℕ → ℕ → Ring → Type 0
 EndsBy cap b r = 0 < r .count → newestEnd cap r ≤ b
 
-pub mark-ends : (cap : ℕ) (r : Marks) → Sound 2 cap (r .ring) → (m : Span) (b : ℕ) → EndsBy cap b (r .ring) → m .start + m .len ≤ b → EndsBy cap b (mark cap r m .ring)
+pub mark-ends : (cap : ℕ) (r : Marks) → Sound 2 cap (r .ring) → (m : Span) (b : ℕ) → EndsBy cap b (r .ring) → m .start + m .len ≤ b
+    → EndsBy cap b (mark cap r m .ring)
 mark-ends cap r k m b h f =
     mark-cases (λ q. EndsBy cap b (q .ring)) cap r m (λ z. h) (λ z y. omega (arith, spanned-newest cap (r .ring) k (m .start) (m .len) .ends))
 

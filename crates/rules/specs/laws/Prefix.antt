@@ -10,7 +10,8 @@ use lib.ListN.{length, drop, length-drop, List·getD-append}
 use lib.Seq.{take-append-le, drop-append-le}
 use Rattle.complex.specs.Complex.{wordOf, sampleOf}
 use Rattle.rules.specs.Lists.{at, count}
-use Rattle.rules.specs.Impulse.{Setting, flagged, judged, before, start, blockOf, paused, touches, mends, between, leftOf, mendedAt, value, eventsAt, events}
+use Rattle.rules.specs.Impulse.{Setting, flagged, judged, before, start, blockOf, paused, touches, mends, between, leftOf, mendedAt, value, eventsAt}
+use Rattle.rules.specs.Impulse.{events}
 use Rattle.rules.specs.laws.Runs.{before-le}
 
 -- ---- flags that agree below J
@@ -61,7 +62,8 @@ module _ (s : Setting) (F G : ℕ → Bool) (xs ys : List ℕ) (J : ℕ) (same :
   unfolding mendedAt
   mended-same j k h =
       let l = left-same (start G j) (at ys j) (omega arith) in
-      rw (before-same s F G J same j (omega arith), alike j h) (ap (λ (x : ℕ). wordOf (between (sampleOf x) (sampleOf (at ys j)) (k - start G j) (before G j))) l)
+      rw (before-same s F G J same j (omega arith), alike j h)
+      (ap (λ (x : ℕ). wordOf (between (sampleOf x) (sampleOf (at ys j)) (k - start G j) (before G j))) l)
 
   pub value-same : (j k : ℕ) → j ≤ J → at xs k ≡ at ys k → value s F xs j k ≡ value s G ys j k
   unfolding value

@@ -1,4 +1,5 @@
--- A ring with entries of any width: what is written stands where it was written and nothing else moves, soundness is kept, and as many entries as there is room for drop none. Assumes nothing.
+-- A ring with entries of any width: what is written stands where it was written and nothing else moves, soundness is kept, and as many entries as there is room
+-- for drop none. Assumes nothing.
 use mathlib.Core.Path.{_≡_, refl, ap, sym, _∙_}
 use mathlib.Core.Bool.{Bool, true, false, cond}
 use mathlib.Core.List.{List, [], _∷_, _++_, foldl, append-assoc}
@@ -70,7 +71,8 @@ apart width i p t j d ht hj e = go (decLt i p) (decLt p i)
     go (no h) (yes k) = omega (arith, mul-le-mul-right width k, suc-mul p width)
     go (no h) (no k) = d (omega arith)
 
-pub entry-written : (width cap : ℕ) (ws e : List ℕ) (p : ℕ) → length ws ≡ width * cap → length e ≡ width → p < cap → entryAt width (write ws (p * length e) e) p ≡ e
+pub entry-written : (width cap : ℕ) (ws e : List ℕ) (p : ℕ) → length ws ≡ width * cap → length e ≡ width → p < cap
+    → entryAt width (write ws (p * length e) e) p ≡ e
 entry-written width cap ws e p l n h =
     let fits : p * length e + length e ≤ length ws = omega (arith, ap (λ (k : ℕ). p * k) n, place-fits width cap p h) in
     ap (λ (k : ℕ). take k (drop (p * k) (write ws (p * length e) e))) (sym n) ∙ written ws (p * length e) e fits
@@ -97,7 +99,8 @@ pub roomed-sound : (width cap : ℕ) (r : Ring) → Sound width cap r → HasRoo
 unfolding roomed
 roomed-sound width cap r k = go (ltb (r .count) cap) refl
   where
-    go : (b : Bool) → ltb (r .count) cap ≡ b → HasRoom width cap r (cond b r (record { head = (r .head + 1) % cap; count = r .count - 1; dropped = r .dropped + 1; words = r .words }))
+    go : (b : Bool) → ltb (r .count) cap ≡ b
+        → HasRoom width cap r (cond b r (record { head = (r .head + 1) % cap; count = r .count - 1; dropped = r .dropped + 1; words = r .words }))
     go true e = record { sound = k; room = ltb-true _ _ e; same = refl; drops = omega arith }
     go false e =
         record {

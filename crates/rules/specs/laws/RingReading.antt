@@ -1,4 +1,5 @@
--- A ring read as the list of its entries, oldest first: appending in the words is appending to that list, the oldest going when it is full; marking in the words is marking on the list of spans. Assumes nothing.
+-- A ring read as the list of its entries, oldest first: appending in the words is appending to that list, the oldest going when it is full; marking in the
+-- words is marking on the list of spans. Assumes nothing.
 use mathlib.Core.Path.{_≡_, refl, ap, sym, _∙_}
 use mathlib.Core.Bool.{Bool, true, false, cond, _&&_}
 use mathlib.Core.List.{List, [], _∷_, _++_, append-assoc, append-nil, foldl, map, map-append}
@@ -14,7 +15,8 @@ use lib.Seq.{getD-set-same, getD-set-other, getD-take, getD-drop}
 use Rattle.rules.specs.Lists.{upTo, at, All}
 use Rattle.rules.specs.laws.ListLaws.{length-upTo, upTo-same}
 use Rattle.rules.specs.laws.SortLaws.{all-drop}
-use Rattle.rules.specs.Log.{Ring, emptyRing, write, roomed, nextPlace, entered, append, Span, spanOf, spanWords, Marks, noMarks, joins, lengthened, mark, marked, repairWidth, repaired, Sound, spanIn, spansOf}
+use Rattle.rules.specs.Log.{Ring, emptyRing, write, roomed, nextPlace, entered, append, Span, spanOf, spanWords, Marks, noMarks, joins, lengthened, mark}
+use Rattle.rules.specs.Log.{marked, repairWidth, repaired, Sound, spanIn, spansOf}
 use Rattle.rules.specs.Undo.{heldRecords}
 use Rattle.rules.specs.laws.RingLaws.{entryAt, entry-written, entry-kept, roomed-sound, append-sound, empty-sound, filled, filled-sound}
 use Rattle.rules.specs.laws.MarkLaws.{spanned, mark-cases, mark-sound, newest-fits}
@@ -91,7 +93,8 @@ behind-first E cap h n =
     (λ i l. ap E (mod-add-mod (h + 1) cap i ∙ ap (λ (m : ℕ). m % cap) (let q : h + 1 + i ≡ h + suc i = omega arith in q)))
     ∙ sym (ap (drop 1) (upTo-front (λ i. E ((h + i) % cap)) n))
 
-roomed-entries : (width cap : ℕ) (r : Ring) → 0 < cap → entriesOf width cap (roomed cap r) ≡ cond (ltb (r .count) cap) (entriesOf width cap r) (drop 1 (entriesOf width cap r))
+roomed-entries : (width cap : ℕ) (r : Ring) → 0 < cap
+    → entriesOf width cap (roomed cap r) ≡ cond (ltb (r .count) cap) (entriesOf width cap r) (drop 1 (entriesOf width cap r))
 unfolding entriesOf roomed
 roomed-entries width cap r k = go (ltb (r .count) cap) refl
   where
@@ -99,7 +102,8 @@ roomed-entries width cap r k = go (ltb (r .count) cap) refl
     E i = entryAt width (r .words) i
 
     go : (b : Bool) → ltb (r .count) cap ≡ b
-        → (let q = cond b r (record { head = (r .head + 1) % cap; count = r .count - 1; dropped = r .dropped + 1; words = r .words }) in upTo (λ i. entryAt width (q .words) ((q .head + i) % cap)) (q .count))
+        → (let q = cond b r (record { head = (r .head + 1) % cap; count = r .count - 1; dropped = r .dropped + 1; words = r .words }) in
+        upTo (λ i. entryAt width (q .words) ((q .head + i) % cap)) (q .count))
         ≡ cond b (upTo (λ i. E ((r .head + i) % cap)) (r .count)) (drop 1 (upTo (λ i. E ((r .head + i) % cap)) (r .count)))
     go true e = refl
     go false e =
@@ -150,7 +154,8 @@ appended-all P cap l (e ∷ es) a b = appended-all P cap (appended cap l e) es (
 
 -- ---- the repair ring
 
-pub repaired-entries : (cap : ℕ) (rs : List (List ℕ)) → 0 < cap → AllWide repairWidth rs → entriesOf repairWidth cap (repaired cap rs) ≡ foldl (appended cap) [] rs
+pub repaired-entries : (cap : ℕ) (rs : List (List ℕ)) → 0 < cap → AllWide repairWidth rs
+    → entriesOf repairWidth cap (repaired cap rs) ≡ foldl (appended cap) [] rs
 unfolding repaired
 repaired-entries cap rs h a =
     filled-entries repairWidth cap (emptyRing (repairWidth * cap)) rs (empty-sound repairWidth cap h) a
@@ -238,7 +243,8 @@ module _ (cap : ℕ) (ws : List ℕ) (h : ℕ) where
   last-place : (c : ℕ) → (h + (suc c - 1)) % cap ≡ (h + c) % cap
   last-place c = ap (λ (m : ℕ). (h + m) % cap) (let q : suc c - 1 ≡ c = omega arith in q)
 
-  ends-by : (c s : ℕ) → (let p = (h + (c - 1)) % cap in ltb 0 c && eqb (at ws (p * 2) + at ws (p * 2 + 1)) s) ≡ endsAt (upTo (λ i. spanIn ws ((h + i) % cap)) c) s
+  ends-by : (c s : ℕ)
+      → (let p = (h + (c - 1)) % cap in ltb 0 c && eqb (at ws (p * 2) + at ws (p * 2 + 1)) s) ≡ endsAt (upTo (λ i. spanIn ws ((h + i) % cap)) c) s
   unfolding upTo
   ends-by zero s = refl
   ends-by (suc c) s =
@@ -259,7 +265,8 @@ module _ (cap : ℕ) (ws : List ℕ) (h : ℕ) where
       λ j. spanOf (a j) (b j)
 
   longer-by : (c n : ℕ) → c ≤ cap → ((h + (c - 1)) % cap * 2 + 1 < length ws)
-      → (let p = (h + (c - 1)) % cap in upTo (λ i. spanIn (set ws (p * 2 + 1) (at ws (p * 2 + 1) + n)) ((h + i) % cap)) c) ≡ longer (upTo (λ i. spanIn ws ((h + i) % cap)) c) n
+      → (let p = (h + (c - 1)) % cap in upTo (λ i. spanIn (set ws (p * 2 + 1) (at ws (p * 2 + 1) + n)) ((h + i) % cap)) c)
+      ≡ longer (upTo (λ i. spanIn ws ((h + i) % cap)) c) n
   unfolding upTo
   longer-by zero n f g = refl
   longer-by (suc c) n f g =
@@ -282,11 +289,14 @@ unfolding lengthened spansOf
 lengthened-spans cap r n k = longer-by cap (r .words) (r .head) (r .count) n (k .countIn) (newest-fits cap r k)
 
 spanned-spans : (cap : ℕ) (r : Ring) (m : Span) → Sound 2 cap r
-    → spansOf cap (spanned cap r (m .start) (m .len)) ≡ cond (endsAt (spansOf cap r) (m .start)) (longer (spansOf cap r) (m .len)) (appended cap (spansOf cap r) m)
+    → spansOf cap (spanned cap r (m .start) (m .len))
+    ≡ cond (endsAt (spansOf cap r) (m .start)) (longer (spansOf cap r) (m .len)) (appended cap (spansOf cap r) m)
 spanned-spans cap r m k =
     go (joins cap r (m .start)) ∙ ap (λ (t : Bool). cond t (longer (spansOf cap r) (m .len)) (appended cap (spansOf cap r) m)) (joins-ends cap r (m .start))
   where
-    go : (t : Bool) → spansOf cap (cond t (lengthened cap r (m .len)) (append cap r (m .start ∷ m .len ∷ []))) ≡ cond t (longer (spansOf cap r) (m .len)) (appended cap (spansOf cap r) m)
+    go : (t : Bool)
+        → spansOf cap (cond t (lengthened cap r (m .len)) (append cap r (m .start ∷ m .len ∷ [])))
+        ≡ cond t (longer (spansOf cap r) (m .len)) (appended cap (spansOf cap r) m)
     go true = lengthened-spans cap r (m .len) k
     go false = append-spans cap r m k
 
@@ -304,7 +314,8 @@ mark-spans cap r m k =
     marking : List Span → List Span
     marking l = cond (endsAt l (m .start)) (longer l (m .len)) (appended cap l m)
 
-pub marks-spans : (cap : ℕ) (r : Marks) (ms : List Span) → Sound 2 cap (r .ring) → spansOf cap (foldl (mark cap) r ms .ring) ≡ foldl (markedSpans cap) (spansOf cap (r .ring)) ms
+pub marks-spans : (cap : ℕ) (r : Marks) (ms : List Span) → Sound 2 cap (r .ring)
+    → spansOf cap (foldl (mark cap) r ms .ring) ≡ foldl (markedSpans cap) (spansOf cap (r .ring)) ms
 marks-spans cap r [] k = refl
 marks-spans cap r (m ∷ ms) k = marks-spans cap (mark cap r m) ms (mark-sound cap r k m) ∙ ap (λ l. foldl (markedSpans cap) l ms) (mark-spans cap r m k)
 

@@ -1,4 +1,5 @@
--- Laws of the impulse rules, for any flags F: the run before j and its left neighbour, blocks and their counts, and the value of a sample while runs end. Assumes nothing.
+-- Laws of the impulse rules, for any flags F: the run before j and its left neighbour, blocks and their counts, and the value of a sample while runs end.
+-- Assumes nothing.
 use mathlib.Core.Path.{_≡_, refl, ap, sym, _∙_}
 use mathlib.Core.Logic.{_⊎_, inl, inr, _≢_}
 use mathlib.Core.Bool.{Bool, true, false, cond, not, _&&_, _||_, false≢true}
@@ -80,8 +81,10 @@ module _ (s : Setting) (F : ℕ → Bool) where
         let w = suc-mul (suc a) (s .block) in
         go p q r t u v w (decLt a b) (decLt (suc a) b) (decLt b a)
       where
-        go : newestBlock s j * s .block ≤ j - 1 → j - 1 < newestBlock s j * s .block + s .block → blockOf s j * s .block ≤ j → j < blockOf s j * s .block + s .block
-            → suc (newestBlock s j) * s .block ≡ newestBlock s j * s .block + s .block → suc (blockOf s j) * s .block ≡ blockOf s j * s .block + s .block → suc (suc (newestBlock s j)) * s .block ≡ suc (newestBlock s j) * s .block + s .block
+        go : newestBlock s j * s .block ≤ j - 1 → j - 1 < newestBlock s j * s .block + s .block → blockOf s j * s .block ≤ j
+            → j < blockOf s j * s .block + s .block
+            → suc (newestBlock s j) * s .block ≡ newestBlock s j * s .block + s .block → suc (blockOf s j) * s .block ≡ blockOf s j * s .block + s .block
+            → suc (suc (newestBlock s j)) * s .block ≡ suc (newestBlock s j) * s .block + s .block
             → Dec (newestBlock s j < blockOf s j) → Dec (suc (newestBlock s j) < blockOf s j) → Dec (blockOf s j < newestBlock s j)
             → (blockOf s j ≡ newestBlock s j) ⊎ ((blockOf s j ≡ suc (newestBlock s j)) × (j ≡ suc (newestBlock s j) * s .block))
         go p q r t u v w (yes x) (yes y) d = let m = mul-le-mul-right (s .block) y in absurd (omega arith)
@@ -96,11 +99,13 @@ module _ (s : Setting) (F : ℕ → Bool) where
     next-is : (j : ℕ) → blockOf s j ≢ newestBlock s j → (blockOf s j ≡ suc (newestBlock s j)) × (j ≡ suc (newestBlock s j) * s .block)
     next-is j other = go (next-block j)
       where
-        go : (blockOf s j ≡ newestBlock s j) ⊎ ((blockOf s j ≡ suc (newestBlock s j)) × (j ≡ suc (newestBlock s j) * s .block)) → (blockOf s j ≡ suc (newestBlock s j)) × (j ≡ suc (newestBlock s j) * s .block)
+        go : (blockOf s j ≡ newestBlock s j) ⊎ ((blockOf s j ≡ suc (newestBlock s j)) × (j ≡ suc (newestBlock s j) * s .block))
+            → (blockOf s j ≡ suc (newestBlock s j)) × (j ≡ suc (newestBlock s j) * s .block)
         go (inl e) = absurd (other e)
         go (inr p) = p
 
-    pub enter-paused : (j : ℕ) → blockOf s j ≢ newestBlock s j → pauses (s .block) (paused (s .block) F (newestBlock s j)) (flagsIn s F (newestBlock s j) j) ≡ paused (s .block) F (blockOf s j)
+    pub enter-paused : (j : ℕ) → blockOf s j ≢ newestBlock s j
+        → pauses (s .block) (paused (s .block) F (newestBlock s j)) (flagsIn s F (newestBlock s j) j) ≡ paused (s .block) F (blockOf s j)
     unfolding paused
     enter-paused j other =
         let p = next-is j other in
@@ -126,7 +131,8 @@ module _ (s : Setting) (F : ℕ → Bool) where
       rw (more, here)
 
   -- a run touches a paused block once one of its samples lies in one
-  pub touches-more : (j : ℕ) → F j ≡ true → touches s F (start F (suc j)) (before F (suc j)) ≡ touches s F (start F j) (before F j) || paused (s .block) F (blockOf s j)
+  pub touches-more : (j : ℕ) → F j ≡ true
+      → touches s F (start F (suc j)) (before F (suc j)) ≡ touches s F (start F j) (before F j) || paused (s .block) F (blockOf s j)
   unfolding touches
   touches-more j e =
       let b = before-on F j e in
@@ -161,7 +167,9 @@ module _ (s : Setting) (F : ℕ → Bool) (xs : List ℕ) where
 
   pub hit-says : (j k : ℕ) → hit j k ≡ true → Hit j k
   unfolding mends
-  hit-says j k = go (F j) (ltb 0 (before F j)) (s .apply) (leb (before F j) (s .run)) (touches s F (start F j) (before F j)) (leb (start F j) k) (ltb k j) refl refl refl refl refl refl refl
+  hit-says j k =
+      go (F j) (ltb 0 (before F j)) (s .apply) (leb (before F j) (s .run)) (touches s F (start F j) (before F j)) (leb (start F j) k)
+      (ltb k j) refl refl refl refl refl refl refl
     where
       go : (a b c d e f g : Bool) → F j ≡ a → ltb 0 (before F j) ≡ b → s .apply ≡ c → leb (before F j) (s .run) ≡ d
           → touches s F (start F j) (before F j) ≡ e → leb (start F j) k ≡ f → ltb k j ≡ g

@@ -1,4 +1,5 @@
--- Laws of sorting: where `lt` is an order by a key, one more element, or one more and the oldest gone, is an insertion and a removal; and the sort is an ascending arrangement of its list. The powers of samples with no NaN part have such an order. Assumes nothing.
+-- Laws of sorting: where `lt` is an order by a key, one more element, or one more and the oldest gone, is an insertion and a removal; and the sort is an
+-- ascending arrangement of its list. The powers of samples with no NaN part have such an order. Assumes nothing.
 use mathlib.Core.Path.{_≡_, refl, ap, sym, _∙_}
 use mathlib.Core.Bool.{Bool, true, false, cond}
 use mathlib.Core.List.{List, [], _∷_, _++_, map, List·Permᴰ, List·Permᴰ·nil, List·Permᴰ·cons, List·Permᴰ·swap, List·Permᴰ·trans, Permᴰ·refl}
@@ -220,6 +221,7 @@ pub power-plain : (w : ℕ) → NoNan (sampleOf w) → Plain binary32 (powerOf w
 unfolding powerOf power
 power-plain w n =
     let z = sampleOf w in (
-      add-clear binary32 (mul binary32 (z .re) (z .re)) (mul binary32 (z .im) (z .im)) (square-clear binary32 (z .re) (n .re)) (square-clear binary32 (z .im) (n .im)),
+      add-clear binary32 (mul binary32 (z .re) (z .re)) (mul binary32 (z .im) (z .im)) (square-clear binary32 (z .re) (n .re))
+          (square-clear binary32 (z .im) (n .im)),
       add-fits binary32 (mul binary32 (z .re) (z .re)) (mul binary32 (z .im) (z .im)),
     )

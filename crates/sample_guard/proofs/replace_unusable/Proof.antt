@@ -22,11 +22,13 @@ replace-at-requires c κs = search needs
 
 -- one word more
 next : (c : tie.After-slice-known2 Inv-loop μ-loop) → let l = c .before .before .before .before .before .loop in
-    Guarding (now (c .before .before .before .before .before .before .before .args .samples)) (c .before .before .replace-at .last .0) (l .replaced + c .before .before .replace-at .result) (l .k + 1)
+    Guarding (now (c .before .before .before .before .before .before .before .args .samples)) (c .before .before .replace-at .last .0)
+    (l .replaced + c .before .before .replace-at .result) (l .k + 1)
 next c =
     let l = c .before .before .before .before .before .loop in
     rw (c .before .before .replace-at .ensures .0)
-    (guarding-next _ (l .samples) (l .replaced) (l .k) (c .before .before .replace-at .result) (l .inv) (c .before .before .before .before .loop-test .taken) (c .before .before .replace-at .ensures .1))
+    (guarding-next _ (l .samples) (l .replaced) (l .k) (c .before .before .replace-at .result) (l .inv) (c .before .before .before .before .loop-test .taken)
+    (c .before .before .replace-at .ensures .1))
 
 add-replaced : tie.Need-add-replaced Inv-loop μ-loop
 add-replaced c = let n = next c in omega arith

@@ -121,7 +121,8 @@ indicator-few : (b : Bool) → indicator b ≤ 1
 indicator-few true = omega arith
 indicator-few false = omega arith
 
-pub guarding-next : (xs₀ xs : List ℕ) (n k r : ℕ) → Guarding xs₀ xs n k → k < length xs → r ≡ indicator (not (usable (at xs k))) → Guarding xs₀ (set xs k (guardedWord (at xs k))) (n + r) (k + 1)
+pub guarding-next : (xs₀ xs : List ℕ) (n k r : ℕ) → Guarding xs₀ xs n k → k < length xs → r ≡ indicator (not (usable (at xs k)))
+    → Guarding xs₀ (set xs k (guardedWord (at xs k))) (n + r) (k + 1)
 guarding-next xs₀ xs n k r g h e =
     let v = guardedWord (at xs k) in
     let behind = drop-set-lt (suc k) xs k v (omega arith) in

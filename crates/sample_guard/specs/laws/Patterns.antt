@@ -91,7 +91,8 @@ pub le-patterns : (f : Format) (x y : Float) → Number f x → Number f y → l
 unfolding le
 le-patterns f x y a b = go (le-or-lt (toBits f x) (toBits f y)) (le-or-lt (toBits f y) (toBits f x)) (eq x y) refl
   where
-    go : (toBits f x ≤ toBits f y) ⊎ (toBits f y < toBits f x) → (toBits f y ≤ toBits f x) ⊎ (toBits f x < toBits f y) → (t : Bool) → eq x y ≡ t → (lt x y || eq x y) ≡ leb (toBits f x) (toBits f y)
+    go : (toBits f x ≤ toBits f y) ⊎ (toBits f y < toBits f x) → (toBits f y ≤ toBits f x) ⊎ (toBits f x < toBits f y) → (t : Bool) → eq x y ≡ t
+        → (lt x y || eq x y) ≡ leb (toBits f x) (toBits f y)
     go (inr g) h true e = absurd (let q = ap (toBits f) (plain-equal f x y (a .plain) (b .plain) e) in omega arith)
     go (inr g) h false e =
         let u = plain-asym f y x (b .plain) (a .plain) (under f y x b a g) in
@@ -128,7 +129,8 @@ signed s m e = go s
     n : ℕ
     n = m * up e * 2 ^ 149 / down e
 
-    go : (s : Bool) → cond s (2 ^ 31) 0 + (size n - 24) * 2 ^ 23 + n / 2 ^ (size n - 24) ≡ cond s (2 ^ 31) 0 + (0 + (size n - 24) * 2 ^ 23 + n / 2 ^ (size n - 24))
+    go : (s : Bool)
+        → cond s (2 ^ 31) 0 + (size n - 24) * 2 ^ 23 + n / 2 ^ (size n - 24) ≡ cond s (2 ^ 31) 0 + (0 + (size n - 24) * 2 ^ 23 + n / 2 ^ (size n - 24))
     go true = omega arith
     go false = omega arith
 

@@ -34,7 +34,9 @@ element-write-rho-2 c = search needs
 enum-told-3 : tie.Need-enum-told-3
 enum-told-3 c = search needs
 
-by : (c : tie.After-settle) → let a = c .before .before .before .args in settled (modeFrom (a .mode)) (calibratedFrom (a .present) (record { gain = a .gain; phase = a .phase; centre = a .centre })) (a .receiver) ≡ settledOf (c .settle .result)
+by : (c : tie.After-settle) → let a = c .before .before .before .args in
+    settled (modeFrom (a .mode)) (calibratedFrom (a .present) (record { gain = a .gain; phase = a .phase; centre = a .centre })) (a .receiver)
+    ≡ settledOf (c .settle .result)
 by c =
     let a = c .before .before .before .args in
     sym

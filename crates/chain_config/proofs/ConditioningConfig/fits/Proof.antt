@@ -34,7 +34,8 @@ limits c = setting-limits _ _ _ _ (fit c)
 returns : tie.Need-returns
 returns c =
     let a = c .before .before .before .args in
-    c .before .before .settings-fit .ensures ∙ unfit-setting (configOf (a .self)) (a .spans) (a .repairs) (a .words) (fitting (c .before) false (not-true _ (c .if1 .taken)))
+    c .before .before .settings-fit .ensures
+    ∙ unfit-setting (configOf (a .self)) (a .spans) (a .repairs) (a .words) (fitting (c .before) false (not-true _ (c .if1 .taken)))
 
 mul-if2 : tie.Need-mul-if2
 mul-if2 c = let l = limits (c .before) .few-repairs in omega arith
@@ -50,7 +51,8 @@ mul-if3 c = let l = limits (c .before .before .before) .few-spans in omega arith
 returns-3 : tie.Need-returns-3
 returns-3 c =
     let a = c .before .before .before .before .before .before .before .args in
-    length-by (configOf (a .self)) (a .spans) (a .repairs) (a .words) true false _ (fit (c .before .before .before .before)) (eq-eqb _ _ (c .before .before .if2 .left)) (ne-eqb _ _ (c .if3 .taken)) refl
+    length-by (configOf (a .self)) (a .spans) (a .repairs) (a .words) true false _ (fit (c .before .before .before .before))
+    (eq-eqb _ _ (c .before .before .if2 .left)) (ne-eqb _ _ (c .if3 .taken)) refl
 
 mul-if4 : tie.Need-mul-if4
 mul-if4 c = let l = limits (c .before .before .before .before .before) .size in omega arith
@@ -58,12 +60,14 @@ mul-if4 c = let l = limits (c .before .before .before .before .before) .size in 
 returns-4 : tie.Need-returns-4
 returns-4 c =
     let a = c .before .before .before .before .before .before .before .before .before .args in
-    length-by (configOf (a .self)) (a .spans) (a .repairs) (a .words) true true false (fit (c .before .before .before .before .before .before)) (eq-eqb _ _ (c .before .before .before .before .if2 .left)) (eq-eqb _ _ (c .before .before .if3 .left)) (ne-eqb _ _ (c .if4 .taken))
+    length-by (configOf (a .self)) (a .spans) (a .repairs) (a .words) true true false (fit (c .before .before .before .before .before .before))
+    (eq-eqb _ _ (c .before .before .before .before .if2 .left)) (eq-eqb _ _ (c .before .before .if3 .left)) (ne-eqb _ _ (c .if4 .taken))
 
 returns-5 : tie.Need-returns-5
 returns-5 c =
     let a = c .before .before .before .before .before .before .before .before .before .args in
-    length-by (configOf (a .self)) (a .spans) (a .repairs) (a .words) true true true (fit (c .before .before .before .before .before .before)) (eq-eqb _ _ (c .before .before .before .before .if2 .left)) (eq-eqb _ _ (c .before .before .if3 .left)) (eq-eqb _ _ (c .if4 .left))
+    length-by (configOf (a .self)) (a .spans) (a .repairs) (a .words) true true true (fit (c .before .before .before .before .before .before))
+    (eq-eqb _ _ (c .before .before .before .before .if2 .left)) (eq-eqb _ _ (c .before .before .if3 .left)) (eq-eqb _ _ (c .if4 .left))
 
 pub fits-spec : {M : Type 1} → statement M
 fits-spec =

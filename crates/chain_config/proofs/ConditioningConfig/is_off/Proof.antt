@@ -17,14 +17,16 @@ runs-requires-2 c κs = search needs
 
 returns-2 : tie.Need-returns-2
 returns-2 c =
-    three _ _ _ true false _ (ap not (sym (c .before .before .before .runs .ensures) ∙ c .before .before .if1 .left)) (ap not (sym (c .before .runs2 .ensures) ∙ c .if2 .taken)) refl
+    three _ _ _ true false _ (ap not (sym (c .before .before .before .runs .ensures) ∙ c .before .before .if1 .left))
+    (ap not (sym (c .before .runs2 .ensures) ∙ c .if2 .taken)) refl
 
 runs-requires-3 : tie.Need-runs-requires-3
 runs-requires-3 c κs = search needs
 
 returns-3 : tie.Need-returns-3
 returns-3 c =
-    three _ _ _ true true _ (ap not (sym (c .before .before .before .before .runs .ensures) ∙ c .before .before .before .if1 .left)) (ap not (sym (c .before .before .runs2 .ensures) ∙ c .before .if2 .left)) (ap not (sym (c .runs3 .ensures)))
+    three _ _ _ true true _ (ap not (sym (c .before .before .before .before .runs .ensures) ∙ c .before .before .before .if1 .left))
+    (ap not (sym (c .before .before .runs2 .ensures) ∙ c .before .if2 .left)) (ap not (sym (c .runs3 .ensures)))
 
 pub is-off-spec : {M : Type 1} → statement M
 is-off-spec =

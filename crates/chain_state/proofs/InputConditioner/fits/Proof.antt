@@ -20,21 +20,31 @@ impulse-fits-requires c κs = search needs
 
 returns-2 : tie.Need-returns-2
 unfolding stateFits
-returns-2 c = four _ _ _ _ true false _ _ (sym (c .before .before .before .front-fits .ensures) ∙ not-false _ (c .before .before .if1 .left)) (sym (c .before .impulse-fits .ensures) ∙ not-true _ (c .if2 .taken)) refl refl
+returns-2 c =
+    four _ _ _ _ true false _ _ (sym (c .before .before .before .front-fits .ensures) ∙ not-false _ (c .before .before .if1 .left))
+    (sym (c .before .impulse-fits .ensures) ∙ not-true _ (c .if2 .taken)) refl refl
 
 logs-fit-requires : tie.Need-logs-fit-requires
 logs-fit-requires c κs = search needs
 
 returns-3 : tie.Need-returns-3
 unfolding stateFits
-returns-3 c = four _ _ _ _ true true false _ (sym (c .before .before .before .before .before .front-fits .ensures) ∙ not-false _ (c .before .before .before .before .if1 .left)) (sym (c .before .before .before .impulse-fits .ensures) ∙ not-false _ (c .before .before .if2 .left)) (sym (c .before .logs-fit .ensures) ∙ not-true _ (c .if3 .taken)) refl
+returns-3 c =
+    four _ _ _ _ true true false _
+    (sym (c .before .before .before .before .before .front-fits .ensures) ∙ not-false _ (c .before .before .before .before .if1 .left))
+    (sym (c .before .before .before .impulse-fits .ensures) ∙ not-false _ (c .before .before .if2 .left))
+    (sym (c .before .logs-fit .ensures) ∙ not-true _ (c .if3 .taken)) refl
 
 stages-fit-requires : tie.Need-stages-fit-requires
 stages-fit-requires c κs = search needs
 
 returns-4 : tie.Need-returns-4
 unfolding stateFits
-returns-4 c = four _ _ _ _ true true true _ (sym (c .before .before .before .before .before .before .front-fits .ensures) ∙ not-false _ (c .before .before .before .before .before .if1 .left)) (sym (c .before .before .before .before .impulse-fits .ensures) ∙ not-false _ (c .before .before .before .if2 .left)) (sym (c .before .before .logs-fit .ensures) ∙ not-false _ (c .before .if3 .left)) (sym (c .stages-fit .ensures))
+returns-4 c =
+    four _ _ _ _ true true true _
+    (sym (c .before .before .before .before .before .before .front-fits .ensures) ∙ not-false _ (c .before .before .before .before .before .if1 .left))
+    (sym (c .before .before .before .before .impulse-fits .ensures) ∙ not-false _ (c .before .before .before .if2 .left))
+    (sym (c .before .before .logs-fit .ensures) ∙ not-false _ (c .before .if3 .left)) (sym (c .stages-fit .ensures))
 
 pub fits-spec : {M : Type 1} → statement M
 fits-spec =

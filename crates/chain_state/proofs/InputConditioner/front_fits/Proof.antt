@@ -22,21 +22,27 @@ counts-fit-requires : tie.Need-counts-fit-requires
 counts-fit-requires c κs = search needs
 
 -- the counts by the answer t
-counts : (c : tie.After-counts-fit) (t : Bool) → c .counts-fit .result ≡ t → let s = c .before .before .before .before .before .before .before .args .self in countsFit (applies s) (s .seen) (s .released) (s .held) ≡ t
+counts : (c : tie.After-counts-fit) (t : Bool) → c .counts-fit .result ≡ t
+    → let s = c .before .before .before .before .before .before .before .before .args .self in countsFit (applies s) (s .counts) ≡ t
 counts c t e =
-    let s = c .before .before .before .before .before .before .before .args .self in
-    sym (c .counts-fit .ensures ∙ ap (λ (b : Bool). countsFit b (s .seen) (s .released) (s .held)) (c .before .applies .ensures)) ∙ e
+    let s = c .before .before .before .before .before .before .before .before .args .self in
+    sym (c .counts-fit .ensures ∙ ap (λ (b : Bool). countsFit b (s .counts)) (c .before .applies .ensures)) ∙ e
 
 returns-2 : tie.Need-returns-2
 unfolding frontFits
-returns-2 c = three _ _ _ true false _ (sym (c .before .before .before .before .settings-fit .ensures) ∙ not-false _ (c .before .before .before .if1 .left)) (counts (c .before) false (not-true _ (c .if2 .taken))) refl
+returns-2 c =
+    three _ _ _ true false _ (sym (c .before .before .before .before .settings-fit .ensures) ∙ not-false _ (c .before .before .before .if1 .left))
+    (counts (c .before) false (not-true _ (c .if2 .taken))) refl
 
 gate-fits-requires : tie.Need-gate-fits-requires
 gate-fits-requires c κs = search needs
 
 returns-3 : tie.Need-returns-3
 unfolding frontFits
-returns-3 c = three _ _ _ true true _ (sym (c .before .before .before .before .before .settings-fit .ensures) ∙ not-false _ (c .before .before .before .before .if1 .left)) (counts (c .before .before) true (not-false _ (c .before .if2 .left))) (sym (c .gate-fits .ensures))
+returns-3 c =
+    three _ _ _ true true _
+    (sym (c .before .before .before .before .before .settings-fit .ensures) ∙ not-false _ (c .before .before .before .before .if1 .left))
+    (counts (c .before .before) true (not-false _ (c .before .if2 .left))) (sym (c .gate-fits .ensures))
 
 pub front-fits-spec : {M : Type 1} → statement M
 front-fits-spec =

@@ -20,7 +20,7 @@ is-untouched-requires c κs = search needs
 returns : tie.Need-returns
 returns c =
     let s = c .before .before .before .before .before .args .self in
-    untouched (s .suppressor) (s .settings .impulse) (s .seen) (c .before .is-untouched .ensures (c .if1 .taken))
+    untouched (s .suppressor) (s .settings .impulse) (s .counts .seen) (c .before .is-untouched .ensures (c .if1 .taken))
 
 suppressor-fits-requires : tie.Need-suppressor-fits-requires
 suppressor-fits-requires c κs = search needs

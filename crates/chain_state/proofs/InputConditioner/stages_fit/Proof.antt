@@ -20,14 +20,18 @@ coefficient-fits-requires c κs = search needs
 
 returns-2 : tie.Need-returns-2
 unfolding stagesFit
-returns-2 c = three _ _ _ true false _ (sym (c .before .before .before .blocker-fits .ensures) ∙ not-false _ (c .before .before .if1 .left)) (sym (c .before .coefficient-fits .ensures) ∙ not-true _ (c .if2 .taken)) refl
+returns-2 c =
+    three _ _ _ true false _ (sym (c .before .before .before .blocker-fits .ensures) ∙ not-false _ (c .before .before .if1 .left))
+    (sym (c .before .coefficient-fits .ensures) ∙ not-true _ (c .if2 .taken)) refl
 
 monitor-fits-requires : tie.Need-monitor-fits-requires
 monitor-fits-requires c κs = search needs
 
 returns-3 : tie.Need-returns-3
 unfolding stagesFit
-returns-3 c = three _ _ _ true true _ (sym (c .before .before .before .before .blocker-fits .ensures) ∙ not-false _ (c .before .before .before .if1 .left)) (sym (c .before .before .coefficient-fits .ensures) ∙ not-false _ (c .before .if2 .left)) (sym (c .monitor-fits .ensures))
+returns-3 c =
+    three _ _ _ true true _ (sym (c .before .before .before .before .blocker-fits .ensures) ∙ not-false _ (c .before .before .before .if1 .left))
+    (sym (c .before .before .coefficient-fits .ensures) ∙ not-false _ (c .before .if2 .left)) (sym (c .monitor-fits .ensures))
 
 pub stages-fit-spec : {M : Type 1} → statement M
 stages-fit-spec =

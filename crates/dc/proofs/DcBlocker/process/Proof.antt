@@ -1,4 +1,5 @@
--- `dc::DcBlocker::process` is `blockerAfter`, and writes `processedAll`. The invariant: what is written before place k, and what is left from k on, give the same. Assumes nothing.
+-- `dc::DcBlocker::process` is `blockerAfter`, and writes `processedAll`. The invariant: what is written before place k, and what is left from k on, give the
+-- same. Assumes nothing.
 use mathlib.Core.Path.{refl, sym, subst}
 use Prim.Native.Nat.{_+_, _-_}
 use native.Mathlib.Omega.{arith}
@@ -43,7 +44,8 @@ loop-again : tie.Need-loop-again Inv-loop μ-loop
 loop-again c =
     let l = c .before .before .before .before .loop in
     let a = c .before .before .before .before .before .before .args in
-    subst (λ (t : Taken). Processing (a .self) (a .samples .now) (t .blocker) (set (l .samples) (l .k) (t .word)) (l .k + 1)) (sym (c .before .process-sample .ensures))
+    subst (λ (t : Taken). Processing (a .self) (a .samples .now) (t .blocker) (set (l .samples) (l .k) (t .word)) (l .k + 1))
+    (sym (c .before .process-sample .ensures))
     (processing-next (a .self) (a .samples .now) (l .b) (l .samples) (l .k) (c .before .before .before .loop-test .taken) (l .inv))
 
 same-length : tie.Need-same-length Inv-loop μ-loop

@@ -15,7 +15,8 @@ nearest-u64-to-f64-requires : tie.Need-nearest-u64-to-f64-requires
 nearest-u64-to-f64-requires c κs = search needs
 
 -- by the comparison's answer t
-by-test : (c : tie.After-nearest-u64-to-f64) (t : Bool) → let a = c .before .before .args .self .a in let share = div binary64 one (c .nearest-u64-to-f64 .result) in lt a share ≡ t → cond t share a ≡ weight a (c .before .before .args .self .n)
+by-test : (c : tie.After-nearest-u64-to-f64) (t : Bool) → let a = c .before .before .args .self .a in
+    let share = div binary64 one (c .nearest-u64-to-f64 .result) in lt a share ≡ t → cond t share a ≡ weight a (c .before .before .args .self .n)
 unfolding weight
 by-test c t e =
     let a = c .before .before .args .self .a in

@@ -7,7 +7,7 @@ use Prim.Native.Nat.{ℕ, _-_}
 use lib.Dec.{ltb, leb}
 use borrow.Author.Tests.{lt-ltb, le-ltb, le-leb, lt-leb, not-true, not-false}
 use borrow.Author.Needs.{needs}
-use Rattle.rules.specs.Impulse.{Setting, lookahead, mendable}
+use Rattle.rules.specs.Impulse.{Setting, lookahead, mendable, lookaheadSize, longestRun}
 use Rattle.impulse.specs.declared.Run.{Run}
 use Rattle.impulse.specs.declared.Left.{Left}
 use Rattle.impulse.specs.declared.Ended.the-variants.{Kept, Mended}
@@ -25,11 +25,13 @@ module _ (s : Setting) (r : Run) (left : Left) (right : ℕ) (l : List ℕ) wher
   unfolding closingPending
   kept-pending e = rw e
 
-  mended-is : mendable s (r .paused) (r .len) ≡ true → endedOf (closing s r l) ≡ Mended (repairOf (r .start) (r .len) (readRun (lookahead s) l (r .start) (r .len)))
+  mended-is : mendable s (r .paused) (r .len) ≡ true
+      → endedOf (closing s r l) ≡ Mended (repairOf (r .start) (r .len) (readRun (lookahead s) l (r .start) (r .len)))
   unfolding closing
   mended-is e = rw e
 
-  mended-pending : mendable s (r .paused) (r .len) ≡ true → closingPending s r left right l ≡ writeRun (lookahead s) l (neighbourOr left right) right (r .start) (r .len) (r .len)
+  mended-pending : mendable s (r .paused) (r .len) ≡ true
+      → closingPending s r left right l ≡ writeRun (lookahead s) l (neighbourOr left right) right (r .start) (r .len) (r .len)
   unfolding closingPending
   mended-pending e = rw e
 
@@ -51,23 +53,33 @@ all-well a b c d e f = rw (d, e, f)
 returns : tie.Need-returns
 returns c =
     let a = c .before .args in
-    let m = too-long (a .self .apply) (leb (a .r .len) 4) (a .r .paused) (lt-leb (a .r .len) 4 (omega (arith, c .if1 .taken))) in
-    let s = settingOf (a .self) in
-    (sym (kept-is s (a .r) (a .self .left) (a .right) (a .pending .now) m true (lt-ltb 4 (a .r .len) (omega (arith, c .if1 .taken)))), sym (kept-pending s (a .r) (a .self .left) (a .right) (a .pending .now) m))
+    let m = too-long (a .self .settings .apply) (leb (a .r .len) longestRun) (a .r .paused) (lt-leb (a .r .len) longestRun (omega (arith, c .if1 .taken))) in
+    let s = settingOf (a .self) in (
+      sym (kept-is s (a .r) (a .self .mending .left) (a .right) (a .pending .now) m true (lt-ltb longestRun (a .r .len) (omega (arith, c .if1 .taken)))),
+      sym (kept-pending s (a .r) (a .self .mending .left) (a .right) (a .pending .now) m),
+    )
 
 returns-2 : tie.Need-returns-2
 returns-2 c =
     let a = c .before .before .before .args in
-    let m = observed (a .self .apply) (leb (a .r .len) 4) (a .r .paused) (not-true (a .self .apply) (c .if2 .taken)) in
-    let s = settingOf (a .self) in
-    (sym (kept-is s (a .r) (a .self .left) (a .right) (a .pending .now) m false (le-ltb 4 (a .r .len) (omega (arith, c .before .before .if1 .left)))), sym (kept-pending s (a .r) (a .self .left) (a .right) (a .pending .now) m))
+    let m = observed (a .self .settings .apply) (leb (a .r .len) longestRun) (a .r .paused) (not-true (a .self .settings .apply) (c .if2 .taken)) in
+    let s = settingOf (a .self) in (
+      sym (kept-is s (a .r) (a .self .mending .left) (a .right) (a .pending .now) m false
+          (le-ltb longestRun (a .r .len) (omega (arith, c .before .before .if1 .left)))),
+      sym (kept-pending s (a .r) (a .self .mending .left) (a .right)
+          (a .pending .now) m),
+    )
 
 returns-3 : tie.Need-returns-3
 returns-3 c =
     let a = c .before .before .before .before .args in
-    let m = in-pause (a .self .apply) (leb (a .r .len) 4) (a .r .paused) (c .if3 .taken) in
-    let s = settingOf (a .self) in
-    (sym (kept-is s (a .r) (a .self .left) (a .right) (a .pending .now) m false (le-ltb 4 (a .r .len) (omega (arith, c .before .before .before .if1 .left)))), sym (kept-pending s (a .r) (a .self .left) (a .right) (a .pending .now) m))
+    let m = in-pause (a .self .settings .apply) (leb (a .r .len) longestRun) (a .r .paused) (c .if3 .taken) in
+    let s = settingOf (a .self) in (
+      sym (kept-is s (a .r) (a .self .mending .left) (a .right) (a .pending .now) m false
+          (le-ltb longestRun (a .r .len) (omega (arith, c .before .before .before .if1 .left)))),
+      sym (kept-pending s (a .r) (a .self .mending .left) (a .right)
+          (a .pending .now) m),
+    )
 
 repair-requires : tie.Need-repair-requires
 repair-requires c κs = search needs
@@ -80,12 +92,16 @@ mend-requires c κs = search needs
 
 returns-4 : tie.Need-returns-4
 returns-4 c =
-    let a = c .before .before .before .before .before .before .before .before .before .args in
-    let m = all-well (a .self .apply) (leb (a .r .len) 4) (a .r .paused) (not-false (a .self .apply) (c .before .before .before .before .before .before .if2 .left))
-    (le-leb (a .r .len) 4 (omega (arith, c .before .before .before .before .before .before .before .before .if1 .left))) (c .before .before .before .before .before .if3 .left) in
+    let a = c .before .before .before .before .before .before .before .before .before .before .args in
+    let m = all-well (a .self .settings .apply) (leb (a .r .len) longestRun) (a .r .paused)
+    (not-false (a .self .settings .apply) (c .before .before .before .before .before .before .before .if2 .left))
+    (le-leb (a .r .len) longestRun (omega (arith, c .before .before .before .before .before .before .before .before .before .if1 .left)))
+    (c .before .before .before .before .before .before .if3 .left) in
     let s = settingOf (a .self) in (
-      ap (λ (x : _). Mended x) (c .before .before .before .repair .ensures) ∙ sym (mended-is s (a .r) (a .self .left) (a .right) (a .pending .now) m),
-      c .mend .ensures ∙ ap (λ (x : ℕ). writeRun 21 (a .pending .now) x (a .right) (a .r .start) (a .r .len) (a .r .len)) (c .before .neighbour .ensures) ∙ sym (mended-pending s (a .r) (a .self .left) (a .right) (a .pending .now) m),
+      ap (λ (x : _). Mended x) (c .before .before .before .repair .ensures) ∙ sym (mended-is s (a .r) (a .self .mending .left) (a .right) (a .pending .now) m),
+      c .mend .ensures
+          ∙ ap (λ (x : ℕ). writeRun lookaheadSize (a .pending .now) x (a .right) (a .r .start) (a .r .len) (a .r .len)) (c .before .neighbour .ensures)
+          ∙ sym (mended-pending s (a .r) (a .self .mending .left) (a .right) (a .pending .now) m),
     )
 
 pub close-spec : {M : Type 1} → statement M

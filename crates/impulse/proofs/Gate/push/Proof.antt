@@ -6,7 +6,7 @@ use native.Mathlib.Omega.{arith}
 use lib.ListN.{length, getD}
 use lib.Ieee.{nan}
 use borrow.Author.Needs.{needs}
-use Rattle.rules.specs.Impulse.{powerOf}
+use Rattle.rules.specs.Impulse.{powerOf, windowSize}
 use Rattle.impulse.specs.declared.Gate.{Gate}
 use Rattle.impulse.specs.Room.{runEnd}
 use Rattle.impulse.specs.laws.RoomLaws.{ordered-length}
@@ -30,13 +30,14 @@ verdict-requires : tie.Need-verdict-requires
 verdict-requires c κs =
     let a = c .before .before .before .before .before .before .before .before .before .before .args in
     let g = c .before .before .before .arrived .ensures in
-    let n = ordered-length 33 (a .self .received) (getD (a .window .now) (a .self .received % 33) nan) (powerOf (a .x)) (a .sorted .now) (search needs) (search needs) in
+    let n = ordered-length windowSize (a .self .received) (getD (a .window .now) (a .self .received % windowSize) nan) (powerOf (a .x)) (a .sorted .now)
+    (search needs) (search needs) in
     let t = c .before .before .before .before .before .before .before .take-in .ensures in (
       (
-        omega (arith, ap (λ (x : Gate). x .blocklen) g),
+        omega (arith, ap (λ (x : Gate). x .settings .blocklen) g),
         omega (arith, ap (λ (x : Gate). x .received) g),
-        omega (arith, ap (λ (x : Gate). x .flagged) g),
-        subst (λ (x : Gate). runEnd (x .run) ≤ 2 ^ 52) (sym g) (omega arith),
+        omega (arith, ap (λ (x : Gate). x .block .flagged) g),
+        subst (λ (x : Gate). runEnd (x .mending .run) ≤ 2 ^ 52) (sym g) (omega arith),
         ap length (t .1 .0) ∙ n,
       ),
       t .1 .1,

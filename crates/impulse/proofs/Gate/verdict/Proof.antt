@@ -2,13 +2,14 @@
 use Prim.Native.Nat.{_-_}
 use borrow.Author.Tests.{lt-ltb, le-ltb}
 use borrow.Author.Needs.{needs}
+use Rattle.rules.specs.Impulse.{halfWindow}
 use Rattle.impulse.specs.Machine.{verdict}
 use Rattle.impulse.proofs.Gate.verdict.Statement.{statement}
 use Rattle.impulse.proofs.Gate.verdict.Tie as tie
 
 returns : tie.Need-returns
 unfolding verdict
-returns c = let t = lt-ltb (c .before .args .i) 16 (c .if1 .taken) in (simp t, simp t)
+returns c = let t = lt-ltb (c .before .args .i) halfWindow (c .if1 .taken) in (simp t, simp t)
 
 sub-j : tie.Need-sub-j
 sub-j c = search needs
@@ -27,7 +28,8 @@ judge-requires c κs = search needs
 
 returns-2 : tie.Need-returns-2
 unfolding verdict
-returns-2 c = let t = le-ltb (c .before .before .before .before .args .i) 16 (c .before .before .before .if1 .left) in (simp (t, c .judge .ensures .0), simp (t, c .judge .ensures .1))
+returns-2 c = let t = le-ltb (c .before .before .before .before .args .i) halfWindow (c .before .before .before .if1 .left) in
+    (simp (t, c .judge .ensures .0), simp (t, c .judge .ensures .1))
 
 pub verdict-spec : {M : Type 1} → statement M
 verdict-spec =

@@ -28,14 +28,16 @@ accepted-requires c κs = search needs
 returns-2 : tie.Need-returns-2
 returns-2 c =
     let a = c .before .before .before .before .before .args in
-    settled-by (calibrationOf (a .self)) (a .receiver) (view64 (c .before .before .image-ratio .result)) true false (ap view64 (c .before .before .image-ratio .ensures))
+    settled-by (calibrationOf (a .self)) (a .receiver) (view64 (c .before .before .image-ratio .result)) true false
+    (ap view64 (c .before .before .image-ratio .ensures))
     (sym (c .before .before .before .before .correctable .ensures) ∙ not-false _ (c .before .before .before .if1 .left))
     (sym (c .before .accepted .ensures) ∙ not-true _ (c .if2 .taken))
 
 returns-3 : tie.Need-returns-3
 returns-3 c =
     let a = c .before .before .before .before .before .args in
-    settled-by (calibrationOf (a .self)) (a .receiver) (view64 (c .before .before .image-ratio .result)) true true (ap view64 (c .before .before .image-ratio .ensures))
+    settled-by (calibrationOf (a .self)) (a .receiver) (view64 (c .before .before .image-ratio .result)) true true
+    (ap view64 (c .before .before .image-ratio .ensures))
     (sym (c .before .before .before .before .correctable .ensures) ∙ not-false _ (c .before .before .before .if1 .left))
     (sym (c .before .accepted .ensures) ∙ not-false _ (c .if2 .left))
 

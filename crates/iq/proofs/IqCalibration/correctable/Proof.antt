@@ -20,12 +20,14 @@ centres-agree-requires : tie.Need-centres-agree-requires
 centres-agree-requires c κs = search needs
 
 -- by validation's answer t
-by-validation : (c : tie.After-is-valid) (t : Bool) → c .is-valid .result ≡ t → let a = c .before .before .args in (t && centresAgree (a .self .centre) (a .receiver)) ≡ correctable (calibrationOf (a .self)) (a .receiver)
+by-validation : (c : tie.After-is-valid) (t : Bool) → c .is-valid .result ≡ t → let a = c .before .before .args in
+    (t && centresAgree (a .self .centre) (a .receiver)) ≡ correctable (calibrationOf (a .self)) (a .receiver)
 by-validation c t e =
     let a = c .before .before .args in
     let z = calibrationOf (a .self) in
     let number = c .before .validate .ensures ∙ sym (validation-by z (gainFits z) (phaseFits z) (centreFits z) refl refl refl) in
-    let valid : (gainFits z && phaseFits z && centreFits z) ≡ t = fits-by (gainFits z) (phaseFits z) (centreFits z) ∙ ap (λ (n : ℕ). eqb n 0) (sym number) ∙ sym (c .is-valid .ensures) ∙ e in
+    let valid : (gainFits z && phaseFits z && centreFits z) ≡ t = fits-by (gainFits z) (phaseFits z) (centreFits z) ∙ ap (λ (n : ℕ). eqb n 0) (sym number)
+    ∙ sym (c .is-valid .ensures) ∙ e in
     ap (λ (s : Bool). s && centresAgree (a .self .centre) (a .receiver)) (sym valid)
 
 returns : tie.Need-returns

@@ -23,13 +23,16 @@ in-range-requires-2 c κs = search needs
 returns-2 : tie.Need-returns-2
 unfolding neg ofBits
 returns-2 c =
-    validation-by (calibrationOf (c .before .before .before .before .args .self)) true false _ (sym (c .before .before .before .in-range .ensures) ∙ not-false _ (c .before .before .if1 .left)) (sym (c .before .in-range2 .ensures) ∙ not-true _ (c .if2 .taken)) refl
+    validation-by (calibrationOf (c .before .before .before .before .args .self)) true false _
+    (sym (c .before .before .before .in-range .ensures) ∙ not-false _ (c .before .before .if1 .left))
+    (sym (c .before .in-range2 .ensures) ∙ not-true _ (c .if2 .taken)) refl
 
 finite-positive-requires : tie.Need-finite-positive-requires
 finite-positive-requires c κs = search needs
 
 -- past the first two tests, by the answer t of the third
-by-third : (c : tie.After-finite-positive) (t : Bool) → c .finite-positive .result ≡ t → cond (not t) 13 0 ≡ validation (calibrationOf (c .before .before .before .before .before .args .self))
+by-third : (c : tie.After-finite-positive) (t : Bool) → c .finite-positive .result ≡ t
+    → cond (not t) 13 0 ≡ validation (calibrationOf (c .before .before .before .before .before .args .self))
 unfolding neg ofBits
 by-third c t e =
     validation-by (calibrationOf (c .before .before .before .before .before .args .self)) true true t

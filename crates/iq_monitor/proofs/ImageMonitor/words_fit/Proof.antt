@@ -22,7 +22,8 @@ tested zero ws = unit (allOf sumFits ws)
     unit true = refl
     unit false = refl
 tested (suc n) [] = refl
-tested (suc n) (x ∷ ws) = both (signClear x) (sumFits x) (allOf powerFits (take n ws)) (allOf sumFits (drop n ws)) (allOf sumFits ws) (allOf signClear (take n ws)) (tested n ws)
+tested (suc n) (x ∷ ws) =
+    both (signClear x) (sumFits x) (allOf powerFits (take n ws)) (allOf sumFits (drop n ws)) (allOf sumFits ws) (allOf signClear (take n ws)) (tested n ws)
   where
     both : (s f p d a c : Bool) → (p && d) ≡ (a && c) → (((s && f) && p) && d) ≡ ((f && a) && (s && c))
     both true true p d a c e = e
@@ -43,12 +44,16 @@ all-plain-requires c κs = search needs
 returns : tie.Need-returns
 returns c =
     let a = c .before .before .before .before .before .args in
-    c .all-plain .ensures .0 ∙ sym (tested (a .n) (a .words .now) ∙ ap (λ (b : Bool). b && allOf signClear (take (a .n) (a .words .now))) (sym (c .before .before .before .all-fit .ensures) ∙ c .before .before .if1 .taken))
+    c .all-plain .ensures .0
+    ∙ sym (tested (a .n) (a .words .now)
+    ∙ ap (λ (b : Bool). b && allOf signClear (take (a .n) (a .words .now)))
+    (sym (c .before .before .before .all-fit .ensures) ∙ c .before .before .if1 .taken))
 
 returns-2 : tie.Need-returns-2
 returns-2 c =
     let a = c .before .before .before .args in
-    sym (tested (a .n) (a .words .now) ∙ ap (λ (b : Bool). b && allOf signClear (take (a .n) (a .words .now))) (sym (c .before .all-fit .ensures) ∙ c .if1 .left))
+    sym (tested (a .n) (a .words .now)
+    ∙ ap (λ (b : Bool). b && allOf signClear (take (a .n) (a .words .now))) (sym (c .before .all-fit .ensures) ∙ c .if1 .left))
 
 pub words-fit-spec : {M : Type 1} → statement M
 words-fit-spec =

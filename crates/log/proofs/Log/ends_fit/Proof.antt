@@ -56,7 +56,8 @@ part-end-fits-start : tie.Need-part-end-fits-start Inv-loop μ-loop
 part-end-fits-start c = search needs
 
 part-end-fits-end : tie.Need-part-end-fits-end Inv-loop μ-loop
-part-end-fits-end c = omega (arith, part-inside (c .before .before .before .before .args .capacity * 2) (c .before .before .loop .k) (c .before .loop-test .taken))
+part-end-fits-end c =
+    omega (arith, part-inside (c .before .before .before .before .args .capacity * 2) (c .before .before .loop .k) (c .before .loop-test .taken))
 
 end-fits-requires : tie.Need-end-fits-requires Inv-loop μ-loop
 unfolding marksAt
@@ -80,7 +81,8 @@ unfolding endsFit
 returns c =
     let a = c .before .before .before .before .before .before .before .args in
     let k = c .before .before .before .before .before .loop .k in
-    sym (all-not (test (a .capacity) (record { log = a .t1; spans = now (a .spans) })) 12 k (c .before .before .before .before .loop-test .taken) (tested (c .before) ∙ not-true _ (c .if1 .taken)))
+    sym (all-not (test (a .capacity) (record { log = a .t1; spans = now (a .spans) })) 12 k (c .before .before .before .before .loop-test .taken)
+    (tested (c .before) ∙ not-true _ (c .if1 .taken)))
 
 add-k : tie.Need-add-k Inv-loop μ-loop
 add-k c = search needs
@@ -91,8 +93,12 @@ loop-less c = search needs
 loop-again : tie.Need-loop-again Inv-loop μ-loop
 loop-again c =
     let a = c .before .before .before .before .before .before .before .args in
-    let l = c .before .before .before .before .before .loop in
-    (search needs, rw (add-one (l .k)) (all-next (test (a .capacity) (record { log = a .t1; spans = now (a .spans) })) (l .k) (l .inv .1) (tested (c .before) ∙ not-false _ (c .if1 .left))))
+    let l = c .before .before .before .before .before .loop in (
+      search needs,
+      rw (add-one (l .k))
+          (all-next (test (a .capacity) (record { log = a .t1; spans = now (a .spans) })) (l .k) (l .inv .1)
+          (tested (c .before) ∙ not-false _ (c .if1 .left))),
+    )
 
 returns-2 : tie.Need-returns-2 Inv-loop μ-loop
 unfolding endsFit

@@ -45,7 +45,8 @@ unfolding logFits
 returns c =
     let a = c .before .before .before .before .before .before .args in
     let k = c .before .before .before .before .before .loop .k in
-    sym (all-not (test (a .capacity) (a .t1)) 12 k (c .before .before .before .before .loop-test .taken) (sym (c .before .ring-fits .ensures) ∙ not-true _ (c .if1 .taken)))
+    sym (all-not (test (a .capacity) (a .t1)) 12 k (c .before .before .before .before .loop-test .taken)
+    (sym (c .before .ring-fits .ensures) ∙ not-true _ (c .if1 .taken)))
 
 add-k : tie.Need-add-k Inv-loop μ-loop
 add-k c = search needs
@@ -56,8 +57,10 @@ loop-less c = search needs
 loop-again : tie.Need-loop-again Inv-loop μ-loop
 loop-again c =
     let a = c .before .before .before .before .before .before .args in
-    let l = c .before .before .before .before .before .loop in
-    (search needs, rw (add-one (l .k)) (all-next (test (a .capacity) (a .t1)) (l .k) (l .inv .1) (sym (c .before .ring-fits .ensures) ∙ not-false _ (c .if1 .left))))
+    let l = c .before .before .before .before .before .loop in (
+      search needs,
+      rw (add-one (l .k)) (all-next (test (a .capacity) (a .t1)) (l .k) (l .inv .1) (sym (c .before .ring-fits .ensures) ∙ not-false _ (c .if1 .left))),
+    )
 
 returns-2 : tie.Need-returns-2 Inv-loop μ-loop
 unfolding logFits

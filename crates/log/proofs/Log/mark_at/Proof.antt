@@ -38,7 +38,8 @@ element-copy-out-samples : tie.Need-element-copy-out-samples
 element-copy-out-samples c = search needs
 
 mul-mark-ring : tie.Need-mul-mark-ring
-mul-mark-ring c = omega (arith, within (c .before .before .before .args .which) (c .before .before .before .args .capacity * 2) (c .before .before .before .pre .0))
+mul-mark-ring c =
+    omega (arith, within (c .before .before .before .args .which) (c .before .before .before .args .capacity * 2) (c .before .before .before .pre .0))
 
 sub-mark-ring : tie.Need-sub-mark-ring
 sub-mark-ring c = search needs
@@ -47,7 +48,8 @@ part-mark-ring-start : tie.Need-part-mark-ring-start
 part-mark-ring-start c = search needs
 
 part-mark-ring-end : tie.Need-part-mark-ring-end
-part-mark-ring-end c = omega (arith, within (c .before .before .before .args .which) (c .before .before .before .args .capacity * 2) (c .before .before .before .pre .0))
+part-mark-ring-end c =
+    omega (arith, within (c .before .before .before .args .which) (c .before .before .before .args .capacity * 2) (c .before .before .before .pre .0))
 
 mark-ring-requires : tie.Need-mark-ring-requires
 unfolding marksAt
@@ -76,7 +78,8 @@ returns c =
     let a = c .before .before .before .before .before .before .before .before .args in
     let size = a .capacity * 2 in
     let part = add-sub-cancel-left (a .which * size) size in
-    rw part (ap (withMarks (a .capacity) (record { log = a .t1; spans = now (a .spans) }) (a .which)) (rw part at (c .before .before .before .mark-ring .ensures)))
+    rw part (ap (withMarks (a .capacity) (record { log = a .t1; spans = now (a .spans) }) (a .which))
+    (rw part at (c .before .before .before .mark-ring .ensures)))
 
 pub mark-at-spec : {M : Type 1} → statement M
 mark-at-spec =

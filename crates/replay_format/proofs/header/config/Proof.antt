@@ -33,7 +33,15 @@ calibration-requires c κs = search needs
 
 returns : tie.Need-returns
 unfolding configIn
-returns c = rw (c .before .before .before .before .before .before .before .mode-by .ensures, c .before .before .before .before .before .mode-by2 .ensures, c .before .before .before .mode-by3 .ensures, c .before .before .real-at .ensures, c .before .real-at2 .ensures, c .calibration .ensures)
+returns c =
+    rw (
+      c .before .before .before .before .before .before .before .mode-by .ensures,
+      c .before .before .before .before .before .mode-by2 .ensures,
+      c .before .before .before .mode-by3 .ensures,
+      c .before .before .real-at .ensures,
+      c .before .real-at2 .ensures,
+      c .calibration .ensures,
+    )
 
 pub config-spec : {M : Type 1} → statement M
 config-spec =

@@ -21,13 +21,19 @@ modes-fit-requires : tie.Need-modes-fit-requires
 modes-fit-requires c κs = search needs
 
 returns-3 : tie.Need-returns-3
-returns-3 c = sym (said-by _ true true false (le-leb _ _ (c .before .before .before .before .if1 .left)) (sym (c .before .before .before .mark-fits .ensures) ∙ not-false _ (c .before .before .if2 .left)) (sym (c .before .modes-fit .ensures) ∙ not-true _ (c .if3 .taken)))
+returns-3 c =
+    sym (said-by _ true true false (le-leb _ _ (c .before .before .before .before .if1 .left))
+    (sym (c .before .before .before .mark-fits .ensures) ∙ not-false _ (c .before .before .if2 .left))
+    (sym (c .before .modes-fit .ensures) ∙ not-true _ (c .if3 .taken)))
 
 config-requires : tie.Need-config-requires
 config-requires c κs = search needs
 
 returns-4 : tie.Need-returns-4
-returns-4 c = ap config (c .config .ensures) ∙ sym (said-by _ true true true (le-leb _ _ (c .before .before .before .before .before .if1 .left)) (sym (c .before .before .before .before .mark-fits .ensures) ∙ not-false _ (c .before .before .before .if2 .left)) (sym (c .before .before .modes-fit .ensures) ∙ not-false _ (c .before .if3 .left)))
+returns-4 c = ap config (c .config .ensures)
+    ∙ sym (said-by _ true true true (le-leb _ _ (c .before .before .before .before .before .if1 .left))
+    (sym (c .before .before .before .before .mark-fits .ensures) ∙ not-false _ (c .before .before .before .if2 .left))
+    (sym (c .before .before .modes-fit .ensures) ∙ not-false _ (c .before .if3 .left)))
 
 pub header-spec : {M : Type 1} → statement M
 header-spec =

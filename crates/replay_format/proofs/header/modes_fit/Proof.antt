@@ -28,7 +28,10 @@ shared-slice-read-result : tie.Need-shared-slice-read-result
 shared-slice-read-result c = search needs
 
 returns-4 : tie.Need-returns-4
-returns-4 c = last-test _ _ (and-so _ _ (and-so _ _ (le-leb _ _ (c .before .before .before .before .before .if1 .left)) (le-leb _ _ (c .before .before .before .if2 .left))) (le-leb _ _ (c .before .if3 .left)))
+returns-4 c =
+    last-test _ _
+    (and-so _ _ (and-so _ _ (le-leb _ _ (c .before .before .before .before .before .if1 .left)) (le-leb _ _ (c .before .before .before .if2 .left)))
+    (le-leb _ _ (c .before .if3 .left)))
 
 pub modes-fit-spec : {M : Type 1} → statement M
 modes-fit-spec =

@@ -58,8 +58,15 @@ add-result-3 c = search needs
 
 returns : tie.Need-returns
 returns c =
-    let s = c .before .before .before .before .before .before .before .before .before in
-    (rw (c .before .before .before .before .before .before .wide .ensures .0, c .before .before .before .before .wide2 .ensures .0, c .before .before .wide3 .ensures .0, c .wide4 .ensures .0) (half-by-bytes _ (s .args .k) (s .pre)), omega arith)
+    let s = c .before .before .before .before .before .before .before .before .before in (
+      rw (
+        c .before .before .before .before .before .before .wide .ensures .0,
+        c .before .before .before .before .wide2 .ensures .0,
+        c .before .before .wide3 .ensures .0,
+        c .wide4 .ensures .0,
+      ) (half-by-bytes _ (s .args .k) (s .pre)),
+      omega arith,
+    )
 
 pub half-at-spec : {M : Type 1} → statement M
 half-at-spec =

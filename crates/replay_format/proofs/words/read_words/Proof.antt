@@ -36,7 +36,8 @@ loop-less : tie.Need-loop-less Inv-loop μ-loop
 loop-less c = let i = c .before .before .loop .inv in omega arith
 
 loop-again : tie.Need-loop-again Inv-loop μ-loop
-loop-again c = let l = c .before .before .loop in let s = c .before .before .before .before .before in rw (c .word-at .ensures) (reading-next (now (s .args .bytes)) (now (s .args .words)) (s .pre) (l .words) (l .k) (omega (arith, l .inv .same)) (l .inv))
+loop-again c = let l = c .before .before .loop in let s = c .before .before .before .before .before in
+    rw (c .word-at .ensures) (reading-next (now (s .args .bytes)) (now (s .args .words)) (s .pre) (l .words) (l .k) (omega (arith, l .inv .same)) (l .inv))
 
 same-length : tie.Need-same-length Inv-loop μ-loop
 same-length c = c .before .loop .inv .same

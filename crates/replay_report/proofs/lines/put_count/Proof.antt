@@ -33,7 +33,8 @@ returns-2 : tie.Need-returns-2
 unfolding letters line countLine
 returns-2 c =
     rw (ne-eqb _ 0 (c .before .before .before .before .before .before .before .before .before .before .before .before .before .before .if1 .left))
-    (written-then (c .before .before .before .before .before .before .before .before .before .before .before .put .ensures) (written-then (c .before .before .before .before .before .before .before .put-ring .ensures) (c .before .before .put-number .ensures)))
+    (written-then (c .before .before .before .before .before .before .before .before .before .before .before .put .ensures)
+    (written-then (c .before .before .before .before .before .before .before .put-ring .ensures) (c .before .before .put-number .ensures)))
 
 pub put-count-spec : {M : Type 1} → statement M
 put-count-spec =

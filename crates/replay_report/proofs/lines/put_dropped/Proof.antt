@@ -24,7 +24,10 @@ same-length c = search needs
 returns : tie.Need-returns
 unfolding letters
 returns c =
-    written-as (dropped-pieces (c .before .before .before .before .before .before .before .before .before .before .before .args .spans) (c .before .before .before .before .before .before .before .before .before .before .before .args .repairs)) (written-then (c .before .before .before .before .before .before .before .put-number .ensures) (c .before .before .put-number2 .ensures))
+    written-as
+    (dropped-pieces (c .before .before .before .before .before .before .before .before .before .before .before .args .spans)
+    (c .before .before .before .before .before .before .before .before .before .before .before .args .repairs)) (written-then
+    (c .before .before .before .before .before .before .before .put-number .ensures) (c .before .before .put-number2 .ensures))
 
 pub put-dropped-spec : {M : Type 1} → statement M
 put-dropped-spec =

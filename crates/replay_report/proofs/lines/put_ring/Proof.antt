@@ -24,7 +24,8 @@ same-length c = search needs
 returns : tie.Need-returns
 unfolding letters ringName
 returns c =
-    written-then (c .before .before .before .before .before .before .before .before .before .before .before .put-stage .ensures) (written-then (c .before .before .before .before .before .before .put .ensures) (c .before .before .put-mark .ensures))
+    written-then (c .before .before .before .before .before .before .before .before .before .before .before .put-stage .ensures)
+    (written-then (c .before .before .before .before .before .before .put .ensures) (c .before .before .put-mark .ensures))
 
 pub put-ring-spec : {M : Type 1} → statement M
 put-ring-spec =

@@ -36,10 +36,14 @@ same-length c = search needs
 returns : tie.Need-returns
 unfolding letters
 returns c =
-    let a = c .before .before .before .before .before .before .before .before .before .before .before .before .before .before .before .before .before .before .before .before .before .args in
+    let a = c .before .before .before .before .before .before .before .before .before .before .before .before .before .before .before .before .before .before
+    .before .before .before .args in
     written-as (samples-pieces (a .replaced) (a .seen) (a .released) (a .held))
-    (written-then (c .before .before .before .before .before .before .before .before .before .before .before .before .before .before .before .before .before .put-number .ensures)
-    (written-then (c .before .before .before .before .before .before .before .before .before .before .before .before .put-number2 .ensures) (written-then (c .before .before .before .before .before .before .before .put-number3 .ensures) (c .before .before .put-number4 .ensures))))
+    (written-then
+    (c .before .before .before .before .before .before .before .before .before .before .before .before .before .before .before .before .before .put-number
+    .ensures)
+    (written-then (c .before .before .before .before .before .before .before .before .before .before .before .before .put-number2 .ensures)
+    (written-then (c .before .before .before .before .before .before .before .put-number3 .ensures) (c .before .before .put-number4 .ensures))))
 
 pub put-samples-spec : {M : Type 1} → statement M
 put-samples-spec =

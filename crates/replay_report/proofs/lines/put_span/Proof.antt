@@ -34,10 +34,13 @@ same-length c = search needs
 returns : tie.Need-returns
 unfolding letters
 returns c =
-    let a = c .before .before .before .before .before .before .before .before .before .before .before .before .before .before .before .before .before .before .before .before .args in
+    let a = c .before .before .before .before .before .before .before .before .before .before .before .before .before .before .before .before .before .before
+    .before .before .args in
     written-as (span-pieces (stageOf (a .stage)) (markOf (a .kind)) (a .s .start) (a .s .len))
-    (written-then (c .before .before .before .before .before .before .before .before .before .before .before .before .before .before .before .before .put .ensures)
-    (written-then (c .before .before .before .before .before .before .before .before .before .before .before .before .put-ring .ensures) (written-then (c .before .before .before .before .before .before .before .put-number .ensures) (c .before .before .put-number2 .ensures))))
+    (written-then
+    (c .before .before .before .before .before .before .before .before .before .before .before .before .before .before .before .before .put .ensures)
+    (written-then (c .before .before .before .before .before .before .before .before .before .before .before .before .put-ring .ensures)
+    (written-then (c .before .before .before .before .before .before .before .put-number .ensures) (c .before .before .put-number2 .ensures))))
 
 pub put-span-spec : {M : Type 1} → statement M
 put-span-spec =

@@ -42,9 +42,17 @@ same-length c = search needs
 returns : tie.Need-returns
 unfolding letters line levelLine
 returns c =
-    written-then (c .before .before .before .before .before .before .before .before .before .before .before .before .before .before .before .before .before .before .before .before .before .before .put .ensures)
-    (written-then (rw (c .before .before .before .before .before .before .before .before .before .before .before .before .before .before .before .before .before .before .to-bits64 .ensures) at (c .before .before .before .before .before .before .before .before .before .before .before .before .before .before .before .before .before .put-hex .ensures))
-    (written-then (c .before .before .before .before .before .before .before .before .before .before .before .before .put2 .ensures) (written-then (rw (c .before .before .before .before .before .before .before .before .to-bits642 .ensures) at (c .before .before .before .before .before .before .before .put-hex2 .ensures)) (c .before .before .put3 .ensures))))
+    written-then
+    (c .before .before .before .before .before .before .before .before .before .before .before .before .before .before .before .before .before .before
+    .before .before .before .before .put .ensures)
+    (written-then
+    (rw (c .before .before .before .before .before .before .before .before .before .before .before .before .before .before .before .before .before .before
+    .to-bits64 .ensures) at (c .before .before .before .before .before .before .before .before .before .before .before .before .before .before .before
+    .before .before .put-hex .ensures))
+    (written-then (c .before .before .before .before .before .before .before .before .before .before .before .before .put2 .ensures)
+    (written-then
+    (rw (c .before .before .before .before .before .before .before .before .to-bits642 .ensures) at
+    (c .before .before .before .before .before .before .before .put-hex2 .ensures)) (c .before .before .put3 .ensures))))
 
 pub put-words-spec : {M : Type 1} → statement M
 put-words-spec =

@@ -1,4 +1,4 @@
--- `chain_state::ascends` meets its contract: the powers passed ascend. Assumes nothing.
+-- `chain_state::strictly_ascends` meets its contract: the powers passed ascend strictly. Assumes nothing.
 use mathlib.Core.Path.{_≡_, sym, _∙_}
 use Prim.Native.Nat.{suc, _-_, _≤_}
 use native.Mathlib.Omega.{arith}
@@ -10,8 +10,8 @@ use Rattle.rules.specs.Constants.{zeroF}
 use Rattle.rules.specs.Lists.{All}
 use Rattle.impulse_window.specs.Rising.{climbs, Held}
 use Rattle.impulse_window.proofs.Blends.{climbs-one, held-more, further}
-use Rattle.chain_state.proofs.ascends.Statement.{statement}
-use Rattle.chain_state.proofs.ascends.Tie as tie
+use Rattle.chain_state.proofs.strictly_ascends.Statement.{statement}
+use Rattle.chain_state.proofs.strictly_ascends.Tie as tie
 
 abbrev Inv-loop : tie.InvT-loop
 Inv-loop sorted rising₀ k₀ rising k =
@@ -75,8 +75,8 @@ returns c =
     let all : take (suc (i .k)) l ≡ l = take-all (suc (i .k)) l (omega arith) in
     (rw all at (i .inv .1), rw all at (i .inv .2))
 
-pub ascends-spec : {M : Type 1} → statement M
-ascends-spec =
+pub strictly-ascends-spec : {M : Type 1} → statement M
+strictly-ascends-spec =
     tie.close
     (tie.spec
     Inv-loop

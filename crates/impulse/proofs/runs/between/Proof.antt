@@ -1,4 +1,4 @@
--- `impulse::mending::between` meets its contract. Assumes nothing.
+-- `impulse::runs::between` meets its contract. Assumes nothing.
 use Prim.Native.Nat.{ℕ, _+_, _-_, _≤_, _^_}
 use native.Mathlib.Omega.{arith}
 use lib.Dec.{T, le→leb}
@@ -6,8 +6,8 @@ use lib.IntN.{pos}
 use lib.Ieee.{binary32, inFloat}
 use borrow.Author.Needs.{needs}
 use Rattle.rules.specs.Impulse.{between}
-use Rattle.impulse.proofs.mending.between.Statement.{statement}
-use Rattle.impulse.proofs.mending.between.Tie as tie
+use Rattle.impulse.proofs.runs.between.Statement.{statement}
+use Rattle.impulse.proofs.runs.between.Tie as tie
 
 small : (n : ℕ) → n ≤ 9 → T (inFloat binary32 (pos n))
 unfolding inFloat

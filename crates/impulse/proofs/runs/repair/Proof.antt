@@ -1,9 +1,9 @@
--- `impulse::mending::repair` meets its contract. Assumes nothing.
+-- `impulse::runs::repair` meets its contract. Assumes nothing.
 use Prim.Native.Nat.{_-_}
 use borrow.Author.Needs.{needs}
 use Rattle.impulse.specs.View.{repairOf}
-use Rattle.impulse.proofs.mending.repair.Statement.{statement}
-use Rattle.impulse.proofs.mending.repair.Tie as tie
+use Rattle.impulse.proofs.runs.repair.Statement.{statement}
+use Rattle.impulse.proofs.runs.repair.Tie as tie
 
 original-requires : tie.Need-original-requires
 original-requires c κs = search needs

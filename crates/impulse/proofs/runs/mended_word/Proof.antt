@@ -1,9 +1,9 @@
--- `impulse::mending::mended_word` meets its contract. Assumes nothing.
+-- `impulse::runs::mended_word` meets its contract. Assumes nothing.
 use Prim.Native.Nat.{_-_}
 use borrow.Author.Needs.{needs}
 use Rattle.impulse.specs.Machine.{mendedWord}
-use Rattle.impulse.proofs.mending.mended_word.Statement.{statement}
-use Rattle.impulse.proofs.mending.mended_word.Tie as tie
+use Rattle.impulse.proofs.runs.mended_word.Statement.{statement}
+use Rattle.impulse.proofs.runs.mended_word.Tie as tie
 
 unpack-requires : tie.Need-unpack-requires
 unpack-requires c κs = search needs

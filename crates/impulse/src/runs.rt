@@ -4,7 +4,7 @@ ghost use mathlib.Core.Path.{_≡_};
 ghost use Prim.Native.Nat.{_+_, _%_, _^_, _≤_, _<_};
 ghost use lib.ListN.{getD, set};
 ghost use Rattle.complex.specs.View.{view32, make32};
-ghost use Rattle.rules.specs.Impulse.{between};
+ghost use Rattle.rules.specs.Impulse.{lookaheadSize, longestRun, between};
 ghost use Rattle.impulse.specs.Machine.{neighbourOr, readRun, mendedWord, writeRun};
 ghost use Rattle.impulse.specs.View.{repairOf};
 use crate::ImpulseSuppressor;
@@ -14,8 +14,8 @@ use log::Repair;
 
 // Sample i takes its place, and the one that stood there is answered.
 pub fn hold(pending: &mut [u64; ImpulseSuppressor::LOOKAHEAD], i: u64, x: u64) -> u64
-    ensures result { λ r. ⌜ r ≡ getD (now (pending .entry)) (i % 21) 0 ⌝ }
-    ensures words { λ r. ⌜ now (pending .exit) ≡ set (now (pending .entry)) (i % 21) x ⌝ }
+    ensures result { λ r. ⌜ r ≡ getD (now (pending .entry)) (i % lookaheadSize) 0 ⌝ }
+    ensures words { λ r. ⌜ now (pending .exit) ≡ set (now (pending .entry)) (i % lookaheadSize) x ⌝ }
 {
     let place = (i % ImpulseSuppressor::LOOKAHEAD as u64) as usize;
     let out = pending[place];
@@ -35,7 +35,7 @@ pub fn neighbour(left: Left, right: u64) -> u64
 // Original t of the run of n that starts at `start`, and 0 past its end.
 fn original(pending: &[u64; ImpulseSuppressor::LOOKAHEAD], start: u64, n: u64, t: u64) -> u64
     requires { ⌜ start + n ≤ 2 ^ 52 ⌝ }
-    ensures { λ r. ⌜ r ≡ getD (readRun 21 (now (pending .entry)) start n) t 0 ⌝ }
+    ensures { λ r. ⌜ r ≡ getD (readRun lookaheadSize (now (pending .entry)) start n) t 0 ⌝ }
 {
     if t < n {
         let place = ((start + t) % ImpulseSuppressor::LOOKAHEAD as u64) as usize;
@@ -46,7 +46,7 @@ fn original(pending: &[u64; ImpulseSuppressor::LOOKAHEAD], start: u64, n: u64, t
 
 pub fn repair(pending: &[u64; ImpulseSuppressor::LOOKAHEAD], start: u64, n: u64) -> Repair
     requires { ⌜ start + n ≤ 2 ^ 52 ⌝ }
-    ensures { λ r. ⌜ r ≡ repairOf start n (readRun 21 (now (pending .entry)) start n) ⌝ }
+    ensures { λ r. ⌜ r ≡ repairOf start n (readRun lookaheadSize (now (pending .entry)) start n) ⌝ }
 {
     Repair {
         start,
@@ -60,7 +60,7 @@ pub fn repair(pending: &[u64; ImpulseSuppressor::LOOKAHEAD], start: u64, n: u64)
 
 // Sample t of a run of n, on the line between its neighbours.
 fn between(left: Complex32, right: Complex32, t: u64, n: u64) -> Complex32
-    requires { ⌜ (t < n) × (n ≤ 8) ⌝ }
+    requires { ⌜ (t < n) × (n ≤ longestRun) ⌝ }
     ensures { λ r. ⌜ r ≡ make32 (between (view32 left) (view32 right) t n) ⌝ }
 {
     let fraction = ((t + 1) as f32) / ((n + 1) as f32);
@@ -68,7 +68,7 @@ fn between(left: Complex32, right: Complex32, t: u64, n: u64) -> Complex32
 }
 
 fn mended_word(left: u64, right: u64, t: u64, n: u64) -> u64
-    requires { ⌜ (t < n) × (n ≤ 8) ⌝ }
+    requires { ⌜ (t < n) × (n ≤ longestRun) ⌝ }
     ensures { λ r. ⌜ r ≡ mendedWord left right t n ⌝ }
 {
     let l = Complex32::unpack(left);
@@ -83,8 +83,8 @@ pub fn mend(
     start: u64,
     n: u64,
 )
-    requires { ⌜ (n ≤ 8) × (start + n ≤ 2 ^ 52) ⌝ }
-    ensures { λ r. ⌜ now (pending .exit) ≡ writeRun 21 (now (pending .entry)) left right start n n ⌝ }
+    requires { ⌜ (n ≤ longestRun) × (start + n ≤ 2 ^ 52) ⌝ }
+    ensures { λ r. ⌜ now (pending .exit) ≡ writeRun lookaheadSize (now (pending .entry)) left right start n n ⌝ }
 {
     let mut t: u64 = 0;
     while t < n {

@@ -1,31 +1,33 @@
--- `impulse::mending::mend` meets its contract: after t turns the first t samples of the run are mended. Assumes nothing.
+-- `impulse::runs::mend` meets its contract: after t turns the first t samples of the run are mended. Assumes nothing.
 use mathlib.Core.Path.{_≡_, refl, ap, _∙_}
 use mathlib.Core.List.{List}
 use Prim.Native.Nat.{ℕ, _+_, _-_, _%_, _≤_}
 use native.Mathlib.Omega.{arith}
 use native.Mathlib.Numerals.{add-one}
 use lib.ListN.{set}
+use Rattle.rules.specs.Impulse.{lookaheadSize}
 use Rattle.impulse.specs.Machine.{mendedWord, writeRun}
-use Rattle.impulse.proofs.mending.mend.Statement.{statement}
-use Rattle.impulse.proofs.mending.mend.Tie as tie
+use Rattle.impulse.proofs.runs.mend.Statement.{statement}
+use Rattle.impulse.proofs.runs.mend.Tie as tie
 
-begun : (l : List ℕ) (left right a n : ℕ) → l ≡ writeRun 21 l left right a n 0
+begun : (size : ℕ) (l : List ℕ) (left right a n : ℕ) → l ≡ writeRun size l left right a n 0
 unfolding writeRun
-begun l left right a n = refl
+begun size l left right a n = refl
 
-more : (l l₀ : List ℕ) (left right a n t w : ℕ) → l ≡ writeRun 21 l₀ left right a n t → w ≡ mendedWord left right t n → set l ((a + t) % 21) w ≡ writeRun 21 l₀ left right a n (t + 1)
+more : (size : ℕ) (l l₀ : List ℕ) (left right a n t w : ℕ) → l ≡ writeRun size l₀ left right a n t → w ≡ mendedWord left right t n
+    → set l ((a + t) % size) w ≡ writeRun size l₀ left right a n (t + 1)
 unfolding writeRun
-more l l₀ left right a n t w e g = rw (e, g, add-one)
+more size l l₀ left right a n t w e g = rw (e, g, add-one)
 
 abbrev Inv-loop : tie.InvT-loop
 Inv-loop pending₀ left right start n t₀ pending t =
-    (t ≤ n) × (pending ≡ writeRun 21 pending₀ left right start n t)
+    (t ≤ n) × (pending ≡ writeRun lookaheadSize pending₀ left right start n t)
 
 abbrev μ-loop : tie.MeasureT-loop
 μ-loop pending₀ left right start n t₀ pending t = n - t
 
 loop-holds : tie.Need-loop-holds Inv-loop μ-loop
-loop-holds c = (omega arith, begun (c .args .pending .now) (c .args .left) (c .args .right) (c .args .start) (c .args .n))
+loop-holds c = (omega arith, begun lookaheadSize (c .args .pending .now) (c .args .left) (c .args .right) (c .args .start) (c .args .n))
 
 add-place : tie.Need-add-place Inv-loop μ-loop
 add-place c = omega arith
@@ -51,15 +53,18 @@ loop-less c = omega arith
 loop-again : tie.Need-loop-again Inv-loop μ-loop
 loop-again c =
     let i = c .before .before .loop in
-    let a = c .before .before .before .args in
-    (omega arith, more (i .pending) (a .pending .now) (a .left) (a .right) (a .start) (a .n) (i .t) (c .mended-word .result) (i .inv .1) (c .mended-word .ensures))
+    let a = c .before .before .before .args in (
+      omega arith,
+      more lookaheadSize (i .pending) (a .pending .now) (a .left) (a .right) (a .start) (a .n) (i .t) (c .mended-word .result) (i .inv .1)
+          (c .mended-word .ensures),
+    )
 
 returns : tie.Need-returns Inv-loop μ-loop
 returns c =
     let i = c .before .loop in
     let a = c .before .before .args in
     let e : i .t ≡ a .n = omega (arith, i .inv .0) in
-    i .inv .1 ∙ ap (writeRun 21 (a .pending .now) (a .left) (a .right) (a .start) (a .n)) e
+    i .inv .1 ∙ ap (writeRun lookaheadSize (a .pending .now) (a .left) (a .right) (a .start) (a .n)) e
 
 pub mend-spec : {M : Type 1} → statement M
 mend-spec =
