@@ -63,3 +63,15 @@ pub fn quiet(samples: usize) -> Vec<Complex32> {
     let mut r = Random(0xfedc_ba98_7654_3210);
     (0..samples).map(|_| noise(&mut r)).collect()
 }
+
+/// Noise with samples that are not usable, one in so many.
+pub fn spoilt(samples: usize, every: u64) -> Vec<Complex32> {
+    let mut r = Random(0x0fed_cba9_8765_4321);
+    (0..samples)
+        .map(|_| match r.next() % every {
+            0 => Complex32::new(f32::NAN, 1.0),
+            1 => Complex32::new(1.0, 1.0e18),
+            _ => noise(&mut r),
+        })
+        .collect()
+}

@@ -1,11 +1,14 @@
-//! Times the proved chain beside the Rust original, on the same input in the same run, after a check
-//! that both release the same bits. See the script `run`.
+//! Times the C library beside the Rust original, on the same input in the same run, after a check that
+//! both give the same bits. See the script `run`.
 
 mod input;
 mod sides;
 
 use oracle::num_complex::Complex32;
-use sides::{original, original_hops, proved, proved_hops, word, Setting, Stages, Stores};
+use sides::{
+    original, original_hops, original_other, proved, proved_hops, proved_other, word, Other, Ran,
+    Setting, Stages, Stores,
+};
 use std::hint::black_box;
 
 const RATE: f64 = 48_000.0;
@@ -116,7 +119,7 @@ fn same(setting: Setting, block: usize, input: &mut Input, n: usize) -> bool {
     let mut stores = Stores::new(setting.spans, setting.repairs, CHANNELS);
     input.refill(n);
     let (a, _) = original(setting, block, &mut input.samples_room[..n]);
-    let b = proved(setting, block, &mut input.words_room[..n], &mut stores);
+    let (b, _) = proved(setting, block, &mut input.words_room[..n], &mut stores);
     a == b
         && a > 0
         && input.samples_room[..a]
@@ -197,6 +200,54 @@ fn hop_round(fs: f64, hops: usize, x: &[Complex32], words: &[u64]) -> Times {
     }
 }
 
+// ---- the undos and the guard
+
+const OTHERS: [(&str, Other); 4] = [
+    ("repair undo", Other::RepairUndo),
+    ("dc undo", Other::DcUndo),
+    ("iq undo", Other::IqUndo),
+    ("guard", Other::Guard),
+];
+
+// A chain of all stages over the first n samples; what it released takes their place.
+fn ran(input: &mut Input, n: usize) -> Ran {
+    let s = setting(ALL);
+    let mut stores = Stores::new(s.spans, s.repairs, CHANNELS);
+    input.refill(n);
+    let (a, chain) = original(s, 1_024, &mut input.samples_room[..n]);
+    let (b, state) = proved(s, 1_024, &mut input.words_room[..n], &mut stores);
+    assert_eq!(a, b);
+    input.samples[..a].copy_from_slice(&input.samples_room[..a]);
+    input.words[..b].copy_from_slice(&input.words_room[..b]);
+    Ran {
+        chain,
+        state,
+        repairs: stores.repairs,
+        fs: s.fs,
+        room: vec![0; n],
+    }
+}
+
+fn same_other(what: Other, ran: &mut Ran, block: usize, input: &mut Input, n: usize) -> bool {
+    input.refill(n);
+    original_other(what, ran, block, &mut input.samples_room[..n]);
+    proved_other(what, ran, block, &mut input.words_room[..n]);
+    let pairs = input.samples_room[..n].iter().zip(&input.words_room[..n]);
+    pairs.into_iter().all(|(&x, &w)| word(x) == w)
+}
+
+fn other_round(what: Other, ran: &mut Ran, block: usize, input: &mut Input, n: usize) -> Times {
+    input.refill(n);
+    Times {
+        rust: timed(|| {
+            original_other(what, ran, block, black_box(&mut input.samples_room[..n]));
+        }),
+        rattle: timed(|| {
+            proved_other(what, ran, block, black_box(&mut input.words_room[..n]));
+        }),
+    }
+}
+
 // ---- the tables
 
 const HEADER: &str = "  rust-ns rattle-ns  ratio";
@@ -236,10 +287,22 @@ fn stages() {
     for (name, n, fs, many) in hops {
         checked(same_hops(fs, many, &input::quiet(n)), name);
     }
+    let mut released = Input::new(input::clicks(SAMPLES, EVERY));
+    let mut chain = ran(&mut released, SAMPLES);
+    let mut spoilt = Input::new(input::spoilt(SAMPLES, EVERY));
+    for block in blocks {
+        for (name, what) in OTHERS {
+            let good = same_other(what, &mut chain, block, &mut released, part(block));
+            checked(good, name);
+        }
+        let good = same_other(Other::Guard, &mut chain, block, &mut spoilt, SAMPLES);
+        checked(good, "guard");
+    }
     println!(
-        "The same bits on both sides: {} runs of {SAMPLES} samples, {} of hops.\n",
+        "The same bits on both sides: {} runs of {SAMPLES} samples, {} of hops, {} of undos and the guard.\n",
         rows.len() * blocks.len(),
-        hops.len()
+        hops.len(),
+        (OTHERS.len() + 1) * blocks.len()
     );
     println!(
         "{:24}{:>6} {HEADER}    nanoseconds a sample",
@@ -250,6 +313,12 @@ fn stages() {
         for (name, stages, is_loud) in rows {
             let input = if is_loud { &mut loud } else { &mut clicks };
             let t = least(ROUNDS, || round(setting(stages), block, input, n));
+            println!("{name:24}{block:>6} {}", t.each(n));
+        }
+        for (name, what) in OTHERS {
+            let t = least(ROUNDS, || {
+                other_round(what, &mut chain, block, &mut released, n)
+            });
             println!("{name:24}{block:>6} {}", t.each(n));
         }
     }
@@ -330,6 +399,7 @@ fn hold(setting: Setting, input: &mut Input, full: bool) -> bool {
 }
 
 fn main() {
+    assert!(vatgorge::is_as_named(), "another library");
     match std::env::args().nth(1).as_deref() {
         Some("--growth") => growth(),
         _ => stages(),

@@ -1,9 +1,13 @@
-//! The two sides: the proved chain under its C names, and the Rust original. Each takes the whole input
-//! in place, call after call: the samples held from the call before, and then the new ones.
+//! The two sides: the C library, and the Rust original. Each takes the whole input in place, call after
+//! call: the samples held from the call before, and then the new ones.
 
-use oracle::condition::iq::IqCalibration;
+use oracle::condition::dc::revert_dc;
+use oracle::condition::impulse::revert_repairs;
+use oracle::condition::iq::{revert_iq, IqCalibration};
 use oracle::condition::{ConditioningConfig, InputConditioner, StageMode};
 use oracle::num_complex::Complex32;
+use oracle::sample_guard::replace_unusable;
+use vatgorge::*;
 
 pub const GAIN: f64 = 1.05;
 pub const PHASE: f64 = 2.0;
@@ -30,45 +34,9 @@ pub fn word(x: Complex32) -> u64 {
     u64::from(x.re.to_bits()) | u64::from(x.im.to_bits()) << 32
 }
 
-// ---- the proved chain
+// ---- the C library
 
-// A slice goes as a pointer and a length.
-extern "C" {
-    fn chain_run(
-        impulse: bool,
-        dc: bool,
-        iq: bool,
-        fs: f64,
-        gain: f64,
-        phase: f64,
-        centre: f64,
-        block: usize,
-        samples: *mut u64,
-        samples_len: usize,
-        spans: *mut u64,
-        spans_len: usize,
-        repairs: *mut u64,
-        repairs_len: usize,
-        words: *mut f64,
-        words_len: usize,
-        released: *mut usize,
-    ) -> u64;
-    fn hops_run(
-        fs: f64,
-        hops: usize,
-        x: *const u64,
-        x_len: usize,
-        spans: *mut u64,
-        spans_len: usize,
-        repairs: *mut u64,
-        repairs_len: usize,
-        words: *mut f64,
-        words_len: usize,
-        reports: *mut usize,
-    ) -> u64;
-}
-
-/// The stores that a caller lends to the proved chain.
+/// The stores that a caller lends.
 pub struct Stores {
     pub spans: Vec<u64>,
     pub repairs: Vec<u64>,
@@ -84,53 +52,85 @@ impl Stores {
     }
 }
 
-/// Answers how many samples it released; they stand in front.
-pub fn proved(setting: Setting, block: usize, samples: &mut [u64], stores: &mut Stores) -> usize {
-    let mut released = 0;
-    let number = unsafe {
-        chain_run(
-            setting.stages.impulse,
-            setting.stages.dc,
-            setting.stages.iq,
-            setting.fs,
-            GAIN,
-            PHASE,
-            CENTRE,
-            block,
-            samples.as_mut_ptr(),
-            samples.len(),
-            stores.spans.as_mut_ptr(),
-            stores.spans.len(),
-            stores.repairs.as_mut_ptr(),
-            stores.repairs.len(),
-            stores.words.as_mut_ptr(),
-            stores.words.len(),
-            &mut released,
-        )
-    };
-    assert_eq!(number, 0, "the proved chain refuses");
-    released
+// A chain whose capacities the stores' lengths say.
+fn made(modes: [u64; 3], fs: f64, stores: &mut Stores) -> State {
+    let [impulse, dc, iq] = modes;
+    let [gain, phase, centre] = [GAIN, PHASE, CENTRE].map(f64::to_bits);
+    let n = stores.words.len() as u64 / 4;
+    let spans = stores.spans.len() as u64 / 24;
+    let repairs = stores.repairs.len() as u64 / 6;
+    let config = [
+        impulse,
+        dc,
+        iq,
+        fs.to_bits(),
+        centre,
+        n,
+        1,
+        gain,
+        phase,
+        centre,
+        spans,
+        repairs,
+    ];
+    let mut state = [0; STATE_WORDS];
+    let Stores {
+        spans,
+        repairs,
+        words,
+    } = stores;
+    let number = vg_make(&config, &mut state, spans, repairs, words);
+    assert_eq!(number, 0, "no chain is made");
+    state
+}
+
+/// Answers how many samples it released, which stand in front, and the state.
+pub fn proved(
+    setting: Setting,
+    block: usize,
+    samples: &mut [u64],
+    stores: &mut Stores,
+) -> (usize, State) {
+    let Stages { impulse, dc, iq } = setting.stages;
+    let modes = [impulse, dc, iq].map(|applies| 2 * u64::from(applies));
+    let mut state = made(modes, setting.fs, stores);
+    let (mut at, mut held) = (0, 0);
+    let mut out = [0; CONDITION_WORDS];
+    while at + held < samples.len() {
+        let end = samples.len().min(at + held + block);
+        let slice = &mut samples[at..end];
+        let number = vg_condition(
+            &mut state,
+            slice,
+            &mut stores.spans,
+            &mut stores.repairs,
+            &mut out,
+        );
+        assert_eq!(number, 0, "a call is refused");
+        at += out[0] as usize;
+        held = end - at;
+    }
+    (at, state)
 }
 
 /// Answers how many reports there were.
 pub fn proved_hops(fs: f64, hops: usize, x: &[u64], stores: &mut Stores) -> usize {
+    let mut state = made([0, 0, 1], fs, stores);
     let mut reports = 0;
-    let number = unsafe {
-        hops_run(
-            fs,
-            hops,
-            x.as_ptr(),
-            x.len(),
-            stores.spans.as_mut_ptr(),
-            stores.spans.len(),
-            stores.repairs.as_mut_ptr(),
-            stores.repairs.len(),
-            stores.words.as_mut_ptr(),
-            stores.words.len(),
-            &mut reports,
-        )
-    };
-    assert_eq!(number, 0, "the proved chain refuses");
+    let mut out = [0; HOP_WORDS];
+    for k in 0..hops {
+        let start = (k * (x.len() / 4)) as u64;
+        let number = vg_hop(
+            &mut state,
+            x,
+            start,
+            &mut stores.spans,
+            &mut stores.words,
+            &mut out,
+        );
+        assert_eq!(number, 0, "a hop is refused");
+        reports += out[0] as usize;
+    }
     reports
 }
 
@@ -189,4 +189,64 @@ pub fn original_hops(fs: f64, hops: usize, x: &[Complex32]) -> (usize, InputCond
         reports += usize::from(chain.observe_hop(x, start).is_some());
     }
     (reports, chain)
+}
+
+// ---- the undos and the guard
+
+/// What is done to samples behind a chain, or in front of it.
+#[derive(Clone, Copy)]
+pub enum Other {
+    RepairUndo,
+    DcUndo,
+    IqUndo,
+    Guard,
+}
+
+/// A chain that has run, on both sides, with room for a part of DC undo.
+pub struct Ran {
+    pub chain: InputConditioner,
+    pub state: State,
+    pub repairs: Vec<u64>,
+    pub fs: f64,
+    pub room: Vec<u64>,
+}
+
+/// Over the samples in place, part after part.
+pub fn proved_other(what: Other, ran: &mut Ran, block: usize, samples: &mut [u64]) {
+    let rho = ran.chain.iq.as_ref().expect("IQ corrects").rho;
+    let (mut first, mut place) = (0, 0);
+    for part in samples.chunks_mut(block) {
+        let number = match what {
+            Other::RepairUndo => vg_undo_repairs(&ran.state, &ran.repairs, part, first),
+            Other::DcUndo => {
+                let out = &mut ran.room[..part.len()];
+                let number = vg_undo_dc(part, ran.fs, out, &mut place);
+                part.copy_from_slice(out);
+                number
+            }
+            Other::IqUndo => vg_undo_iq(part, rho.re, rho.im, &mut place),
+            Other::Guard => {
+                vg_guard(part);
+                0
+            }
+        };
+        assert_eq!(number, 0, "it is refused");
+        first += part.len() as u64;
+    }
+}
+
+pub fn original_other(what: Other, ran: &Ran, block: usize, samples: &mut [Complex32]) {
+    let rho = ran.chain.iq.as_ref().expect("IQ corrects").rho;
+    let mut first = 0;
+    for part in samples.chunks_mut(block) {
+        match what {
+            Other::RepairUndo => revert_repairs(part, first, ran.chain.log()),
+            Other::DcUndo => part.copy_from_slice(&revert_dc(part, ran.fs)),
+            Other::IqUndo => revert_iq(part, rho).expect("a coefficient of a chain"),
+            Other::Guard => {
+                replace_unusable(part);
+            }
+        }
+        first += part.len() as u64;
+    }
 }

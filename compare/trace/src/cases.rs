@@ -1,22 +1,45 @@
 //! Random cases: lists of operations over one chain, drawn so that every answer is met.
 
+pub mod hard;
+
 use oracle::draw::*;
-use oracle::rules::{Mode, Sample, Setting};
+use oracle::rules::{Calibration, Mode, Sample, Setting};
 use oracle::trace::machine::{setting_words, Machine};
 use oracle::trace::*;
 
-/// A case: operations, the first of which makes a chain, and the oracle's answers.
-pub type Case = Vec<(Operation, Answer)>;
+/// Operations, and the oracle's answers.
+pub type List = Vec<(Operation, Answer)>;
+
+/// What a case is of: a stage, and the number of the signal that it was given.
+#[derive(Clone, Copy, PartialEq, Eq, PartialOrd, Ord)]
+pub enum Kind {
+    Any,
+    Impulse(usize),
+    Dc(usize),
+    Iq(usize),
+    Hops(usize),
+    OddUndos,
+    Calibrations,
+}
+
+/// A case: operations, the first of which makes a chain.
+pub struct Case {
+    pub kind: Kind,
+    pub list: List,
+    /// How many samples were seen to have a power near the flag's limit, where that was looked for.
+    pub near_ratio: u64,
+}
 
 /// A case that is being drawn, with the oracle's chain beside it.
 struct Drawing<'a> {
     rng: &'a mut Rng,
     machine: &'a mut Machine,
-    case: Case,
+    case: List,
     /// Whether slices and stores are answered by digests.
     digests: bool,
     /// What was released, for the undos.
     released: Vec<u64>,
+    near_ratio: u64,
 }
 
 fn words(xs: &[Sample]) -> Vec<u64> {
@@ -502,14 +525,43 @@ fn streamed(d: &mut Drawing, xs: &[Sample], lengths: &[usize], each: usize, hops
 /// `oracle::draw` has them.
 pub fn case(seed: u64, machine: &mut Machine) -> Case {
     let rng = &mut Rng::new(seed);
-    let kind = rng.below(10);
     let mut d = Drawing {
         rng,
         machine,
         case: Vec::new(),
-        digests: kind >= 6,
+        digests: false,
         released: Vec::new(),
+        near_ratio: 0,
     };
+    let kind = match d.rng.below(16) {
+        0..=9 => Kind::Any,
+        10 | 11 => Kind::Impulse(d.rng.below(hard::IMPULSE.len())),
+        12 => Kind::Dc(d.rng.below(hard::LEVEL.len())),
+        13 if d.rng.once_in(6) => d.rng.pick(&[Kind::OddUndos, Kind::Calibrations]),
+        13 => Kind::Iq(d.rng.below(hard::LEVEL.len())),
+        _ => Kind::Hops(d.rng.below(hard::HOPS.len())),
+    };
+    match kind {
+        Kind::Any => any(&mut d),
+        Kind::Impulse(k) => d.impulse_signal(k),
+        Kind::Dc(k) => d.level_signals(1, k),
+        Kind::Iq(k) => d.level_signals(2, k),
+        Kind::Hops(k) => d.hop_signals(k),
+        Kind::OddUndos => d.odd_undos(),
+        Kind::Calibrations => d.calibrations(),
+    }
+    d.end();
+    Case {
+        kind,
+        list: d.case,
+        near_ratio: d.near_ratio,
+    }
+}
+
+/// Any setting, samples, cutting and operations.
+fn any(d: &mut Drawing) {
+    let kind = d.rng.below(10);
+    d.digests = kind >= 6;
     let mut s = some_setting(d.rng);
     if d.rng.once_in(30) {
         s.n = d.rng.pick(&[2048, 2047, 512, 8]);
@@ -522,7 +574,7 @@ pub fn case(seed: u64, machine: &mut Machine) -> Case {
             let xs = some_samples(d.rng, n);
             let lengths = cutting(d.rng, n);
             let hops = if d.rng.once_in(3) { d.rng.below(12) } else { 0 };
-            streamed(&mut d, &xs, &lengths, 6, hops);
+            streamed(d, &xs, &lengths, 6, hops);
         }
         // Hops.
         4 => {
@@ -536,7 +588,7 @@ pub fn case(seed: u64, machine: &mut Machine) -> Case {
             let xs = some_samples(d.rng, n);
             let lengths = cutting(d.rng, n);
             let hops = d.rng.from(1, 60);
-            streamed(&mut d, &xs, &lengths, 10, hops);
+            streamed(d, &xs, &lengths, 10, hops);
         }
         // Makings, refused and not, and operations without samples.
         5 => {
@@ -566,7 +618,7 @@ pub fn case(seed: u64, machine: &mut Machine) -> Case {
             let block = d.rng.pick(&[7, 20, 64, 500, 1000, 1024, 4000]);
             let lengths: Vec<usize> = xs.chunks(block).map(<[Sample]>::len).collect();
             let hops = d.rng.below(8);
-            streamed(&mut d, &xs, &lengths, 40, hops);
+            streamed(d, &xs, &lengths, 40, hops);
         }
         // Very long inputs.
         _ => {
@@ -577,9 +629,7 @@ pub fn case(seed: u64, machine: &mut Machine) -> Case {
             let n = d.rng.from(20_000, 60_000);
             let xs = some_samples(d.rng, n);
             let lengths: Vec<usize> = xs.chunks(4000).map(<[Sample]>::len).collect();
-            streamed(&mut d, &xs, &lengths, 4, 10);
+            streamed(d, &xs, &lengths, 4, 10);
         }
     }
-    d.end();
-    d.case
 }

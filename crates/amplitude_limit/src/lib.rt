@@ -11,15 +11,23 @@ use complex::Complex32;
 // The pattern of the greatest f32 within 1e18.
 const MAX_PATTERN: u64 = 0x5d5e_0b6b;
 
+// 1e18.
+const LIMIT: f64 = 1.0e18;
+
 // Whether x is at most 1e18 in size. A NaN isn't.
+pub fn is_limited(x: f64) -> bool
+    ensures { λ r. ⌜ r ≡ limited x ⌝ }
+{
+    if -LIMIT <= x {
+        return x <= LIMIT;
+    }
+    false
+}
+
 fn part_within(x: f32) -> bool
     ensures { λ r. ⌜ r ≡ limited x ⌝ }
 {
-    let wide = ieee::widen(x);
-    if -1.0e18 <= wide {
-        return wide <= 1.0e18;
-    }
-    false
+    is_limited(ieee::widen(x))
 }
 
 // Whether both parts of a sample are.

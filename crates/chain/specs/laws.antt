@@ -2,3 +2,4 @@ pub mod SliceLaws
 pub mod Processing
 pub mod CallTests
 pub mod Places
+pub mod Keeping

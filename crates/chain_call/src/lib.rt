@@ -4,6 +4,7 @@ ghost use mathlib.Core.Path.{_≡_};
 ghost use mathlib.Core.List.{_++_, map};
 ghost use Prim.Native.Nat.{_+_, _^_, _≤_, _<_};
 ghost use lib.ListN.{length, take, drop};
+ghost use Rattle.rules.specs.Impulse.{windowSize};
 ghost use Rattle.rules.specs.Log.{spanOf};
 ghost use Rattle.rules.specs.Iq.{correctedBy};
 ghost use Rattle.rules.specs.Answers.{accepted, numberOf};
@@ -64,7 +65,7 @@ fn suppress(
 ) -> Ran
     requires { ⌜ Acceptable state (now samples) (now spans) (now repairs) ⌝ }
     requires { ⌜ suppressorOf (state .suppressor .gate) (now window) (now sorted) (now pending) ≡ state .suppressor ⌝ }
-    requires { ⌜ length (now sorted) ≡ 33 ⌝ }
+    requires { ⌜ length (now sorted) ≡ windowSize ⌝ }
     ensures suppressor { λ r. ⌜ suppressorOf (r .gate) (now (window .exit)) (now (sorted .exit)) (now (pending .exit))
         ≡ impulseAfter state (drop (state .counts .held) (now (samples .entry))) ⌝ }
     ensures noted { λ r. ⌜ notedOf (r .notes) (now (spans .exit)) (now (repairs .exit))

@@ -10,12 +10,10 @@ use Rattle.rules.specs.Log.{Span, ringNumber, iq, Uncertain, storeWidth}
 use Rattle.rules.specs.Monitor.{Answer, noReport, report, suspectedSpan, channelWidth}
 use Rattle.rules.specs.Answers.{Said, accepted, nothing, refused}
 use Rattle.rules.specs.Refusals.{Cause, firstOf, badLength}
-use Rattle.log.specs.declared.Log.{Log}
 use Rattle.log.specs.View.{Logged, markedAt}
 use Rattle.iq.specs.View.{settledOf}
 use Rattle.iq_monitor.specs.declared.HopAnswer.{HopAnswer}
 use Rattle.iq_monitor.specs.declared.HopAnswer.the-variants as monitor
-use Rattle.iq_monitor.specs.declared.ImageMonitor.{ImageMonitor}
 use Rattle.iq_monitor.specs.Words.{wordsFit}
 use Rattle.iq_monitor.specs.Observe.{reportFrom, Seen, leaving, observed, hopSaid}
 use Rattle.chain_state.specs.declared.InputConditioner.{InputConditioner}

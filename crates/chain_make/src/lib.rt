@@ -16,7 +16,6 @@ use dc::DcBlocker;
 use impulse::ImpulseSuppressor;
 use iq_monitor::ImageMonitor;
 use log::Notes;
-use stage_mode::StageMode;
 
 // What making answers.
 pub enum MakingAnswer {

@@ -11,7 +11,6 @@ ghost use Rattle.rules.specs.Constants.{zeroF};
 ghost use Rattle.rules.specs.Sort.{sort};
 ghost use Rattle.rules.specs.Lists.{All};
 ghost use Rattle.rules.specs.Impulse.{windowSize, lookaheadSize};
-ghost use Rattle.amplitude_limit.specs.Limit.{limited};
 ghost use Rattle.log.specs.Check.{allTo};
 ghost use Rattle.impulse_window.specs.Rising.{climbs, Held};
 ghost use Rattle.iq.specs.View.{settledOf};
@@ -406,16 +405,6 @@ fn is_untouched(running: bool, received: u64) -> bool
 
 // ---- the other stages
 
-// Whether x is at most 1e18 in size. A NaN isn't.
-fn part_fits(x: f64) -> bool
-    ensures { λ r. ⌜ r ≡ limited x ⌝ }
-{
-    if -1.0e18 <= x {
-        return x <= 1.0e18;
-    }
-    false
-}
-
 fn blocker_fits(b: DcBlocker) -> bool
     ensures { λ r. ⌜ r ≡ blockerFits b ⌝ }
 {
@@ -423,10 +412,10 @@ fn blocker_fits(b: DcBlocker) -> bool
     if log::COUNTER_LIMIT < b.n {
         return false;
     }
-    if !part_fits(level.re) {
+    if !amplitude_limit::is_limited(level.re) {
         return false;
     }
-    part_fits(level.im)
+    amplitude_limit::is_limited(level.im)
 }
 
 fn coefficient_fits(iq: Iq) -> bool

@@ -4,6 +4,7 @@ use mathlib.Core.List.{List, [], _∷_}
 use Prim.Native.Nat.{ℕ, _*_}
 use lib.Dec.{ltb, leb, eqb}
 use lib.ListN.{length, take, drop}
+use Rattle.rules.specs.Impulse.{longestRun}
 use Rattle.rules.specs.Constants.{totalLimit}
 use Rattle.rules.specs.Lists.{at}
 use Rattle.rules.specs.Log.{repairWidth}
@@ -24,7 +25,7 @@ recordIn ws place = take repairWidth (drop place ws)
 
 -- not: 'in repair undo a held record's length not 1..4 or start > 2^48'
 unfoldable pub recordFits : List ℕ → Bool
-recordFits e = ltb 0 (at e 1) && leb (at e 1) 4 && leb (at e 0) totalLimit
+recordFits e = ltb 0 (at e 1) && leb (at e 1) longestRun && leb (at e 0) totalLimit
 
 unfoldable pub recordsFit : List (List ℕ) → Bool
 recordsFit [] = true

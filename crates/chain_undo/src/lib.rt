@@ -12,6 +12,7 @@ ghost use Rattle.rules.specs.Undo.{heldRecords, returned, undone, undoneAll};
 ghost use Rattle.log.specs.View.{ringIn};
 ghost use Rattle.chain_undo.specs.Undoing.{recordIn, recordFits, recordsFit, said, undoOf};
 use chain_state::InputConditioner;
+use impulse::ImpulseSuppressor;
 use log::Ring;
 
 // How repair undo is answered.
@@ -36,7 +37,7 @@ pub fn number(answer: Undone) -> u64
 
 // Whether the record whose words begin at this place has a length of 1 to 4 and starts in range.
 fn record_fits(repairs: &[u64], place: usize) -> bool
-    requires { ⌜ place + 6 ≤ length (now repairs) ⌝ }
+    requires { ⌜ place + repairWidth ≤ length (now repairs) ⌝ }
     ensures { λ r. ⌜ r ≡ recordFits (recordIn (now (repairs .entry)) place) ⌝ }
 {
     let start = repairs[place];
@@ -44,7 +45,7 @@ fn record_fits(repairs: &[u64], place: usize) -> bool
     if len == 0 {
         return false;
     }
-    if 4 < len {
+    if len > ImpulseSuppressor::MAX_RUN as u64 {
         return false;
     }
     start <= log::TOTAL_LIMIT
@@ -80,7 +81,7 @@ fn put_back(samples: &mut [u64], first: u64, k: u64, original: u64)
 
 // The originals of the record whose words begin at this place.
 fn undo_record(samples: &mut [u64], first: u64, repairs: &[u64], place: usize)
-    requires { ⌜ place + 6 ≤ length (now repairs) ⌝ }
+    requires { ⌜ place + repairWidth ≤ length (now repairs) ⌝ }
     requires { ⌜ recordFits (recordIn (now repairs) place) ≡ true ⌝ }
     ensures { λ r.
         ⌜ now (samples .exit) ≡ undone first (recordIn (now (repairs .entry)) place) (at (recordIn (now (repairs .entry)) place) 1) (now (samples .entry)) ⌝ }

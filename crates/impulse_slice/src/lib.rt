@@ -49,33 +49,49 @@ fn counted(longruns: u64, long: bool) -> u64
 }
 
 // A judged sample of a paused block is uncertain.
-fn note_doubt(notes: Notes, doubt: bool, j: u64, spans: &mut [u64], cap: usize) -> Notes
-    requires { ⌜ Bounded cap (2 ^ 60) (record { log = notes .log; spans = now spans }) ⌝ }
+fn note_doubt(notes: Notes, doubt: bool, j: u64, spans: &mut [u64], span_capacity: usize) -> Notes
+    requires { ⌜ Bounded «span_capacity» (2 ^ 60) (record { log = notes .log; spans = now spans }) ⌝ }
     requires { ⌜ j ≤ 2 ^ 60 ⌝ }
     ensures { λ r.
-        ⌜ ((room : ℕ) (rs : List ℕ) → notedOf r (now (spans .exit)) rs ≡ noteAll cap room (notedOf notes (now (spans .entry)) rs) (doubts j doubt)) ⌝ }
+        ⌜ ((repairCapacity : ℕ) (rs : List ℕ)
+        → notedOf r (now (spans .exit)) rs ≡ noteAll «span_capacity» repairCapacity (notedOf notes (now (spans .entry)) rs) (doubts j doubt)) ⌝ }
 {
     if !doubt {
         return notes;
     }
     let log = notes.log;
-    let marked = log.mark(spans, cap, Stage::Impulse, Mark::Uncertain, j, 1);
+    let marked = log.mark(spans, span_capacity, Stage::Impulse, Mark::Uncertain, j, 1);
     let mut told = notes;
     told.log = marked;
     told
 }
 
 // A run that was kept is flagged, and a long one is counted.
-fn note_kept(notes: Notes, start: u64, len: u64, long: bool, spans: &mut [u64], cap: usize) -> Notes
-    requires { ⌜ Bounded cap (2 ^ 61) (record { log = notes .log; spans = now spans }) ⌝ }
+fn note_kept(
+    notes: Notes,
+    start: u64,
+    len: u64,
+    long: bool,
+    spans: &mut [u64],
+    span_capacity: usize,
+) -> Notes
+    requires { ⌜ Bounded «span_capacity» (2 ^ 61) (record { log = notes .log; spans = now spans }) ⌝ }
     requires { ⌜ (notes .longruns ≤ 2 ^ 61) × (start + len ≤ 2 ^ 60) ⌝ }
     ensures { λ r.
-        ⌜ ((room : ℕ) (rs : List ℕ)
-        → notedOf r (now (spans .exit)) rs ≡ noteAll cap room (notedOf notes (now (spans .entry)) rs) (filledEvents (Ended.Kept start len long))) ⌝ }
+        ⌜ ((repairCapacity : ℕ) (rs : List ℕ)
+        → notedOf r (now (spans .exit)) rs
+        ≡ noteAll «span_capacity» repairCapacity (notedOf notes (now (spans .entry)) rs) (filledEvents (Ended.Kept start len long))) ⌝ }
 {
     let log = notes.log;
     let longruns = counted(notes.longruns, long);
-    let marked = log.mark(spans, cap, Stage::Impulse, Mark::Flagged, start, len);
+    let marked = log.mark(
+        spans,
+        span_capacity,
+        Stage::Impulse,
+        Mark::Flagged,
+        start,
+        len,
+    );
     let mut told = notes;
     told.log = marked;
     told.longruns = longruns;
@@ -87,20 +103,27 @@ fn note_mended(
     notes: Notes,
     r: Repair,
     spans: &mut [u64],
-    cap: usize,
+    span_capacity: usize,
     repairs: &mut [u64],
-    room: usize,
+    repair_capacity: usize,
 ) -> Notes
-    requires { ⌜ Roomy cap room (2 ^ 61) (notedOf notes (now spans) (now repairs)) ⌝ }
+    requires { ⌜ Roomy «span_capacity» «repair_capacity» (2 ^ 61) (notedOf notes (now spans) (now repairs)) ⌝ }
     requires { ⌜ r .start + r .len ≤ 2 ^ 60 ⌝ }
     ensures { λ n.
         ⌜ notedOf n (now (spans .exit)) (now (repairs .exit))
-        ≡ noteAll cap room (notedOf notes (now (spans .entry)) (now (repairs .entry))) (filledEvents (Ended.Mended r)) ⌝ }
+        ≡ noteAll «span_capacity» «repair_capacity» (notedOf notes (now (spans .entry)) (now (repairs .entry))) (filledEvents (Ended.Mended r)) ⌝ }
 {
     let log = notes.log;
     let ring = notes.repairs;
-    let marked = log.mark(spans, cap, Stage::Impulse, Mark::Repaired, r.start, r.len);
-    let recorded = log::record_repair(ring, repairs, room, r);
+    let marked = log.mark(
+        spans,
+        span_capacity,
+        Stage::Impulse,
+        Mark::Repaired,
+        r.start,
+        r.len,
+    );
+    let recorded = log::record_repair(ring, repairs, repair_capacity, r);
     let mut told = notes;
     told.log = marked;
     told.repairs = recorded;
@@ -112,20 +135,27 @@ fn note_ended(
     notes: Notes,
     ended: Ended,
     spans: &mut [u64],
-    cap: usize,
+    span_capacity: usize,
     repairs: &mut [u64],
-    room: usize,
+    repair_capacity: usize,
 ) -> Notes
-    requires { ⌜ Roomy cap room (2 ^ 61) (notedOf notes (now spans) (now repairs)) ⌝ }
+    requires { ⌜ Roomy «span_capacity» «repair_capacity» (2 ^ 61) (notedOf notes (now spans) (now repairs)) ⌝ }
     requires { ⌜ endedEnd ended ≤ 2 ^ 60 ⌝ }
     ensures { λ r.
         ⌜ notedOf r (now (spans .exit)) (now (repairs .exit))
-        ≡ noteAll cap room (notedOf notes (now (spans .entry)) (now (repairs .entry))) (filledEvents ended) ⌝ }
+        ≡ noteAll «span_capacity» «repair_capacity» (notedOf notes (now (spans .entry)) (now (repairs .entry))) (filledEvents ended) ⌝ }
 {
     match ended {
         Ended::Going => notes,
-        Ended::Kept { start, len, long } => note_kept(notes, start, len, long, spans, cap),
-        Ended::Mended(r) => note_mended(notes, r, spans, cap, repairs, room),
+        Ended::Kept { start, len, long } => note_kept(
+            notes,
+            start,
+            len,
+            long,
+            spans,
+            span_capacity,
+        ),
+        Ended::Mended(r) => note_mended(notes, r, spans, span_capacity, repairs, repair_capacity),
     }
 }
 
@@ -136,18 +166,18 @@ fn note(
     j: u64,
     ended: Ended,
     spans: &mut [u64],
-    cap: usize,
+    span_capacity: usize,
     repairs: &mut [u64],
-    room: usize,
+    repair_capacity: usize,
 ) -> Notes
-    requires { ⌜ Roomy cap room (2 ^ 60) (notedOf notes (now spans) (now repairs)) ⌝ }
+    requires { ⌜ Roomy «span_capacity» «repair_capacity» (2 ^ 60) (notedOf notes (now spans) (now repairs)) ⌝ }
     requires { ⌜ (j ≤ 2 ^ 60) × (endedEnd ended ≤ 2 ^ 60) ⌝ }
     ensures { λ r.
         ⌜ notedOf r (now (spans .exit)) (now (repairs .exit))
-        ≡ noteAll cap room (notedOf notes (now (spans .entry)) (now (repairs .entry))) (doubts j doubt ++ filledEvents ended) ⌝ }
+        ≡ noteAll «span_capacity» «repair_capacity» (notedOf notes (now (spans .entry)) (now (repairs .entry))) (doubts j doubt ++ filledEvents ended) ⌝ }
 {
-    let first = note_doubt(notes, doubt, j, spans, cap);
-    note_ended(first, ended, spans, cap, repairs, room)
+    let first = note_doubt(notes, doubt, j, spans, span_capacity);
+    note_ended(first, ended, spans, span_capacity, repairs, repair_capacity)
 }
 
 // ---- one sample
@@ -176,18 +206,18 @@ fn take(
     pending: &mut [u64; ImpulseSuppressor::LOOKAHEAD],
     notes: Notes,
     spans: &mut [u64],
-    cap: usize,
+    span_capacity: usize,
     repairs: &mut [u64],
-    room: usize,
+    repair_capacity: usize,
 ) -> Turned
     requires { ⌜ (k < length (now samples)) × (out ≤ k) ⌝ }
     requires { ⌜ Room gate ⌝ }
     requires { ⌜ length (now sorted) ≡ windowSize ⌝ }
-    requires { ⌜ Roomy cap room (2 ^ 60) (notedOf notes (now spans) (now repairs)) ⌝ }
+    requires { ⌜ Roomy «span_capacity» «repair_capacity» (2 ^ 60) (notedOf notes (now spans) (now repairs)) ⌝ }
     ensures suppressor { λ r. ⌜ suppressorOf (r .gate) (now (window .exit)) (now (sorted .exit)) (now (pending .exit))
         ≡ step (settingOf gate) (suppressorOf gate (now (window .entry)) (now (sorted .entry)) (now (pending .entry))) (getD (now (samples .entry)) k 0) ⌝ }
     ensures noted { λ r. ⌜ notedOf (r .notes) (now (spans .exit)) (now (repairs .exit))
-        ≡ noteAll cap room (notedOf notes (now (spans .entry)) (now (repairs .entry)))
+        ≡ noteAll «span_capacity» «repair_capacity» (notedOf notes (now (spans .entry)) (now (repairs .entry)))
         (news (settingOf gate) (suppressorOf gate (now (window .entry)) (now (sorted .entry)) (now (pending .entry))) (getD (now (samples .entry)) k 0))
         ⌝ }
     ensures ready { λ r. ⌜ r .out
@@ -204,7 +234,16 @@ fn take(
     let next = p.gate;
     let answer = p.answer;
     let ended = p.ended;
-    let said = note(notes, p.uncertain, j, ended, spans, cap, repairs, room);
+    let said = note(
+        notes,
+        p.uncertain,
+        j,
+        ended,
+        spans,
+        span_capacity,
+        repairs,
+        repair_capacity,
+    );
     let behind = put(samples, out, answer);
     Turned {
         gate: next,
@@ -223,19 +262,19 @@ pub fn run(
     pending: &mut [u64; ImpulseSuppressor::LOOKAHEAD],
     notes: Notes,
     spans: &mut [u64],
-    cap: usize,
+    span_capacity: usize,
     repairs: &mut [u64],
-    room: usize,
+    repair_capacity: usize,
 ) -> Ran
     requires { ⌜ held ≤ length (now samples) ⌝ }
     requires { ⌜ (held < length (now samples) → Room first × (first .received + (length (now samples) - held) ≤ 2 ^ 50)) ⌝ }
     requires { ⌜ length (now sorted) ≡ windowSize ⌝ }
-    requires { ⌜ Roomy cap room (2 ^ 52) (notedOf notes (now spans) (now repairs)) ⌝ }
+    requires { ⌜ Roomy «span_capacity» «repair_capacity» (2 ^ 52) (notedOf notes (now spans) (now repairs)) ⌝ }
     ensures suppressor { λ r. ⌜ suppressorOf (r .gate) (now (window .exit)) (now (sorted .exit)) (now (pending .exit))
         ≡ stateAfter (settingOf first) (suppressorOf first (now (window .entry)) (now (sorted .entry)) (now (pending .entry)))
         (drop held (now (samples .entry))) ⌝ }
     ensures noted { λ r. ⌜ notedOf (r .notes) (now (spans .exit)) (now (repairs .exit))
-        ≡ noteAll cap room (notedOf notes (now (spans .entry)) (now (repairs .entry)))
+        ≡ noteAll «span_capacity» «repair_capacity» (notedOf notes (now (spans .entry)) (now (repairs .entry)))
         (told (settingOf first) (suppressorOf first (now (window .entry)) (now (sorted .entry)) (now (pending .entry)))
         (drop held (now (samples .entry)))) ⌝ }
     ensures ready { λ r. ⌜ r .ready
@@ -261,9 +300,9 @@ pub fn run(
             pending,
             said,
             spans,
-            cap,
+            span_capacity,
             repairs,
-            room,
+            repair_capacity,
         );
         gate = t.gate;
         said = t.notes;

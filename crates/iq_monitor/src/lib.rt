@@ -338,12 +338,15 @@ fn is_due(fs: f64, first: u64, end: u64) -> bool
     length <= end - first
 }
 
-// Whether a monitor word is within 1e60.
+// The largest size of a monitor word.
+const WORD_LIMIT: f64 = 1.0e60;
+
+// Whether a monitor word is within it.
 fn word_fits(x: f64) -> bool
     ensures { λ r. ⌜ r ≡ sumFits x ⌝ }
 {
-    if -1.0e60 <= x {
-        return x <= 1.0e60;
+    if -WORD_LIMIT <= x {
+        return x <= WORD_LIMIT;
     }
     false
 }

@@ -6,7 +6,7 @@ ghost use mathlib.Core.Bool.{true};
 ghost use mathlib.Core.List.{List, [], _∷_};
 ghost use Prim.Native.Nat.{ℕ, _+_, _-_, _*_, _%_, _<_, _^_, min};
 ghost use lib.ListN.{length, getD};
-ghost use Rattle.rules.specs.Log.{Sound, storeWidth};
+ghost use Rattle.rules.specs.Log.{Sound, repairWidth, storeWidth};
 ghost use Rattle.rules.specs.Log.{spansOf};
 ghost use Rattle.rules.specs.Log.{ringNumber, stageNumber, markNumber, spanOf, joins, lengthened, roomed, append, mark};
 ghost use Rattle.log.specs.View.{stageOf, markOf, ringIn, marksIn, Logged, freshRing, freshLog, freshNotes, markedAt, wordsOfRepair};
@@ -309,7 +309,7 @@ impl Log {
 
 // A repair, behind the others.
 pub fn record_repair(ring: Ring, repairs: &mut [u64], capacity: usize, r: Repair) -> Ring
-    requires { ⌜ Open 6 capacity (ringIn ring (now repairs)) ⌝ }
+    requires { ⌜ Open repairWidth capacity (ringIn ring (now repairs)) ⌝ }
     ensures { λ q. ⌜ ringIn q (now (repairs .exit)) ≡ append capacity (ringIn ring (now (repairs .entry))) (wordsOfRepair r) ⌝ }
 {
     let q = ring.with_room(capacity);

@@ -1,15 +1,15 @@
 // A chain as words with small stores of its own, how an operation on it ended, and whether it left what it must.
 
+use chain_words::STATE_WORDS;
 use libc::STDOUT_FILENO;
-use test_state_words::ACCEPTED;
-use test_state_words::NOTHING;
-use test_state_words::REPORTED;
-use test_state_words::Told;
-use test_state_words::WORDS;
+use test_operations::ACCEPTED;
+use test_operations::NOTHING;
+use test_operations::REPORTED;
+use test_operations::Told;
 
 // A state's words, and stores one word longer than those of 2 spans, 2 repairs and 8 channels.
 pub struct Bench {
-    pub state: [u64; WORDS],
+    pub state: [u64; STATE_WORDS],
     pub spans: [u64; 49],
     pub repairs: [u64; 13],
     pub monitor: [f64; 33],

@@ -3,8 +3,8 @@
 // that did not leave as it was what it must.
 //
 // Standard input has a line for each: the letter of a chain, the cause, and the words that the chain is given,
-// as `a|block length 1001 of rate 1000.5|0=408f440000000000 8=3e9`. A word is its place in decimal and its bits in
-// hexadecimal. `test_state_words` has the places of a state; 170 to 217 is the span store, 218 to 249 the monitor's, 250 to
+// as `a|block length 1001 of rate 1000.5|0=408f440000000000 10=3e9`. A word is its place in decimal and its bits in
+// hexadecimal. `chain_words` has the places of a state; 170 to 217 is the span store, 218 to 249 the monitor's, 250 to
 // 261 the repair store.
 
 use crate::bench::Bench;
@@ -18,7 +18,7 @@ use crate::operations::undo;
 use libc::STDIN_FILENO;
 use libc::STDOUT_FILENO;
 use stage_mode::StageMode;
-use test_state_words::ACCEPTED;
+use test_operations::ACCEPTED;
 
 // The sample (1, 0).
 const ONE: u64 = 0x3f80_0000;
@@ -119,7 +119,7 @@ fn show_undo(b: Bench) {
 // How a call, a hop and repair undo on this chain are answered, and the line's end.
 fn show_chain(b: Bench) {
     let mut state = b.state;
-    test_state_words::settle(&mut state);
+    test_operations::settle(&mut state);
     let mut given = b;
     given.state = state;
     show_call(given);

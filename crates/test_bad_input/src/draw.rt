@@ -2,9 +2,9 @@
 // the same words.
 
 use chain_config::ConditioningConfig;
+use chain_words::mode_at;
 use iq::Calibration;
 use iq::IqCalibration;
-use test_state_words::mode;
 
 // Xorshift: the seed of the next turn.
 pub fn shifted(x: u64) -> u64 {
@@ -129,9 +129,9 @@ fn any_calibration(seed: u64) -> Calibration {
 
 pub fn configuration(seed: u64) -> ConditioningConfig {
     ConditioningConfig {
-        impulse: mode(drawn(seed, 129) % 3),
-        dc: mode(drawn(seed, 130) % 3),
-        iq: mode(drawn(seed, 131) % 3),
+        impulse: mode_at(drawn(seed, 129) % 3),
+        dc: mode_at(drawn(seed, 130) % 3),
+        iq: mode_at(drawn(seed, 131) % 3),
         fs: any_float(seed, 120, usual_rate(drawn(seed, 121) % 4)),
         centre: 100.0,
         n: any_word(seed, 122, 8) as usize,

@@ -9,14 +9,14 @@ use crate::bench::UNDO;
 use crate::bench::ended;
 use crate::bench::same_behind;
 use chain_config::ConditioningConfig;
+use chain_words::STATE_WORDS;
 use iq::Calibration;
 use stage_mode::StageMode;
-use test_state_words::ACCEPTED;
-use test_state_words::Lent;
-use test_state_words::Told;
-use test_state_words::WORDS;
-use test_state_words::plain;
-use test_state_words::told_hop;
+use test_operations::ACCEPTED;
+use test_operations::Lent;
+use test_operations::Told;
+use test_operations::plain;
+use test_operations::told_hop;
 
 // What a chain of 2 spans, 2 repairs and 8 channels asks.
 pub fn asked() -> Lent {
@@ -35,7 +35,7 @@ pub fn make(b: Bench, config: ConditioningConfig, lent: Lent) -> Tried {
     let mut spans = b.spans;
     let mut repairs = b.repairs;
     let mut monitor = b.monitor;
-    let number = test_state_words::make(
+    let number = test_operations::make(
         config,
         &mut state,
         &mut spans,
@@ -55,7 +55,7 @@ pub fn make(b: Bench, config: ConditioningConfig, lent: Lent) -> Tried {
 // Stores of zeros, and no state yet.
 fn empty() -> Bench {
     Bench {
-        state: [0u64; WORDS],
+        state: [0u64; STATE_WORDS],
         spans: [0u64; 49],
         repairs: [0u64; 13],
         monitor: [0.0f64; 33],
@@ -96,7 +96,7 @@ pub fn call(b: Bench, given: [u64; 64], length: usize, lent: Lent) -> Tried {
     let mut repairs = b.repairs;
     let monitor = b.monitor;
     let mut samples = given;
-    let told = test_state_words::call(
+    let told = test_operations::call(
         &mut state,
         &mut samples,
         length,
@@ -123,15 +123,7 @@ pub fn hop(b: Bench, x: [u64; 64], count: usize, start: u64, lent: Lent) -> Trie
     let mut spans = b.spans;
     let repairs = b.repairs;
     let mut monitor = b.monitor;
-    let answer = test_state_words::hop(
-        &mut state,
-        &x,
-        count,
-        start,
-        &mut spans,
-        &mut monitor,
-        lent,
-    );
+    let answer = test_operations::hop(&mut state, &x, count, start, &mut spans, &mut monitor, lent);
     let left = Bench {
         state,
         spans,
@@ -148,7 +140,7 @@ pub fn undo(b: Bench, given: [u64; 64], lent: Lent) -> Tried {
     let state = b.state;
     let repairs = b.repairs;
     let mut samples = given;
-    let told = test_state_words::undo_repairs(&state, &repairs, lent.repairs, &mut samples, 0);
+    let told = test_operations::undo_repairs(&state, &repairs, lent.repairs, &mut samples, 0);
     let mut out = ended(UNDO, told, b, b);
     out.good = (told.number == ACCEPTED) | same_behind(&given, &samples, 0);
     out

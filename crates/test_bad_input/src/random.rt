@@ -10,19 +10,19 @@ use crate::draw::drawn;
 use crate::operations;
 use crate::operations::asked;
 use crate::spoil::spoilt;
+use chain_words::CHANNELS;
+use chain_words::END;
+use chain_words::HELD;
 use libc::STDOUT_FILENO;
 use stage_mode::StageMode;
-use test_state_words::CHANNELS;
-use test_state_words::END;
-use test_state_words::HELD;
-use test_state_words::Lent;
+use test_operations::Lent;
 
 const TURNS: u64 = 24000;
 
-// The counts: 32 for each operation, at the number of its answer, and that of refusals that did not leave all as it was.
-const COUNTS: usize = 97;
+// The counts: 128 for each operation, at the number of its answer, and that of refusals that did not leave all as it was.
+const COUNTS: usize = 385;
 
-const CHANGED: usize = 96;
+const CHANGED: usize = 384;
 
 // ---- a turn
 
@@ -78,7 +78,7 @@ fn add(counts: &mut [u64; COUNTS], at: usize, n: u64) {
 fn next(b: Bench, seed: u64, counts: &mut [u64; COUNTS]) -> Bench {
     let f = drawn(seed, 170) % 16;
     let t = turn(b, seed, f);
-    add(counts, (t.op % 3 * 32 + t.number % 32) as usize, 1);
+    add(counts, (t.op % 3 * 128 + t.number % 128) as usize, 1);
     add(counts, CHANGED, !t.good as u64);
     if f < 9 {
         return t.bench;
@@ -125,7 +125,7 @@ fn print_count(op: u64, number: u64, count: u64) {
 
 fn print(counts: &[u64; COUNTS]) {
     for k in 0..CHANGED {
-        print_count(k as u64 / 32, k as u64 % 32, counts[k]);
+        print_count(k as u64 / 128, k as u64 % 128, counts[k]);
     }
 }
 

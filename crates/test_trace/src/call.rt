@@ -7,17 +7,17 @@ use crate::SPAN_WORDS;
 use crate::chain::lent;
 use crate::words::show_first;
 use crate::words::shown;
+use crate::words::word;
 use crate::words::write_front;
-use test_state_words::HELD;
-use test_state_words::RECEIVED;
-use test_state_words::RELEASED;
-use test_state_words::RUN;
-use test_state_words::SEEN;
-use test_state_words::Told;
-use test_state_words::WORDS;
-use test_state_words::at_most;
-use test_state_words::part;
-use test_state_words::word;
+use chain_words::HELD;
+use chain_words::RECEIVED;
+use chain_words::RELEASED;
+use chain_words::RUN;
+use chain_words::SEEN;
+use chain_words::STATE_WORDS;
+use test_operations::Told;
+use test_operations::at_most;
+use test_operations::part;
 
 // How many places stand in front: as many as are held, where the word is all ones.
 fn places(w: u64, held: usize) -> usize {
@@ -52,7 +52,7 @@ fn lay_out(slice: &mut [u64], front: usize, input: &[u64]) -> usize {
 }
 
 // The state that a call is handed: as it is, or as if it had seen so many samples.
-fn hand(state: &mut [u64; WORDS], seen: u64) {
+fn hand(state: &mut [u64; STATE_WORDS], seen: u64) {
     if seen == 0 {
         return;
     }
@@ -63,7 +63,7 @@ fn hand(state: &mut [u64; WORDS], seen: u64) {
 }
 
 // The answer, how much was seen, released and held, and how long the slice is.
-fn front(told: Told, state: &[u64; WORDS], n: usize, how: u64) -> [u64; 8] {
+fn front(told: Told, state: &[u64; STATE_WORDS], n: usize, how: u64) -> [u64; 8] {
     [
         3,
         told.number,
@@ -76,7 +76,7 @@ fn front(told: Told, state: &[u64; WORDS], n: usize, how: u64) -> [u64; 8] {
     ]
 }
 
-fn write_call(told: Told, state: &[u64; WORDS], slice: &[u64], length: usize, how: u64) {
+fn write_call(told: Told, state: &[u64; STATE_WORDS], slice: &[u64], length: usize, how: u64) {
     let n = part(slice, length);
     write_front(front(told, state, n, how));
     show_first(slice, n, how);
@@ -84,7 +84,7 @@ fn write_call(told: Told, state: &[u64; WORDS], slice: &[u64], length: usize, ho
 
 // The state before stays where another one was handed over.
 pub fn call(
-    state: &mut [u64; WORDS],
+    state: &mut [u64; STATE_WORDS],
     head: Head,
     input: &[u64],
     spans: &mut [u64; SPAN_WORDS],
@@ -95,7 +95,7 @@ pub fn call(
     hand(&mut handed, head.d);
     let front = places(head.c, handed[HELD] as usize);
     let length = lay_out(&mut slice, front, input);
-    let told = test_state_words::call(
+    let told = test_operations::call(
         &mut handed,
         &mut slice,
         length,

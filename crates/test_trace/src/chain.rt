@@ -5,19 +5,19 @@ use crate::MONITOR_WORDS;
 use crate::REPAIR_WORDS;
 use crate::SPAN_WORDS;
 use crate::words::answer_plain;
+use crate::words::float;
+use crate::words::word;
 use crate::words::write_front;
 use crate::words::write_words;
 use chain_config::ConditioningConfig;
+use chain_words::STATE_WORDS;
+use chain_words::mode_at;
+use chain_words::mode_word;
 use iq::Calibration;
 use iq::IqCalibration;
 use stage_mode::StageMode;
-use test_state_words::Lent;
-use test_state_words::WORDS;
-use test_state_words::float;
-use test_state_words::mode;
-use test_state_words::mode_word;
-use test_state_words::plain;
-use test_state_words::word;
+use test_operations::Lent;
+use test_operations::plain;
 
 // ---- a configuration of twelve words
 
@@ -34,9 +34,9 @@ fn calibration(w: &[u64]) -> Calibration {
 
 fn configuration(w: &[u64]) -> ConditioningConfig {
     ConditioningConfig {
-        impulse: mode(word(w, 0)),
-        dc: mode(word(w, 1)),
-        iq: mode(word(w, 2)),
+        impulse: mode_at(word(w, 0)),
+        dc: mode_at(word(w, 1)),
+        iq: mode_at(word(w, 2)),
         fs: float(w, 3),
         centre: float(w, 4),
         n: word(w, 5) as usize,
@@ -98,14 +98,14 @@ pub fn lent(spans: u64, repairs: u64, monitor: u64) -> Lent {
 
 // The new chain, or the one before where none was made.
 pub fn make(
-    state: &mut [u64; WORDS],
+    state: &mut [u64; STATE_WORDS],
     head: Head,
     input: &[u64],
     spans: &mut [u64; SPAN_WORDS],
     repairs: &mut [u64; REPAIR_WORDS],
     monitor: &mut [f64; MONITOR_WORDS],
 ) {
-    let number = test_state_words::make(
+    let number = test_operations::make(
         configuration(input),
         state,
         spans,
@@ -117,7 +117,7 @@ pub fn make(
 }
 
 // The words of the chain before the first making.
-pub fn first() -> [u64; WORDS] {
+pub fn first() -> [u64; STATE_WORDS] {
     let config = ConditioningConfig {
         impulse: StageMode::Apply,
         dc: StageMode::Apply,
@@ -129,11 +129,11 @@ pub fn first() -> [u64; WORDS] {
         spans: 2,
         repairs: 2,
     };
-    let mut state = [0u64; WORDS];
+    let mut state = [0u64; STATE_WORDS];
     let mut spans = [0u64; 48];
     let mut repairs = [0u64; 12];
     let mut monitor = [0.0f64; 32];
-    test_state_words::make(
+    test_operations::make(
         config,
         &mut state,
         &mut spans,

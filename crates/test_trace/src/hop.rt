@@ -7,9 +7,9 @@ use crate::chain::lent;
 use crate::words::write_front;
 use crate::words::write_words;
 use chain_hop::HopSaid;
+use chain_words::STATE_WORDS;
 use iq_monitor::Evidence;
-use test_state_words::WORDS;
-use test_state_words::told_hop;
+use test_operations::told_hop;
 
 fn write_evidence(e: Evidence) {
     let words = [
@@ -39,13 +39,13 @@ fn write_hop(answer: HopSaid) {
 }
 
 pub fn hop(
-    state: &mut [u64; WORDS],
+    state: &mut [u64; STATE_WORDS],
     head: Head,
     input: &[u64],
     spans: &mut [u64; SPAN_WORDS],
     monitor: &mut [f64; MONITOR_WORDS],
 ) {
-    let answer = test_state_words::hop(
+    let answer = test_operations::hop(
         state,
         input,
         input.len(),

@@ -10,9 +10,9 @@ mod shown;
 mod undoing;
 mod words;
 
-use test_state_words::WORDS;
-use test_state_words::part;
-use test_state_words::plain;
+use chain_words::STATE_WORDS;
+use test_operations::part;
+use test_operations::plain;
 use words::answer_plain;
 use words::read_words;
 
@@ -101,7 +101,7 @@ fn read_input(head: Head, input: &mut [u64]) -> bool {
 }
 
 fn answer(
-    state: &mut [u64; WORDS],
+    state: &mut [u64; STATE_WORDS],
     head: Head,
     input: &mut [u64],
     spans: &mut [u64; SPAN_WORDS],
@@ -131,7 +131,7 @@ fn answer(
 // One operation, and how many more may follow: none at the end of the input.
 fn turn(
     left: u64,
-    state: &mut [u64; WORDS],
+    state: &mut [u64; STATE_WORDS],
     spans: &mut [u64; SPAN_WORDS],
     repairs: &mut [u64; REPAIR_WORDS],
     monitor: &mut [f64; MONITOR_WORDS],

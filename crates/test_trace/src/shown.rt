@@ -5,21 +5,26 @@ use crate::MONITOR_WORDS;
 use crate::words::answer_plain;
 use crate::words::bits;
 use crate::words::show_first;
+use crate::words::write_between;
 use crate::words::write_front;
 use crate::words::write_words;
 use chain_log::ConditioningLog;
 use chain_log::DcLevel;
 use chain_log::SpanRead;
+use chain_words::APPLY;
+use chain_words::COEFFICIENT;
+use chain_words::RINGS;
+use chain_words::SEEN;
+use chain_words::STATE_WORDS;
+use chain_words::WINDOW;
+use chain_words::iq_words;
 use complex::Complex64;
 use log::Mark;
 use log::Ring;
 use log::Stage;
-use test_state_words::STAGES;
-use test_state_words::WORDS;
-use test_state_words::coefficient;
-use test_state_words::iq_word;
-use test_state_words::part;
-use test_state_words::plain;
+use test_operations::NOTHING;
+use test_operations::part;
+use test_operations::plain;
 
 // ---- the log
 
@@ -71,20 +76,22 @@ fn write_log(log: ConditioningLog) {
     write_rings(log);
     write_counts(log);
     write_level(level);
-    write_complex(iq_word(iq), coefficient(iq));
+    write_words(&iq_words(iq));
 }
 
-pub fn log(state: &[u64; WORDS]) {
+pub fn log(state: &[u64; STATE_WORDS]) {
     write_front([5, 0, 0, 0, 0, 0, 0, 62]);
-    write_log(chain_log::log(test_state_words::read_state(state)));
+    write_log(chain_log::log(chain_words::read_state(state)));
 }
 
 // ---- the state
 
-// The settings, but for the coefficient, and the stages.
-pub fn state(state: &[u64; WORDS]) {
+// The settings, but for the coefficient; the stages' numbers; the suppressor's arrays.
+pub fn state(state: &[u64; STATE_WORDS]) {
     write_front([6, 0, 0, 0, 0, 0, 0, 113]);
-    show_first(state, STAGES, 0);
+    write_between(state, 0, COEFFICIENT);
+    write_between(state, APPLY, SEEN);
+    write_between(state, WINDOW, RINGS);
 }
 
 // ---- the stores
@@ -130,14 +137,14 @@ fn kind(w: u64) -> Mark {
 fn write_span(read: SpanRead) {
     match read {
         SpanRead::Held(s) => answer_plain(8, plain(0), s.start, s.len),
-        _ => answer_plain(8, plain(20), 0, 0),
+        _ => answer_plain(8, plain(NOTHING), 0, 0),
     }
 }
 
-pub fn span(state: &[u64; WORDS], head: Head, spans: &[u64]) {
+pub fn span(state: &[u64; STATE_WORDS], head: Head, spans: &[u64]) {
     let a = part(spans, head.d as usize);
     let read = chain_log::span(
-        test_state_words::read_state(state),
+        chain_words::read_state(state),
         &spans[..a],
         stage(head.a),
         kind(head.b),

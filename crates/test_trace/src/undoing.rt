@@ -5,17 +5,17 @@ use crate::SLICE_WORDS;
 use crate::call::fill;
 use crate::words::answer_plain;
 use crate::words::answer_slice;
+use chain_words::STATE_WORDS;
 use complex::Complex64;
 use iq::IqCalibration;
-use test_state_words::Told;
-use test_state_words::WORDS;
-use test_state_words::part;
-use test_state_words::plain;
+use test_operations::Told;
+use test_operations::part;
+use test_operations::plain;
 
 // ---- repairs
 
-pub fn repairs(state: &[u64; WORDS], head: Head, input: &mut [u64], repairs: &[u64]) {
-    let told = test_state_words::undo_repairs(state, repairs, head.b as usize, input, head.a);
+pub fn repairs(state: &[u64; STATE_WORDS], head: Head, input: &mut [u64], repairs: &[u64]) {
+    let told = test_operations::undo_repairs(state, repairs, head.b as usize, input, head.a);
     answer_slice(9, told, input, head.how);
 }
 

@@ -6,8 +6,9 @@ ghost use lib.ListN.{length};
 use crate::MONITOR_WORDS;
 use libc::STDIN_FILENO;
 use libc::STDOUT_FILENO;
-use test_state_words::Told;
-use test_state_words::part;
+use test_operations::Told;
+use test_operations::at_most;
+use test_operations::part;
 
 // How many words go at once, of so many.
 fn at_once(left: usize) -> usize
@@ -18,6 +19,21 @@ fn at_once(left: usize) -> usize
         return 512;
     }
     left
+}
+
+// ---- one word of a list
+
+// Word k, 0 behind the end.
+pub fn word(words: &[u64], k: usize) -> u64 {
+    if k < words.len() {
+        return words[k];
+    }
+    0
+}
+
+// The float of word k.
+pub fn float(words: &[u64], k: usize) -> f64 {
+    ieee::from_bits64(word(words, k))
 }
 
 // ---- reading
@@ -101,6 +117,13 @@ pub fn write_words(words: &[u64]) {
         write_part(&words[k..e]);
         k = e;
     }
+}
+
+// The words from one place to another, as far as there are any.
+pub fn write_between(words: &[u64], from: usize, to: usize) {
+    let e = part(words, to);
+    let k = at_most(from, e);
+    write_words(&words[k..e]);
 }
 
 // The words in front of an answer: the operation, its number and value, four that belong to it, and how many

@@ -142,11 +142,12 @@ fn evidence(r: &ImageResult) -> Vec<u64> {
 }
 
 /// An answer that names nothing but its number.
-fn plain(number: u64) -> Answer {
+pub fn plain(number: u64) -> Answer {
     said(number, 0)
 }
 
-fn said(number: u64, value: u64) -> Answer {
+/// One that names its number and a value.
+pub fn said(number: u64, value: u64) -> Answer {
     Answer {
         front: [0, number, value, 0, 0, 0, 0, 0],
         words: Vec::new(),
@@ -158,13 +159,14 @@ fn refused(r: Refusal) -> Answer {
 }
 
 /// With a slice, whole or as a digest.
-fn with_slice(mut answer: Answer, how: u64, slice: Vec<u64>) -> Answer {
+pub fn with_slice(mut answer: Answer, how: u64, slice: Vec<u64>) -> Answer {
     answer.front[6] = slice.len() as u64;
     answer.words = whole_or_digest(how, slice);
     answer
 }
 
-fn whole_or_digest(how: u64, words: Vec<u64>) -> Vec<u64> {
+/// The words themselves, or their digest.
+pub fn whole_or_digest(how: u64, words: Vec<u64>) -> Vec<u64> {
     if how == 1 {
         vec![digest(&words)]
     } else {

@@ -1,19 +1,19 @@
-//! The trace: a list of operations as words, and each operation's answer as words. The proved program
-//! `test_trace` reads the same operations and has to write the same answers, to the last bit.
+//! The trace: a list of operations as words, and each operation's answer as words. The C library
+//! (`compare/run`) and the proved program `test_trace` have to give the same answers, to the last bit.
 //!
 //! All words are u64, little-endian. An operation is eight words, `op how a b c d e len`, and `len`
 //! words behind them; an answer is eight, `op number value p q r s m`, and `m` behind them.
 //!
 //! | op | a b c d | words | number, value, p q r s, words of the answer |
 //! |---|---|---|---|
-//! | 1 make | lent spans, repairs, monitor words | configuration | 0 made, 20 nothing, 1 to 4 |
+//! | 1 make | lent spans, repairs, monitor words | configuration | 0 made, 100 nothing, 1 to 4 |
 //! | 2 config | | configuration | whether all is off; `observing` of it |
 //! | 3 call | lent spans, repairs; places in front; seen | new samples | 0, 4 to 8; ready or place; seen, released, held, length; slice |
-//! | 4 hop | start; lent spans, monitor words | channels | 0 no report, 21 report, 20 nothing, 4, 5, 7, 9; place; evidence |
+//! | 4 hop | start; lent spans, monitor words | channels | 0 no report, 101 report, 100 nothing, 4, 5, 7, 9; place; evidence |
 //! | 5 log | | | the log |
 //! | 6 state | | | the state |
 //! | 7 stores | words of spans, repairs, monitor | | p q r as given; these words |
-//! | 8 span | stage, mark, number, lent spans | | 0, 20 none; start, length |
+//! | 8 span | stage, mark, number, lent spans | | 0, 100 none; start, length |
 //! | 9 undo | first sample, lent repairs | samples | 0, 4, 5; slice |
 //! | 10 DC undo | rate, length of the output | samples | 0, 1, 4, 7; place; output |
 //! | 11 IQ undo | coefficient re, im | samples | 0, 7, 10; place; slice |
@@ -63,8 +63,8 @@ pub const MONITOR_WORDS: usize = 8196;
 /// A call's `c`: as many places as are held.
 pub const AS_HELD: u64 = u64::MAX;
 /// What an operation answers by nothing, and by a report.
-pub const NOTHING: u64 = 20;
-pub const REPORT: u64 = 21;
+pub const NOTHING: u64 = 100;
+pub const REPORT: u64 = 101;
 
 /// One operation.
 #[derive(Debug, Clone, PartialEq, Eq)]

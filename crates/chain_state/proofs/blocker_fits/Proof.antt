@@ -12,22 +12,22 @@ returns : tie.Need-returns
 unfolding blockerFits
 returns c = three _ _ _ false _ _ (lt-leb _ _ (c .if1 .taken)) refl refl
 
-part-fits-requires : tie.Need-part-fits-requires
-part-fits-requires c κs = search needs
+is-limited-requires : tie.Need-is-limited-requires
+is-limited-requires c κs = search needs
 
 returns-2 : tie.Need-returns-2
 unfolding blockerFits
-returns-2 c = three _ _ _ true false _ (le-leb _ _ (c .before .before .if1 .left)) (sym (c .before .part-fits .ensures) ∙ not-true _ (c .if2 .taken)) refl
+returns-2 c = three _ _ _ true false _ (le-leb _ _ (c .before .before .if1 .left)) (sym (c .before .is-limited .ensures) ∙ not-true _ (c .if2 .taken)) refl
 
-part-fits-requires-2 : tie.Need-part-fits-requires-2
-part-fits-requires-2 c κs = search needs
+is-limited-requires-2 : tie.Need-is-limited-requires-2
+is-limited-requires-2 c κs = search needs
 
 returns-3 : tie.Need-returns-3
 unfolding blockerFits
 returns-3 c =
     three _ _ _ true true _ (le-leb _ _ (c .before .before .before .if1 .left))
-    (sym (c .before .before .part-fits .ensures) ∙ not-false _ (c .before .if2 .left)) (sym (c .part-fits2 .ensures))
+    (sym (c .before .before .is-limited .ensures) ∙ not-false _ (c .before .if2 .left)) (sym (c .is-limited2 .ensures))
 
 pub blocker-fits-spec : {M : Type 1} → statement M
 blocker-fits-spec =
-    tie.close (tie.spec returns part-fits-requires returns-2 part-fits-requires-2 returns-3)
+    tie.close (tie.spec returns is-limited-requires returns-2 is-limited-requires-2 returns-3)

@@ -2,12 +2,13 @@
 use mathlib.Core.Path.{_≡_, refl, sym, ap, _∙_}
 use mathlib.Core.Bool.{Bool, true, false, _&&_}
 use mathlib.Core.List.{List}
-use Prim.Native.Nat.{ℕ, _+_, _^_, _≤_, _<_}
+use Prim.Native.Nat.{ℕ, _+_, _≤_, _<_}
 use native.Mathlib.Omega.{arith}
 use borrow.Author.Needs.{needs}
 use borrow.Author.Tests.{lt-ltb, le-ltb, le-leb, lt-leb}
 use denote.Ref.{now}
 use lib.Dec.{leb, ltb}
+use Rattle.rules.specs.Impulse.{longestRun}
 use Rattle.rules.specs.Lists.{at}
 use Rattle.rules.specs.Constants.{totalLimit}
 use Rattle.chain_undo.specs.Undoing.{recordIn, recordFits}
@@ -32,22 +33,22 @@ shared-slice-read-len c = search needs
 
 -- the record's tests by those of the words read
 module _ (ws : List ℕ) (place : ℕ) where
-  read-by : (a b d : Bool) → ltb 0 (at ws (place + 1)) ≡ a → leb (at ws (place + 1)) 4 ≡ b → leb (at ws place) totalLimit ≡ d
+  read-by : (a b d : Bool) → ltb 0 (at ws (place + 1)) ≡ a → leb (at ws (place + 1)) longestRun ≡ b → leb (at ws place) totalLimit ≡ d
       → recordFits (recordIn ws place) ≡ (a && b && d)
   read-by a b d p q r =
       record-by (recordIn ws place) a b d
       (ap (ltb 0) (record-length ws place) ∙ p)
-      (ap (λ (n : ℕ). leb n 4) (record-length ws place) ∙ q)
+      (ap (λ (n : ℕ). leb n longestRun) (record-length ws place) ∙ q)
       (ap (λ (n : ℕ). leb n totalLimit) (record-start ws place) ∙ r)
 
   no-length : at ws (place + 1) ≡ 0 → false ≡ recordFits (recordIn ws place)
   no-length z = sym (read-by false _ _ (le-ltb 0 (at ws (place + 1)) (omega arith)) refl refl)
 
-  too-long : 4 < at ws (place + 1) → false ≡ recordFits (recordIn ws place)
-  too-long h = sym (read-by true false _ (lt-ltb 0 (at ws (place + 1)) (omega arith)) (lt-leb (at ws (place + 1)) 4 h) refl)
+  too-long : longestRun < at ws (place + 1) → false ≡ recordFits (recordIn ws place)
+  too-long h = sym (read-by true false _ (lt-ltb 0 (at ws (place + 1)) (omega arith)) (lt-leb (at ws (place + 1)) longestRun h) refl)
 
-  by-start : (at ws (place + 1) ≡ 0 → ⊥) → at ws (place + 1) ≤ 4 → leb (at ws place) totalLimit ≡ recordFits (recordIn ws place)
-  by-start z h = sym (read-by true true _ (lt-ltb 0 (at ws (place + 1)) (omega arith)) (le-leb (at ws (place + 1)) 4 h) refl)
+  by-start : (at ws (place + 1) ≡ 0 → ⊥) → at ws (place + 1) ≤ longestRun → leb (at ws place) totalLimit ≡ recordFits (recordIn ws place)
+  by-start z h = sym (read-by true true _ (lt-ltb 0 (at ws (place + 1)) (omega arith)) (le-leb (at ws (place + 1)) longestRun h) refl)
 
 returns : tie.Need-returns
 returns c = let a = c .before .before .before .args in no-length (now (a .repairs)) (a .place) (c .if1 .taken)

@@ -9,6 +9,7 @@ use borrow.Author.Needs.{needs}
 use borrow.Author.Tests.{not-true, not-false}
 use denote.Ref.{now}
 use lib.ListN.{length}
+use Rattle.rules.specs.Log.{repairWidth}
 use Rattle.log.specs.Check.{allTo}
 use Rattle.log.specs.laws.CheckLaws.{all-next, all-not}
 use Rattle.log.specs.View.{ringIn}
@@ -27,7 +28,7 @@ abbrev μ-loop : tie.MeasureT-loop
 μ-loop repairs capacity head held i₀ i = held - i
 
 -- a record's words are in the slice
-inside : (c : tie.Start Inv-loop μ-loop) (i : ℕ) → let a = c .args in placeOf (a .capacity) (a .ring .head) i + 6 ≤ length (now (a .repairs))
+inside : (c : tie.Start Inv-loop μ-loop) (i : ℕ) → let a = c .args in placeOf (a .capacity) (a .ring .head) i + repairWidth ≤ length (now (a .repairs))
 inside c i = let a = c .args in place-in (a .capacity) (ringIn (a .ring) (now (a .repairs))) i (c .pre)
 
 loop-holds : tie.Need-loop-holds Inv-loop μ-loop

@@ -1,11 +1,12 @@
 -- `chain_undo::undo_record` puts one original back a turn. Assumes nothing.
 use mathlib.Core.Path.{_≡_, refl, sym, ap, _∙_}
 use mathlib.Core.List.{List}
-use Prim.Native.Nat.{ℕ, _+_, _-_, _^_, _≤_, _<_}
+use Prim.Native.Nat.{ℕ, _+_, _-_, _≤_, _<_}
 use native.Mathlib.Omega.{arith}
 use borrow.Author.Needs.{needs}
 use denote.Ref.{now}
 use lib.ListN.{length}
+use Rattle.rules.specs.Impulse.{longestRun}
 use Rattle.rules.specs.Lists.{at}
 use Rattle.rules.specs.Undo.{undone}
 use Rattle.rules.specs.Constants.{totalLimit}
@@ -22,7 +23,7 @@ abbrev μ-loop : tie.MeasureT-loop
 μ-loop samples₀ first repairs place start len t₀ samples t = len - t
 
 -- the words read keep to number 5's rule
-read-length : (ws : List ℕ) (place : ℕ) → Fit (recordIn ws place) → at ws (place + 1) ≤ 4
+read-length : (ws : List ℕ) (place : ℕ) → Fit (recordIn ws place) → at ws (place + 1) ≤ longestRun
 read-length ws place f = let e = record-length ws place in omega (arith, f .short)
 
 read-start : (ws : List ℕ) (place : ℕ) → Fit (recordIn ws place) → at ws place ≤ totalLimit
@@ -32,7 +33,7 @@ read-start ws place f = let e = record-start ws place in omega (arith, f .early)
 fit : (c : tie.Start Inv-loop μ-loop) → Fit (recordIn (now (c .args .repairs)) (c .args .place))
 fit c = record-fit (recordIn (now (c .args .repairs)) (c .args .place)) (c .pre .1)
 
-few : (c : tie.In-loop Inv-loop μ-loop) → c .before .loop .t < 4
+few : (c : tie.In-loop Inv-loop μ-loop) → c .before .loop .t < longestRun
 few c =
     let s = c .before .before .before .before .before .before in
     omega (arith, c .loop-test .taken, read-length (now (s .args .repairs)) (s .args .place) (fit s))

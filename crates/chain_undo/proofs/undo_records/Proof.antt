@@ -5,6 +5,7 @@ use Prim.Native.Nat.{ℕ, _+_, _-_, _≤_}
 use native.Mathlib.Omega.{arith}
 use denote.Ref.{now}
 use lib.ListN.{length}
+use Rattle.rules.specs.Log.{repairWidth}
 use Rattle.rules.specs.Lists.{upTo}
 use Rattle.rules.specs.Undo.{undoneAll}
 use Rattle.log.specs.View.{ringIn}
@@ -25,7 +26,7 @@ abbrev μ-loop : tie.MeasureT-loop
 μ-loop samples₀ first repairs capacity head held i₀ samples i = held - i
 
 -- a record's words are in the slice
-inside : (c : tie.Start Inv-loop μ-loop) (i : ℕ) → let a = c .args in placeOf (a .capacity) (a .ring .head) i + 6 ≤ length (now (a .repairs))
+inside : (c : tie.Start Inv-loop μ-loop) (i : ℕ) → let a = c .args in placeOf (a .capacity) (a .ring .head) i + repairWidth ≤ length (now (a .repairs))
 inside c i = let a = c .args in place-in (a .capacity) (ringIn (a .ring) (now (a .repairs))) i (c .pre .0)
 
 loop-holds : tie.Need-loop-holds Inv-loop μ-loop

@@ -2,7 +2,7 @@
 use mathlib.Core.Path.{_≡_, refl, ap, sym, _∙_}
 use mathlib.Core.Bool.{Bool, true, false, cond, _&&_, false≢true}
 use mathlib.Core.List.{List, [], _∷_, _++_}
-use Prim.Native.Nat.{ℕ, zero, suc, _+_, _*_, _-_, _%_, _^_, _≤_, _<_}
+use Prim.Native.Nat.{ℕ, zero, suc, _+_, _*_, _-_, _%_, _≤_, _<_}
 use native.Mathlib.Numerals.{add-one}
 use native.Mathlib.Nat.{mod-lt}
 use native.Mathlib.Omega.{arith}
@@ -10,6 +10,7 @@ use lib.Dec.{ltb, leb, lit<}
 use lib.ListN.{length, set, drop}
 use lib.Seq.{getD-take, getD-drop}
 use borrow.Author.Tests.{lt-ltb, le-ltb, le-leb, lt-leb, ltb-true, leb-true}
+use Rattle.rules.specs.Impulse.{longestRun}
 use Rattle.rules.specs.Lists.{at, upTo, All}
 use Rattle.rules.specs.Log.{Ring, Sound, repairWidth}
 use Rattle.rules.specs.Undo.{heldRecords, returned, undone, undoneAll}
@@ -22,8 +23,8 @@ use Rattle.chain_undo.specs.Undoing.{recordIn, recordFits, recordsFit}
 -- ---- one record
 
 -- word j of it
-pub record-word : (ws : List ℕ) (place j : ℕ) → j < 6 → at (recordIn ws place) j ≡ at ws (place + j)
-record-word ws place j h = getD-take 6 (drop place ws) j 0 h ∙ getD-drop place ws j 0
+pub record-word : (ws : List ℕ) (place j : ℕ) → j < repairWidth → at (recordIn ws place) j ≡ at ws (place + j)
+record-word ws place j h = getD-take repairWidth (drop place ws) j 0 h ∙ getD-drop place ws j 0
 
 pub record-start : (ws : List ℕ) (place : ℕ) → at (recordIn ws place) 0 ≡ at ws place
 record-start ws place = record-word ws place 0 (lit< tt) ∙ ap (at ws) (let q : place + 0 ≡ place = omega arith in q)
@@ -34,21 +35,21 @@ record-length ws place = record-word ws place 1 (lit< tt)
 -- what a record that fits keeps to
 pub record Fit (e : List ℕ) : Type 0 where
   pub some : 0 < at e 1
-  pub short : at e 1 ≤ 4
+  pub short : at e 1 ≤ longestRun
   pub early : at e 0 ≤ totalLimit
 
 pub record-fit : (e : List ℕ) → recordFits e ≡ true → Fit e
 unfolding recordFits
-record-fit e h = go (ltb 0 (at e 1)) (leb (at e 1) 4) (leb (at e 0) totalLimit) refl refl refl h
+record-fit e h = go (ltb 0 (at e 1)) (leb (at e 1) longestRun) (leb (at e 0) totalLimit) refl refl refl h
   where
-    go : (a b c : Bool) → ltb 0 (at e 1) ≡ a → leb (at e 1) 4 ≡ b → leb (at e 0) totalLimit ≡ c → (a && b && c) ≡ true → Fit e
+    go : (a b c : Bool) → ltb 0 (at e 1) ≡ a → leb (at e 1) longestRun ≡ b → leb (at e 0) totalLimit ≡ c → (a && b && c) ≡ true → Fit e
     go true true true p q r h = record { some = ltb-true _ _ p; short = leb-true _ _ q; early = leb-true _ _ r }
     go true true false p q r h = absurd (false≢true h)
     go true false c p q r h = absurd (false≢true h)
     go false b c p q r h = absurd (false≢true h)
 
 -- by its tests
-pub record-by : (e : List ℕ) (a b c : Bool) → ltb 0 (at e 1) ≡ a → leb (at e 1) 4 ≡ b → leb (at e 0) totalLimit ≡ c → recordFits e ≡ (a && b && c)
+pub record-by : (e : List ℕ) (a b c : Bool) → ltb 0 (at e 1) ≡ a → leb (at e 1) longestRun ≡ b → leb (at e 0) totalLimit ≡ c → recordFits e ≡ (a && b && c)
 unfolding recordFits
 record-by e a b c p q r = λ i. p i && q i && r i
 
@@ -107,8 +108,8 @@ unfolding heldRecords
 held-are cap r = refl
 
 -- its words are in the store
-pub place-in : (cap : ℕ) (r : Ring) (i : ℕ) → Sound repairWidth cap r → placeOf cap (r .head) i + 6 ≤ length (r .words)
-place-in cap r i s = omega (arith, place-fits 6 cap ((r .head + i) % cap) (mod-lt (r .head + i) (s .some)), s .long)
+pub place-in : (cap : ℕ) (r : Ring) (i : ℕ) → Sound repairWidth cap r → placeOf cap (r .head) i + repairWidth ≤ length (r .words)
+place-in cap r i s = omega (arith, place-fits repairWidth cap ((r .head + i) % cap) (mod-lt (r .head + i) (s .some)), s .long)
 
 pub held-fit : (cap : ℕ) (r : Ring) → recordsFit (heldRecords cap r) ≡ allTo (λ i. recordFits (heldAt cap r i)) (r .count)
 held-fit cap r = ap recordsFit (held-are cap r) ∙ fit-upTo (heldAt cap r) (r .count)
@@ -132,7 +133,7 @@ module _ (first k original : ℕ) (ys : List ℕ) where
   returned-past h l = by-tests true false (le-leb first k h) (le-ltb (k - first) (length ys) l)
 
 -- one original more, by the words read
-pub undone-step : (first : ℕ) (ws : List ℕ) (place t : ℕ) (xs ys zs : List ℕ) → t < 4 → ys ≡ undone first (recordIn ws place) t xs
+pub undone-step : (first : ℕ) (ws : List ℕ) (place t : ℕ) (xs ys zs : List ℕ) → t < longestRun → ys ≡ undone first (recordIn ws place) t xs
     → zs ≡ returned first ys (at ws place + t) (at ws (place + 2 + t)) → zs ≡ undone first (recordIn ws place) (t + 1) xs
 unfolding undone
 undone-step first ws place t xs ys zs h e r =

@@ -2,7 +2,7 @@
 use mathlib.Core.Path.{_≡_, ap, sym, _∙_}
 use mathlib.Core.Bool.{Bool, true, false, cond}
 use mathlib.Core.List.{List, [], _∷_, foldl}
-use Prim.Native.Nat.{ℕ, _+_, _*_, _^_, _≤_, _<_}
+use Prim.Native.Nat.{ℕ, _+_, _*_, _≤_, _<_}
 use native.Mathlib.Omega.{arith}
 use borrow.Author.Tests.{eq-eqb}
 use lib.Dec.{lit≤}
@@ -10,7 +10,7 @@ use lib.ListN.{length, take, drop}
 use lib.Seq.{take-length}
 use Rattle.rules.specs.Answers.{accepted}
 use Rattle.rules.specs.Lists.{at, All}
-use Rattle.rules.specs.Impulse.{Setting, flagged, judged, value, events, handedOn, happened}
+use Rattle.rules.specs.Impulse.{Setting, flagged, judged, value, events, handedOn, happened, longestRun}
 use Rattle.rules.specs.Log as rules
 use Rattle.rules.specs.Log.{repairWidth, repaired, repairsOf}
 use Rattle.rules.specs.Undo.{heldRecords, undoneAll}
@@ -80,13 +80,13 @@ all-fit xs [] h o = tt
 all-fit xs (e ∷ es) h o = (record { some = o .0 .some; short = o .0 .short; early = omega (arith, o .0 .inside) }, all-fit xs es h (o .1))
 
 -- their records fit
-pub repairs-fit : (s : Setting) → s .run ≤ 4 → (xs : List ℕ) → length xs ≤ totalLimit → All Fit (repairsOf (happened s xs))
+pub repairs-fit : (s : Setting) → s .run ≤ longestRun → (xs : List ℕ) → length xs ≤ totalLimit → All Fit (repairsOf (happened s xs))
 unfolding happened
 repairs-fit s r xs h =
     all-fit xs (repairsOf (events s (flagged s xs) xs (judged s (length xs)))) h (all-original s (flagged s xs) xs r (judged s (length xs)) (omega arith))
 
 -- a state whose repair ring stands as the rules say for an input
-module _ (c : InputConditioner) (repairs xs : List ℕ) (s : Setting) (r : s .run ≤ 4) (long : length xs ≤ totalLimit) (f : stateFits c ≡ true)
+module _ (c : InputConditioner) (repairs xs : List ℕ) (s : Setting) (r : s .run ≤ longestRun) (long : length xs ≤ totalLimit) (f : stateFits c ≡ true)
     (ring : ringIn (c .notes .repairs) repairs ≡ repaired (c .settings .repairs) (repairsOf (happened s xs))) where
   stage-made : Made c repairs (repairsOf (happened s xs))
   stage-made = record { fits = f; ring = ring; wide = repairs-wide (happened s xs); each = repairs-fit s r xs long }

@@ -2,11 +2,10 @@
 use mathlib.Core.Path.{_≡_, ap, _∙_}
 use Prim.Native.Nat.{_+_, _*_, _/_, _%_, _^_, _<_}
 use native.Mathlib.Omega.{arith}
-use mathlib.Core.Bool.{not}
 use lib.Dec.{T}
-use lib.Ieee.{binary32, toBits, ofBits, fits, isNan}
+use lib.Ieee.{binary32, toBits, ofBits, fits}
 use lib.Ieee.Bits.{ofBits-toBits, toBits-lt}
-use Rattle.complex.specs.Complex.{Complex, NoNan, wordOf, sampleOf}
+use Rattle.complex.specs.Complex.{Complex, wordOf, sampleOf}
 
 -- both parts are values of binary32, as an f32's are
 pub record Parts32 (z : Complex) : Type 0 where

@@ -28,8 +28,9 @@ note-ended-requires c κs =
     let st = c .before .before .before .before .before .before .before .before in
     let a = st .args in
     let d = c .before .before .before .before .note-doubt in (
-      doubted (a .cap) (a .room) (notedOf (a .notes) (a .spans .now) (a .repairs .now)) (notedOf (d .result) (d .last .1 .1 .1 .0) (a .repairs .now)) (a .j)
-          (a .doubt) (d .ensures (a .room) (a .repairs .now)) (st .pre .0),
+      doubted (a .span-capacity) (a .repair-capacity) (notedOf (a .notes) (a .spans .now) (a .repairs .now))
+          (notedOf (d .result) (d .last .1 .1 .1 .0) (a .repairs .now)) (a .j)
+          (a .doubt) (d .ensures (a .repair-capacity) (a .repairs .now)) (st .pre .0),
       st .pre .1 .1,
     )
 
@@ -46,8 +47,8 @@ returns c =
     let e = c .before .before .before .before .note-ended in
     let x = notedOf (a .notes) (a .spans .now) (a .repairs .now) in
     e .ensures
-    ∙ ap (λ (y : Noted). noteAll (a .cap) (a .room) y (filledEvents (a .ended))) (d .ensures (a .room) (a .repairs .now))
-    ∙ sym (note-append (a .cap) (a .room) x (doubts (a .j) (a .doubt)) (filledEvents (a .ended)))
+    ∙ ap (λ (y : Noted). noteAll (a .span-capacity) (a .repair-capacity) y (filledEvents (a .ended))) (d .ensures (a .repair-capacity) (a .repairs .now))
+    ∙ sym (note-append (a .span-capacity) (a .repair-capacity) x (doubts (a .j) (a .doubt)) (filledEvents (a .ended)))
 
 pub note-spec : {M : Type 1} → statement M
 note-spec =

@@ -28,7 +28,7 @@ returns-2 c repairCapacity rs =
     let st = c .before .before .before .before .before .before .before in
     let a = st .args in
     simp (not-false (a .doubt) (c .before .before .before .before .before .if1 .left))
-    (doubt-noted (a .cap) repairCapacity (a .notes) (c .before .before .mark .result) (a .spans .now) (c .before .before .mark .last .1 .0) rs (a .j)
+    (doubt-noted (a .span-capacity) repairCapacity (a .notes) (c .before .before .mark .result) (a .spans .now) (c .before .before .mark .last .1 .0) rs (a .j)
     (c .before .before .mark .ensures))
 
 pub note-doubt-spec : {M : Type 1} → statement M

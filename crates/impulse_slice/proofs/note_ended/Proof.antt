@@ -39,8 +39,8 @@ returns-2 : tie.Need-returns-2
 returns-2 c =
     let a = c .before .before .before .before .before .before .before .before .before .args in
     let e = c .before .before .before .before .before .ended .given .1 in
-    c .before .before .note-kept .ensures (a .room) (a .repairs .now)
-    ∙ ap (λ (x : Ended). noteAll (a .cap) (a .room) (notedOf (a .notes) (a .spans .now) (a .repairs .now)) (filledEvents x)) (sym e)
+    c .before .before .note-kept .ensures (a .repair-capacity) (a .repairs .now)
+    ∙ ap (λ (x : Ended). noteAll (a .span-capacity) (a .repair-capacity) (notedOf (a .notes) (a .spans .now) (a .repairs .now)) (filledEvents x)) (sym e)
 
 same-length-2 : tie.Need-same-length-2
 same-length-2 c = search needs
@@ -53,7 +53,7 @@ returns-3 c =
     let a = c .before .before .before .before .before .before .before .before .before .before .before .before .args in
     let e = c .before .before .before .before .before .before .before .before .ended2 .given .1 in
     c .before .before .before .before .note-mended .ensures
-    ∙ ap (λ (x : Ended). noteAll (a .cap) (a .room) (notedOf (a .notes) (a .spans .now) (a .repairs .now)) (filledEvents x)) (sym e)
+    ∙ ap (λ (x : Ended). noteAll (a .span-capacity) (a .repair-capacity) (notedOf (a .notes) (a .spans .now) (a .repairs .now)) (filledEvents x)) (sym e)
 
 pub note-ended-spec : {M : Type 1} → statement M
 note-ended-spec =

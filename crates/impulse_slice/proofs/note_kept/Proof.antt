@@ -26,7 +26,8 @@ returns c repairCapacity rs =
     let a = st .args in
     let m = c .before .before .mark in
     let n = c .before .before .before .before .counted in
-    kept-noted (a .cap) repairCapacity (a .notes) (m .result) (a .spans .now) (m .last .1 .0) rs (a .start) (a .len) (n .result) (a .long) (n .ensures)
+    kept-noted (a .span-capacity) repairCapacity (a .notes) (m .result) (a .spans .now) (m .last .1 .0) rs (a .start) (a .len) (n .result) (a .long)
+    (n .ensures)
     (m .ensures)
 
 pub note-kept-spec : {M : Type 1} → statement M

@@ -31,7 +31,8 @@ returns c =
     let a = st .args in
     let m = c .before .before .before .before .before .before .mark in
     let q = c .before .before .record-repair in
-    mended-noted (a .cap) (a .room) (a .notes) (m .result) (a .spans .now) (m .last .1 .0) (a .repairs .now) (q .last .1 .0) (a .r) (q .result) (q .ensures)
+    mended-noted (a .span-capacity) (a .repair-capacity) (a .notes) (m .result) (a .spans .now) (m .last .1 .0) (a .repairs .now) (q .last .1 .0) (a .r)
+    (q .result) (q .ensures)
     (m .ensures)
 
 pub note-mended-spec : {M : Type 1} → statement M

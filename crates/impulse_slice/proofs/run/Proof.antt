@@ -27,7 +27,7 @@ loop-holds : tie.Need-loop-holds Inv-loop μ-loop
 loop-holds c =
     let st = c .before .before .before in
     let a = st .args in (
-      going-first (a .cap) (a .room) (a .held) (suppressorOf (a .first) (a .window .now) (a .sorted .now) (a .pending .now))
+      going-first (a .span-capacity) (a .repair-capacity) (a .held) (suppressorOf (a .first) (a .window .now) (a .sorted .now) (a .pending .now))
           (notedOf (a .notes) (a .spans .now) (a .repairs .now)) (a .samples .now) (st .pre .0),
       refl,
       refl,
@@ -43,15 +43,16 @@ take-requires c κs =
     let m = suppressorOf (l .gate) (l .window) (l .sorted) (l .pending) in
     let n = notedOf (l .said) (l .spans) (l .repairs) in
     let g = l .inv .0 in
-    let same = length-same (a .cap) (a .room) (a .held) m₀ n₀ (a .samples .now) m n (l .samples) (l .out) (l .k) g in
-    let few = out-few (a .cap) (a .room) (a .held) m₀ n₀ (a .samples .now) m n (l .samples) (l .out) (l .k) g in
+    let same = length-same (a .span-capacity) (a .repair-capacity) (a .held) m₀ n₀ (a .samples .now) m n (l .samples) (l .out) (l .k) g in
+    let few = out-few (a .span-capacity) (a .repair-capacity) (a .held) m₀ n₀ (a .samples .now) m n (l .samples) (l .out) (l .k) g in
     let h : l .k < length (a .samples .now) = omega (arith, same) in (
       (omega arith, few),
       (
-        going-room (a .cap) (a .room) (a .held) m₀ n₀ (a .samples .now) m n (l .samples) (l .out) (l .k) g h (st .pre .1 .0),
+        going-room (a .span-capacity) (a .repair-capacity) (a .held) m₀ n₀ (a .samples .now) m n (l .samples) (l .out) (l .k) g h (st .pre .1 .0),
         (
-          going-full (a .cap) (a .room) (a .held) m₀ n₀ (a .samples .now) m n (l .samples) (l .out) (l .k) g (st .pre .1 .1 .0),
-          going-roomy (a .cap) (a .room) (a .held) m₀ n₀ (a .samples .now) m n (l .samples) (l .out) (l .k) g h (st .pre .1 .0) (st .pre .1 .1 .1),
+          going-full (a .span-capacity) (a .repair-capacity) (a .held) m₀ n₀ (a .samples .now) m n (l .samples) (l .out) (l .k) g (st .pre .1 .1 .0),
+          going-roomy (a .span-capacity) (a .repair-capacity) (a .held) m₀ n₀ (a .samples .now) m n (l .samples) (l .out) (l .k) g h (st .pre .1 .0)
+              (st .pre .1 .1 .1),
         ),
       ),
     )
@@ -67,7 +68,7 @@ add-k c =
     let n₀ = notedOf (a .notes) (a .spans .now) (a .repairs .now) in
     let m = suppressorOf (l .gate) (l .window) (l .sorted) (l .pending) in
     let n = notedOf (l .said) (l .spans) (l .repairs) in
-    let same = length-same (a .cap) (a .room) (a .held) m₀ n₀ (a .samples .now) m n (l .samples) (l .out) (l .k) (l .inv .0) in
+    let same = length-same (a .span-capacity) (a .repair-capacity) (a .held) m₀ n₀ (a .samples .now) m n (l .samples) (l .out) (l .k) (l .inv .0) in
     omega (
       arith,
       same,
@@ -86,7 +87,7 @@ loop-less c =
     let n₀ = notedOf (a .notes) (a .spans .now) (a .repairs .now) in
     let m = suppressorOf (l .gate) (l .window) (l .sorted) (l .pending) in
     let n = notedOf (l .said) (l .spans) (l .repairs) in
-    let same = length-same (a .cap) (a .room) (a .held) m₀ n₀ (a .samples .now) m n (l .samples) (l .out) (l .k) (l .inv .0) in
+    let same = length-same (a .span-capacity) (a .repair-capacity) (a .held) m₀ n₀ (a .samples .now) m n (l .samples) (l .out) (l .k) (l .inv .0) in
     omega (
       arith,
       same,
@@ -106,14 +107,14 @@ loop-again c =
     let n = notedOf (l .said) (l .spans) (l .repairs) in
     let t = c .before .before .before .before .before .before .before .before .take in
     let g = l .inv .0 in
-    let same = length-same (a .cap) (a .room) (a .held) m₀ n₀ (a .samples .now) m n (l .samples) (l .out) (l .k) g in
+    let same = length-same (a .span-capacity) (a .repair-capacity) (a .held) m₀ n₀ (a .samples .now) m n (l .samples) (l .out) (l .k) g in
     let h : l .k < length (a .samples .now) =
     omega (
       arith,
       same,
       c .before .before .before .before .before .before .before .before .before .before .before .before .before .before .before .loop-test .taken,
     ) in (
-      going-next (a .cap) (a .room) (a .held) m₀ n₀ (a .samples .now) m n (l .samples) (l .out) (l .k) g
+      going-next (a .span-capacity) (a .repair-capacity) (a .held) m₀ n₀ (a .samples .now) m n (l .samples) (l .out) (l .k) g
           (suppressorOf (t .result .gate) (t .last .1 .1 .1 .1 .0) (t .last .1 .1 .1 .1 .1 .0) (t .last .1 .1 .1 .1 .1 .1 .0))
           (notedOf (t .result .notes) (t .last .1 .1 .1 .1 .1 .1 .1 .1 .0) (t .last .1 .1 .1 .1 .1 .1 .1 .1 .1 .1 .0))
           (t .last .0) (t .result .out) h (t .ensures .0) (t .ensures .1 .0) (t .ensures .1 .1 .0) (t .ensures .1 .1 .1),
@@ -130,7 +131,7 @@ same-length c =
     let n₀ = notedOf (a .notes) (a .spans .now) (a .repairs .now) in
     let m = suppressorOf (l .gate) (l .window) (l .sorted) (l .pending) in
     let n = notedOf (l .said) (l .spans) (l .repairs) in
-    length-same (a .cap) (a .room) (a .held) m₀ n₀ (a .samples .now) m n (l .samples) (l .out) (l .k) (l .inv .0)
+    length-same (a .span-capacity) (a .repair-capacity) (a .held) m₀ n₀ (a .samples .now) m n (l .samples) (l .out) (l .k) (l .inv .0)
 
 same-length-2 : tie.Need-same-length-2 Inv-loop μ-loop
 same-length-2 c = c .before .loop .inv .1
@@ -149,11 +150,11 @@ returns c =
     let n = notedOf (l .said) (l .spans) (l .repairs) in
     let g = l .inv .0 in
     let s = settingOf (a .first) in
-    let same = length-same (a .cap) (a .room) (a .held) m₀ n₀ (a .samples .now) m n (l .samples) (l .out) (l .k) g in
-    let all = going-last (a .cap) (a .room) (a .held) m₀ n₀ (a .samples .now) m n (l .samples) (l .out) (l .k) g (omega (arith, same)) in (
+    let same = length-same (a .span-capacity) (a .repair-capacity) (a .held) m₀ n₀ (a .samples .now) m n (l .samples) (l .out) (l .k) g in
+    let all = going-last (a .span-capacity) (a .repair-capacity) (a .held) m₀ n₀ (a .samples .now) m n (l .samples) (l .out) (l .k) g (omega (arith, same)) in (
       g .state ∙ ap (stateAfter s m₀) all,
       (
-        g .notes ∙ ap (λ (xs : List ℕ). noteAll (a .cap) (a .room) n₀ (told s m₀ xs)) all,
+        g .notes ∙ ap (λ (xs : List ℕ). noteAll (a .span-capacity) (a .repair-capacity) n₀ (told s m₀ xs)) all,
         (
           g .ready ∙ ap (λ (xs : List ℕ). length (handed s m₀ xs)) all,
           g .written ∙ ap (λ (xs : List ℕ). over (handed s m₀ xs) (a .samples .now)) all,

@@ -67,7 +67,7 @@ returns c =
       next-state (a .gate) (a .window .now) (a .sorted .now) (a .pending .now) x (p .result) (p .ensures .0) (p .last .1 .1 .0) (p .last .1 .1 .1 .0)
           (p .last .1 .1 .1 .1 .0) (p .ensures .1 .0) (p .ensures .1 .1 .0) (p .ensures .1 .1 .1),
       (
-        said (a .gate) (a .window .now) (a .sorted .now) (a .pending .now) x (p .result) (p .ensures .0) (a .cap) (a .room)
+        said (a .gate) (a .window .now) (a .sorted .now) (a .pending .now) x (p .result) (p .ensures .0) (a .span-capacity) (a .repair-capacity)
             (notedOf (a .notes) (a .spans .now) (a .repairs .now)) _ (j .result) (j .ensures) (n .ensures),
         (
           q .0 ∙ ap (λ (l : List ℕ). a .out + length l) is,

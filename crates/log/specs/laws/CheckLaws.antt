@@ -16,7 +16,7 @@ use Rattle.rules.specs.laws.MarkLaws.{EndsBy, mark-samples, mark-sound, mark-dr
 use Rattle.log.specs.declared.Ring.{Ring}
 use Rattle.log.specs.declared.Log.{Log}
 use Rattle.log.specs.View.{Logged, freshLog, marksAt, markedAt}
-use Rattle.log.specs.Ready.{Fits, Twelve, Bounded}
+use Rattle.log.specs.Ready.{Fits, Bounded}
 use Rattle.log.specs.Check.{allTo, ringFits, ringOf, countOf, logFits, endFits, endsFit}
 use Rattle.log.specs.laws.LogLaws.{part-inside, marked-twelve, marked-same, marked-other, fresh-marks}
 

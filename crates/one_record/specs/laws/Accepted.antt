@@ -5,15 +5,14 @@ use mathlib.Core.List.{List, [], _∷_, _++_}
 use Prim.Native.Nat.{ℕ, zero, suc, _+_, _-_, _*_}
 use native.Mathlib.Omega.{arith}
 use lib.Dec.{T, eqb, ltb}
-use borrow.Author.Tests.{lt-ltb, eqb-true}
+use borrow.Author.Tests.{lt-ltb}
 use lib.ListN.{length}
 use lib.Ieee.{Float}
 use Rattle.rules.specs.Answers.{isAccepted}
 use Rattle.rules.specs.Guard.{usable, firstUnusableFrom, Usable}
-use Rattle.rules.specs.Refusals.{tooMany, unusableAt, anyUnusable, badStart, anyBeyond, firstBeyondFrom}
+use Rattle.rules.specs.Refusals.{tooMany, anyUnusable, badStart, anyBeyond, firstBeyondFrom}
 use Rattle.rules.specs.laws.SortLaws.{all-append}
 use Rattle.rules.specs.Log.{repairWidth, storeWidth}
-use Rattle.amplitude_limit.specs.Limit.{returned}
 use Rattle.log.specs.Check.{endsFit}
 use Rattle.iq_monitor.specs.Observe.{Seen, leaving, isNone, acceptedOf}
 use Rattle.iq_monitor.specs.laws.ObserveLaws.{observed-by}
@@ -21,8 +20,8 @@ use Rattle.iq.specs.View.{settledOf}
 use Rattle.iq_monitor.specs.declared.HopAnswer.the-variants as answer
 use Rattle.chain_state.specs.declared.InputConditioner.{InputConditioner}
 use Rattle.chain_state.specs.Fits.{stateFits}
-use Rattle.chain.specs.Stages.{Machine, newPart}
-use Rattle.chain.specs.Calls.{callRefusal, Outcome, taken, declined, called}
+use Rattle.chain.specs.Stages.{newPart}
+use Rattle.chain.specs.Calls.{callRefusal, taken, called}
 use Rattle.chain.specs.laws.CallTests.{callNumber, refusal-by}
 use Rattle.chain_hop.specs.Hops.{saidHop, answerOf, isOffIq, watched, hopRefusal, hopOf, byNumber, followed}
 use Rattle.chain_hop.specs.Hops as hops
@@ -30,30 +29,6 @@ use Rattle.chain_hop.specs.declared.HopSaid.the-variants as said
 use Rattle.chain_hop.specs.laws.HopLaws.{watched-by}
 
 -- ---- calls
-
-module _ (m : Machine) (slice : List ℕ) where
-  abbrev by : Bool → Outcome
-  by b = cond b (taken m slice)
-      (declined m slice (returned (callRefusal (m .state) slice (m .spans) (m .repairs)) (unusableAt (m .state .counts .held) (newPart (m .state) slice))))
-
-  -- an accepted call is not refused
-  pub ready-none : isAccepted (called m slice .said) ≡ true → callRefusal (m .state) slice (m .spans) (m .repairs) ≡ 0
-  unfolding called
-  ready-none e = go (eqb (callRefusal (m .state) slice (m .spans) (m .repairs)) 0) refl e
-    where
-      go : (b : Bool) → eqb (callRefusal (m .state) slice (m .spans) (m .repairs)) 0 ≡ b → isAccepted (by b .said) ≡ true
-          → callRefusal (m .state) slice (m .spans) (m .repairs) ≡ 0
-      go true q h = eqb-true _ 0 q
-      go false q h = absurd (false≢true h)
-
-  -- one that is refused leaves all
-  pub refused-keeps : isAccepted (called m slice .said) ≡ false → called m slice .machine ≡ m
-  unfolding called
-  refused-keeps e = go (eqb (callRefusal (m .state) slice (m .spans) (m .repairs)) 0) e
-    where
-      go : (b : Bool) → isAccepted (by b .said) ≡ false → by b .machine ≡ m
-      go true h = absurd (false≢true (sym h))
-      go false h = refl
 
 -- all seven tests pass
 pub record Passes (c : InputConditioner) (slice spans repairs : List ℕ) : Type 0 where

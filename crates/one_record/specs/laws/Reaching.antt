@@ -43,7 +43,8 @@ use Rattle.one_record.specs.Lists.{afterHopped, applied, Chain, leave, o
 use Rattle.one_record.specs.laws.RingLaws.{call-rings}
 use Rattle.one_record.specs.laws.Append.{process-append, hands-append}
 use Rattle.one_record.specs.laws.Hopping.{withHops, process-hops, hands-hops}
-use Rattle.one_record.specs.laws.Accepted.{ready-none, refused-keeps, passes, usable-append, scan-usable, Taken, answered-taken}
+use Rattle.chain.specs.laws.Keeping.{ready-none, refused-keeps}
+use Rattle.one_record.specs.laws.Accepted.{passes, usable-append, scan-usable, Taken, answered-taken}
 use Rattle.chain.specs.laws.CallTests.{taken-by}
 use Rattle.chain_hop.specs.laws.HopLaws.{watched-by, hop-taken}
 use Rattle.chain_hop.specs.laws.HopKeeps.{hop-keeps}

@@ -1,2 +1,0 @@
-pub mod StreamLaws
-pub mod MadeLaws

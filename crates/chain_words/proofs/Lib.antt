@@ -1,0 +1,2 @@
+-- laws that several functions' proofs cite
+pub mod Filling

@@ -1,0 +1,37 @@
+-- A recording's header and its start: the answer and every lent word. Definitions only.
+use mathlib.Core.List.{List}
+use Prim.Native.Nat.{ℕ}
+use lib.ListN.{length}
+use lib.Ieee.{Float}
+use Rattle.chain_config.specs.declared.ConditioningConfig.{ConditioningConfig}
+use Rattle.chain_make.specs.Making as making
+use Rattle.replay_format.specs.Header.{Said, refused, config, configFrom}
+use Rattle.replay_start.specs.Starting.{startSaid, startState}
+use Rattle.vatgorge.specs.Config.{configIn, configWords}
+use Rattle.vatgorge.specs.Make.{After, afterSaid}
+
+-- ---- vg_header
+
+abbrev pub headerCode : Said → ℕ
+headerCode (refused k) = k
+headerCode (config g) = 0
+
+-- the configuration's words are written, and a refusal leaves every word
+abbrev pub headerWords : List ℕ → Said → List ℕ
+headerWords ws (refused k) = ws
+headerWords ws (config g) = configWords (configFrom g)
+
+-- the configuration that those words say
+abbrev pub headerConfig : List ℕ → Said → ConditioningConfig
+headerConfig ws (refused k) = configIn ws
+headerConfig ws (config g) = configFrom g
+
+-- ---- vg_start
+
+-- what a start says of these stores
+abbrev pub startOf : List ℕ → List ℕ → List ℕ → List ℕ → List Float → making.Said
+startOf head block spans repairs monitor = startSaid head block (length spans) (length repairs) (length monitor)
+
+abbrev pub after : List ℕ → List ℕ → List ℕ → List ℕ → List ℕ → List Float → After
+after head block ws spans repairs monitor =
+    afterSaid (startOf head block spans repairs monitor) (startState head block) ws spans repairs monitor
