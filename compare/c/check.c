@@ -547,6 +547,20 @@ static void repair_undo(void) {
     LEFT();
 }
 
+// An undo with an unfit part at each place: 7 and that place; and what is told before 7, which leaves all.
+#define EACH_UNFIT(undo, sooner, refused)                                                                            \
+    for (part = 0; part < 2 * UNFIT; part++)                                                                           \
+        for (k = 0; k < 32; k++) {                                                                                     \
+            fill(lent.samples, 32);                                                                                    \
+            lent.samples[31] = sample(NAN, NAN);                                                                       \
+            lent.samples[k] = part % 2 ? sample(1.0f, unfit[part / 2]) : sample(unfit[part / 2], 1.0f);                \
+            ANSWERS(VG_UNUSABLE, undo);                                                                                \
+            SAME(lent.place, k);                                                                                       \
+            was.place = k;                                                                                             \
+            LEFT();                                                                                                    \
+            REFUSES(sooner, refused);                                                                                  \
+        }
+
 static void dc_undo(void) {
     size_t k, part;
     begin(VG_OFF, VG_OFF, VG_OFF);
@@ -563,17 +577,7 @@ static void dc_undo(void) {
     REFUSES(VG_BAD_RATE, undo_dc(32, 0.5, 31));
     REFUSES(VG_BAD_RATE, undo_dc(32, 10000001.0, 32));
     REFUSES(VG_BAD_RATE, undo_dc(32, NAN, 32));
-    for (part = 0; part < 2 * UNFIT; part++)
-        for (k = 0; k < 32; k++) {
-            fill(lent.samples, 32);
-            lent.samples[31] = sample(NAN, NAN);
-            lent.samples[k] = part % 2 ? sample(1.0f, unfit[part / 2]) : sample(unfit[part / 2], 1.0f);
-            ANSWERS(VG_UNUSABLE, undo_dc(32, 48000.0, 32));
-            SAME(lent.place, k);
-            was.place = k;
-            LEFT();
-            REFUSES(VG_BAD_LENGTH, undo_dc(32, 48000.0, 33));
-        }
+    EACH_UNFIT(undo_dc(32, 48000.0, 32), VG_BAD_LENGTH, undo_dc(32, 48000.0, 33));
 }
 
 static void iq_undo(void) {
@@ -595,17 +599,7 @@ static void iq_undo(void) {
         REFUSES(VG_BAD_COEFFICIENT, undo_iq(32, unfit_parts[k], 0.0));
         REFUSES(VG_BAD_COEFFICIENT, undo_iq(0, 0.0, unfit_parts[k]));
     }
-    for (part = 0; part < 2 * UNFIT; part++)
-        for (k = 0; k < 32; k++) {
-            fill(lent.samples, 32);
-            lent.samples[31] = sample(NAN, NAN);
-            lent.samples[k] = part % 2 ? sample(1.0f, unfit[part / 2]) : sample(unfit[part / 2], 1.0f);
-            ANSWERS(VG_UNUSABLE, undo_iq(32, 0.5, 0.5));
-            SAME(lent.place, k);
-            was.place = k;
-            LEFT();
-            REFUSES(VG_BAD_COEFFICIENT, undo_iq(32, 1.0, 0.0));
-        }
+    EACH_UNFIT(undo_iq(32, 0.5, 0.5), VG_BAD_COEFFICIENT, undo_iq(32, 1.0, 0.0));
 }
 
 static void guarding(void) {

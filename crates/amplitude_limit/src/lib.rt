@@ -11,10 +11,10 @@ use complex::Complex32;
 // The pattern of the greatest f32 within 1e18.
 const MAX_PATTERN: u64 = 0x5d5e_0b6b;
 
-// 1e18.
+// The largest size of a part.
 const LIMIT: f64 = 1.0e18;
 
-// Whether x is at most 1e18 in size. A NaN isn't.
+// Whether x is within it. A NaN isn't.
 pub fn is_limited(x: f64) -> bool
     ensures { λ r. ⌜ r ≡ limited x ⌝ }
 {

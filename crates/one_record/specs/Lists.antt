@@ -14,6 +14,7 @@ use Rattle.rules.specs.Answers.{Said, accepted, nothing, refused, isAccepted}
 use Rattle.rules.specs.Chain.{released, heldOf, ringOf, impulseEvents, repairRing, longRunsOf, dcLevel, settledBy, evidence, lastWords}
 use Rattle.log.specs.View.{ringIn, marksAt}
 use Rattle.rules.specs.Guard.{Usable}
+use Rattle.rules.specs.Impulse.{lookaheadSize}
 use Rattle.iq.specs.View.{settledOf}
 use Rattle.stage_mode.specs.View.{modeOf}
 use Rattle.chain_config.specs.declared.ConditioningConfig.{ConditioningConfig}
@@ -267,7 +268,7 @@ pub record OneRecord (g : ConditioningConfig) (y z : Chain) (os ps : List Operat
   pub no-five : NoFive (run y os)
   -- 'After each list seen = released + held, held at most 21.'
   pub sum : run y os .machine .state .counts .seen ≡ run y os .machine .state .counts .released + run y os .machine .state .counts .held
-  pub few : run y os .machine .state .counts .held ≤ 21
+  pub few : run y os .machine .state .counts .held ≤ lookaheadSize
   -- 'Where impulse repair alone applies, the other stages are off and no repair was dropped, undoing repairs on the joined released samples, from sample 0,
   -- gives each its input bits again.'
   pub undone : modeOf (g .impulse) ≡ apply → modeOf (g .dc) ≡ off → modeOf (g .iq) ≡ off

@@ -11,6 +11,7 @@ use lib.Seq.{length-take-le}
 use Rattle.rules.specs.laws.TestLaws.{both}
 use Rattle.rules.specs.Log.{Span, spanOf, Sound, storeWidth}
 use Rattle.rules.specs.laws.RingReading.{length-spans}
+use Rattle.rules.specs.Constants.{spanLimit}
 use Rattle.log.specs.declared.Ring.{Ring}
 use Rattle.log.specs.View.{Logged, marksAt}
 use Rattle.log.specs.Check.{ringOf}
@@ -40,14 +41,14 @@ number-past (s ∷ l) (suc i) h = number-past l i (omega arith)
 
 pub record Store (cap words : ℕ) : Type 0 where
   pub some : 0 < cap
-  pub few : cap ≤ 256
+  pub few : cap ≤ spanLimit
   pub long : words ≡ storeWidth * cap
 
 pub store-is : (cap words : ℕ) → storeFits cap words ≡ true → Store cap words
 store-is cap words e =
-    let p = both (ltb 0 cap && leb cap 256) (eqb words (storeWidth * cap)) e in
-    let q = both (ltb 0 cap) (leb cap 256) (p .0) in
-    record { some = ltb-true 0 cap (q .0); few = leb-true cap 256 (q .1); long = eqb-true words (storeWidth * cap) (p .1) }
+    let p = both (ltb 0 cap && leb cap spanLimit) (eqb words (storeWidth * cap)) e in
+    let q = both (ltb 0 cap) (leb cap spanLimit) (p .0) in
+    record { some = ltb-true 0 cap (q .0); few = leb-true cap spanLimit (q .1); long = eqb-true words (storeWidth * cap) (p .1) }
 
 -- a ring in a store that fits is sound
 pub read-sound : (cap : ℕ) (x : Logged) (k : ℕ) → storeFits cap (length (x .spans)) ≡ true → readable cap (ringOf (x .log) k) ≡ true → k < 12

@@ -9,6 +9,7 @@ use lib.ListN.{getD}
 use lib.Ieee.{Float, nan}
 use Rattle.rules.specs.Constants.{zeroF}
 use Rattle.rules.specs.Lists.{All}
+use Rattle.rules.specs.Impulse.{windowSize}
 use Rattle.log.specs.Check.{allTo}
 use Rattle.impulse_window.specs.Rising.{Held}
 use Rattle.impulse.specs.laws.CircleLaws.{any-default}
@@ -22,10 +23,10 @@ test w s k = occurs (getD s k zeroF) w
 
 abbrev Inv-loop : tie.InvT-loop
 Inv-loop window sorted all₀ k₀ all k =
-    (k ≤ 33) × (all ≡ allTo (test window sorted) k) × (0 < k → All Held window)
+    (k ≤ windowSize) × (all ≡ allTo (test window sorted) k) × (0 < k → All Held window)
 
 abbrev μ-loop : tie.MeasureT-loop
-μ-loop window sorted all₀ k₀ all k = 33 - k
+μ-loop window sorted all₀ k₀ all k = windowSize - k
 
 loop-holds : tie.Need-loop-holds Inv-loop μ-loop
 unfolding allTo
@@ -59,7 +60,7 @@ loop-again c =
 returns : tie.Need-returns Inv-loop μ-loop
 returns c =
     let l = c .before .loop in
-    let e : l .k ≡ 33 = omega (arith, c .loop-test .left, l .inv .0) in
+    let e : l .k ≡ windowSize = omega (arith, c .loop-test .left, l .inv .0) in
     (rw e at (l .inv .1), l .inv .2 (omega arith))
 
 pub all-occur-spec : {M : Type 1} → statement M

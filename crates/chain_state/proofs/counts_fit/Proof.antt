@@ -4,13 +4,14 @@ use mathlib.Core.Bool.{Bool, true, false}
 use Prim.Native.Nat.{ℕ, _≤_}
 use native.Mathlib.Omega.{arith}
 use borrow.Author.Tests.{le-leb, lt-leb, eq-eqb, ne-eqb}
+use Rattle.rules.specs.Impulse.{lookaheadSize}
 use Rattle.chain_state.specs.Fits.{heldBy, countsFit}
 use Rattle.chain_config.proofs.Answers.{four}
 use borrow.Author.Needs.{needs}
 use Rattle.chain_state.proofs.counts_fit.Statement.{statement}
 use Rattle.chain_state.proofs.counts_fit.Tie as tie
 
-few-held : (a : Bool) (n : ℕ) → heldBy a n ≤ 21
+few-held : (a : Bool) (n : ℕ) → heldBy a n ≤ lookaheadSize
 few-held true n = omega arith
 few-held false n = omega arith
 
@@ -41,7 +42,7 @@ add-result : tie.Need-add-result
 add-result c =
     let a = c .before .before .before .before .before .before .before .before .args in
     let r = c .before .before .before .before .if2 .left in
-    let h : a .counts .held ≤ 21 = subst (λ (k : ℕ). k ≤ 21) (sym (held-is (c .before))) (few-held (a .applies) (a .counts .seen)) in
+    let h : a .counts .held ≤ lookaheadSize = subst (λ (k : ℕ). k ≤ lookaheadSize) (sym (held-is (c .before))) (few-held (a .applies) (a .counts .seen)) in
     omega arith
 
 returns-4 : tie.Need-returns-4

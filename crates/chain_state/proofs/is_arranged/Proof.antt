@@ -6,6 +6,7 @@ use lib.ListN.{length, getD}
 use borrow.Author.Tests.{not-false}
 use borrow.Author.Needs.{needs}
 use Rattle.rules.specs.Constants.{zeroF}
+use Rattle.rules.specs.Impulse.{windowSize}
 use Rattle.log.specs.laws.CheckLaws.{all-at}
 use Rattle.chain_state.specs.Occurs.{occurs}
 use Rattle.chain_state.proofs.Arranged.{window-sorted}
@@ -28,10 +29,10 @@ returns-2 c =
     let s = st .args .sorted .now in
     let u = c .before .before .strictly-ascends .ensures in
     let v = c .all-occur .ensures in
-    let n : length s ≡ 33 = st .pre .1 in
-    let m : length w ≡ 33 = st .pre .0 in
+    let n : length s ≡ windowSize = st .pre .1 in
+    let m : length w ≡ windowSize = st .pre .0 in
     λ e. window-sorted w s (n ∙ sym m) (u .1) (v .1) (sym (u .0) ∙ not-false _ (c .before .if1 .left))
-    (λ k h. all-at (λ k. occurs (getD s k zeroF) w) 33 k (sym (v .0) ∙ e) (omega arith))
+    (λ k h. all-at (λ k. occurs (getD s k zeroF) w) windowSize k (sym (v .0) ∙ e) (omega arith))
 
 pub is-arranged-spec : {M : Type 1} → statement M
 is-arranged-spec = tie.close (tie.spec strictly-ascends-requires returns all-occur-requires returns-2)

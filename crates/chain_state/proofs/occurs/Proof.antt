@@ -9,6 +9,7 @@ use lib.Seq.{take-all}
 use lib.Ieee.{Float, nan, eq}
 use borrow.Author.Needs.{needs}
 use Rattle.rules.specs.Lists.{All}
+use Rattle.rules.specs.Impulse.{windowSize}
 use Rattle.impulse_window.specs.Rising.{Held}
 use Rattle.impulse_window.proofs.Blends.{held-more}
 use Rattle.chain_state.specs.Occurs.{occurs}
@@ -26,10 +27,10 @@ next x l k so this h e a f g =
 
 abbrev Inv-loop : tie.InvT-loop
 Inv-loop window x found₀ k₀ found k =
-    (k ≤ 33) × (found ≡ occurs x (take k window)) × All Held (take k window)
+    (k ≤ windowSize) × (found ≡ occurs x (take k window)) × All Held (take k window)
 
 abbrev μ-loop : tie.MeasureT-loop
-μ-loop window x found₀ k₀ found k = 33 - k
+μ-loop window x found₀ k₀ found k = windowSize - k
 
 loop-holds : tie.Need-loop-holds Inv-loop μ-loop
 loop-holds c = (omega arith, sym (occurs-none (c .args .x)), tt)

@@ -44,6 +44,7 @@ use Rattle.iq_monitor.specs.declared.HopAnswer.{HopAnswer}
 use Rattle.iq_monitor.specs.declared.HopAnswer.the-variants as answer
 use Rattle.rules.specs.Undo.{undoneAll}
 use Rattle.rules.specs.Constants.{totalLimit}
+use Rattle.rules.specs.Impulse.{lookaheadSize}
 use Rattle.chain_hop.specs.Hops.{isOffIq, saidHop, Hopped, hopOf, hopRefusal}
 use Rattle.chain_hop.specs.laws.HopLaws as hopLaws
 use Rattle.chain_undo.specs.Undoing as undo
@@ -275,10 +276,10 @@ module _ (g : ConditioningConfig) (f : Fit g) (xs : List ℕ) (hs : List Hop) (r
       let m = held-most (isApply (modeOf (g .impulse))) (length xs) in
       omega (arith, a, b, d, m)
 
-  pub at-few : chainAt g xs hs .machine .state .counts .held ≤ 21
-  at-few = subst (λ (n : ℕ). n ≤ 21) (sym (held-is g f xs hs r)) (go (isApply (modeOf (g .impulse))))
+  pub at-few : chainAt g xs hs .machine .state .counts .held ≤ lookaheadSize
+  at-few = subst (λ (n : ℕ). n ≤ lookaheadSize) (sym (held-is g f xs hs r)) (go (isApply (modeOf (g .impulse))))
     where
-      go : (b : Bool) → heldBy b (length xs) ≤ 21
+      go : (b : Bool) → heldBy b (length xs) ≤ lookaheadSize
       go true = omega arith
       go false = omega arith
 
@@ -440,7 +441,7 @@ module _ (g : ConditioningConfig) (f : Fit g) where
         no-five = subst NoFive (sym (n .is)) (at-no-five g f xs hs t);
         sum = subst (λ (c : Chain). c .machine .state .counts .seen ≡ c .machine .state .counts .released + c .machine .state .counts .held) (sym (n .is))
             (at-sum g f xs hs t);
-        few = subst (λ (c : Chain). c .machine .state .counts .held ≤ 21) (sym (n .is)) (at-few g f xs hs t);
+        few = subst (λ (c : Chain). c .machine .state .counts .held ≤ lookaheadSize) (sym (n .is)) (at-few g f xs hs t);
         undone = λ i d s h.
             subst (λ (c : Chain). undoOf (c .machine .state) (c .machine .repairs) (c .released) 0
             ≡ record { said = accepted tt; samples = take (length (c .released)) (c .brought) }) (sym (n .is))

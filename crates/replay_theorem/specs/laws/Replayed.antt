@@ -20,7 +20,8 @@ use Rattle.rules.specs.Log as log
 use Rattle.rules.specs.Refusals.{firstOf, tooMany}
 use Rattle.rules.specs.Chain as rules
 use Rattle.rules.specs.Chain.{Config}
-use Rattle.rules.specs.Constants.{totalLimit}
+use Rattle.rules.specs.Constants.{totalLimit, spanLimit}
+use Rattle.rules.specs.Impulse.{lookaheadSize}
 use Rattle.log.specs.Check.{ringOf, countOf, sumTo, spansDropped, droppedInAll}
 use Rattle.log.specs.laws.CheckLaws.{InRange, log-range}
 use Rattle.log.specs.View.{marksAt}
@@ -131,7 +132,7 @@ module _ (g : ConditioningConfig) (f : Fit g) (raw : List ℕ) (r : Reached g (g
       let t = range k h in
       λ i.
       cond
-      ((lt-ltb 0 cap (omega (arith, capacity-is, f .limits .some-spans)) i && le-leb cap 256 (omega (arith, capacity-is, f .limits .few-spans)) i
+      ((lt-ltb 0 cap (omega (arith, capacity-is, f .limits .some-spans)) i && le-leb cap spanLimit (omega (arith, capacity-is, f .limits .few-spans)) i
       && eq-eqb (length (chain .machine .spans)) (storeWidth * cap) (spans-long g f (guarded raw) [] r) i)
       && (lt-ltb (ringOf (c .notes .log) k .head) cap (t .headIn) i && le-leb (ringOf (c .notes .log) k .count) cap (t .countIn) i))
       (spansOf (capacity-is i) (marksAt (capacity-is i) (record { log = c .notes .log; spans = chain .machine .spans }) k .ring))
@@ -218,7 +219,7 @@ module _ (g : ConditioningConfig) (f : Fit g) where
     abbrev words : List ℕ
     words = wordsIn (b .bytes)
 
-    held-few : machine .state .counts .held ≤ 21
+    held-few : machine .state .counts .held ≤ lookaheadSize
     held-few = at-few g f (guarded raw) [] r
 
     held-all : heldIn (machine .state) (b .store) ≡ machine .state .counts .held
