@@ -147,7 +147,7 @@ struct vg_hop_out {
 VG_SAME(sizeof(struct vg_hop_out), 8 * VG_HOP_WORDS, "the words of a hop");
 
 /* A hop: n channels, of the samples from number start on; n/4 samples later it ends. A report is due when 5 seconds are full.
- * Answers 0, VG_NOTHING (IQ is off, or there are not n channels, or n is below 8), 5, 4, 9, 7.
+ * Answers 0, 5, 4, VG_NOTHING (IQ is off, or there are not n channels, or n is below 8), 9, 7.
  * Accepted: state, monitor and out->reported are written; with a report all of out but `place`, and with a suspected
  * window, while IQ observes, spans. */
 uint64_t vg_hop(struct vg_state *state, const uint64_t *channels, size_t length, uint64_t start, uint64_t *spans,

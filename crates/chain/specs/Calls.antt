@@ -40,6 +40,10 @@ abbrev pub toldUnread : ℕ → Said ℕ
 toldUnread zero = accepted 0
 toldUnread (suc k) = refused (suc k ∷ [])
 
+-- what is told of the new samples, the first of which is number held: a refusal, or that none is ready
+abbrev pub toldRead : ℕ → List ℕ → Said ℕ
+toldRead held xs = cond (anyUnusable held xs .holds) (refused (7 ∷ unusableAt held xs ∷ [])) (accepted 0)
+
 -- the answer, with how many samples are ready, the chain, and the slice
 pub record Outcome : Type 0 where
   pub said : Said ℕ

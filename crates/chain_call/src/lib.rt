@@ -18,7 +18,7 @@ ghost use Rattle.stage_mode.specs.View.{modeOf};
 ghost use Rattle.impulse_slice.specs.Noted.{notedOf, noteAll, over};
 ghost use Rattle.chain.specs.Stages.{machineOf, notesIn, newPart, impulseAfter, impulseOut, impulseTold, blockerAfterBy, blockedBy, notedDc, notedIq, handsOn};
 ghost use Rattle.chain.specs.Stages.{process, Acceptable};
-ghost use Rattle.chain.specs.Calls.{unreadRefusal, toldUnread, called};
+ghost use Rattle.chain.specs.Calls.{unreadRefusal, toldUnread, toldRead, called};
 ghost use Rattle.chain_call.specs.Said.{said};
 use chain_state::Counts;
 use chain_state::InputConditioner;
@@ -308,6 +308,19 @@ pub fn refusal(state: InputConditioner, len: usize, spans: &[u64], repairs: &[u6
     Conditioned::Ready(0)
 }
 
+// What refuses a call for a sample: 7, with the place of the first new one that is not usable.
+// `Ready(0)` where nothing does.
+pub fn unusable(samples: &[u64], held: usize) -> Conditioned
+    requires { ⌜ held ≤ length (now samples) ⌝ }
+    ensures { λ r. ⌜ said r ≡ toldRead held (drop held (now (samples .entry))) ⌝ }
+{
+    let found = sample_guard::first_unusable(&samples[held..]);
+    if let Found::At(k) = found {
+        return Conditioned::Unusable(held + k);
+    }
+    Conditioned::Ready(0)
+}
+
 // Document 01's number of a refusal, and 0 where there is none.
 pub fn number(answer: Conditioned) -> u64
     ensures { λ r. ⌜ r ≡ numberOf (said answer) ⌝ }
@@ -342,12 +355,11 @@ pub fn condition(
             answer: unread,
         };
     }
-    let held = state.counts.held;
-    let found = sample_guard::first_unusable(&samples[held..]);
-    if let Found::At(k) = found {
+    let read = unusable(samples, state.counts.held);
+    if number(read) != 0 {
         return Called {
             state,
-            answer: Conditioned::Unusable(held + k),
+            answer: read,
         };
     }
     accept(state, samples, spans, repairs)

@@ -24,6 +24,11 @@ abbrev pub saidHeader : HeaderRead → Said
 saidHeader read.Bad = refused 14
 saidHeader (read.Config g) = config (configOf g)
 
+-- the number of a refusal, and 0 where there is none
+abbrev pub headerNumber : Said → ℕ
+headerNumber (refused k) = k
+headerNumber (config g) = 0
+
 unfoldable pub headerSaid : List ℕ → Said
 headerSaid bytes = cond (headerFits bytes) (config (configIn bytes)) (refused 14)
 

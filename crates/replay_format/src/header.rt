@@ -7,7 +7,7 @@ ghost use Rattle.iq.specs.View.{calibratedOf};
 ghost use Rattle.stage_mode.specs.View.{modeOf};
 ghost use Rattle.chain_config.specs.Config.{configOf};
 ghost use Rattle.replay_format.specs.Format.{markFits, modesFit, modeBy, realAt, calibrationIn, configIn};
-ghost use Rattle.replay_format.specs.Header.{saidHeader, headerSaid};
+ghost use Rattle.replay_format.specs.Header.{saidHeader, headerNumber, headerSaid};
 use crate::CHANNELS;
 use crate::HeaderRead;
 use crate::REPAIRS;
@@ -131,4 +131,14 @@ pub fn header(bytes: &[u8]) -> HeaderRead
         return HeaderRead::Bad;
     }
     HeaderRead::Config(config(bytes))
+}
+
+// Document 01's number of what was read, and 0 where there is none.
+pub fn number(read: HeaderRead) -> u64
+    ensures { λ r. ⌜ r ≡ headerNumber (saidHeader read) ⌝ }
+{
+    match read {
+        HeaderRead::Bad => 14,
+        HeaderRead::Config(_) => 0,
+    }
 }

@@ -12,10 +12,6 @@ use Rattle.vatgorge.specs.Make.{After, afterSaid}
 
 -- ---- vg_header
 
-abbrev pub headerCode : Said → ℕ
-headerCode (refused k) = k
-headerCode (config g) = 0
-
 -- the configuration's words are written, and a refusal leaves every word
 abbrev pub headerWords : List ℕ → Said → List ℕ
 headerWords ws (refused k) = ws

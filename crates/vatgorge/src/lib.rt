@@ -4,6 +4,8 @@
 
 ghost use mathlib.Core.Path.{_≡_};
 ghost use lib.ListN.{length};
+ghost use Rattle.rules.specs.Log.{repairWidth, storeWidth};
+ghost use Rattle.rules.specs.Monitor.{channelWidth};
 ghost use Rattle.iq_monitor.specs.Observe.{reportFrom};
 ghost use Rattle.chain.specs.Stages.{machineOf};
 ghost use Rattle.chain_call.specs.Said.{said};
@@ -24,6 +26,7 @@ use chain_log::DcLevel;
 use chain_log::SpanRead;
 use chain_state::InputConditioner;
 use iq_monitor::Evidence;
+use iq_monitor::ImageMonitor;
 use log::Mark;
 use log::Stage;
 
@@ -94,7 +97,7 @@ pub extern "C" fn vg_span_words() -> u64
 // The span store's words for each span that a ring holds.
 #[no_mangle]
 pub extern "C" fn vg_span_store_words() -> u64
-    ensures { λ r. ⌜ r ≡ 24 ⌝ }
+    ensures { λ r. ⌜ r ≡ storeWidth ⌝ }
 {
     log::STORE_WORDS as u64
 }
@@ -102,7 +105,7 @@ pub extern "C" fn vg_span_store_words() -> u64
 // The repair store's words for each repair.
 #[no_mangle]
 pub extern "C" fn vg_repair_store_words() -> u64
-    ensures { λ r. ⌜ r ≡ 6 ⌝ }
+    ensures { λ r. ⌜ r ≡ repairWidth ⌝ }
 {
     log::REPAIR_WORDS as u64
 }
@@ -110,9 +113,9 @@ pub extern "C" fn vg_repair_store_words() -> u64
 // The monitor store's words for each channel.
 #[no_mangle]
 pub extern "C" fn vg_monitor_store_words() -> u64
-    ensures { λ r. ⌜ r ≡ 4 ⌝ }
+    ensures { λ r. ⌜ r ≡ channelWidth ⌝ }
 {
-    4
+    ImageMonitor::CHANNEL_WORDS as u64
 }
 
 // ---- the state's words
@@ -167,13 +170,24 @@ pub extern "C" fn vg_condition(
     ensures chain { λ _. ⌜ machineOf (stateOf (now (state .exit))) (now (spans .exit)) (now (repairs .exit))
         ≡ condition.calledIn (now (state .entry)) (now (samples .entry)) (now (spans .entry)) (now (repairs .entry)) .machine ⌝ }
 {
-    let called = chain_call::condition(chain_words::read_state(state), samples, spans, repairs);
+    let asked = chain_words::read_state(state);
+    let unread = chain_call::refusal(asked, samples.len(), spans, repairs);
+    let unread_code = chain_call::number(unread);
+    if unread_code != 0 {
+        return unread_code;
+    }
+    let read = chain_call::unusable(samples, asked.counts.held);
+    let read_code = chain_call::number(read);
+    if read_code != 0 {
+        tell_call(read, out);
+        return read_code;
+    }
+    let called = chain_call::accept(asked, samples, spans, repairs);
     let answer = called.answer;
-    let next = called.state;
-    let code = chain_call::number(answer);
-    keep(code, next, state);
     tell_call(answer, out);
-    code
+    let next = called.state;
+    chain_words::write_state(next, state);
+    0
 }
 
 // ---- a hop

@@ -2,42 +2,46 @@
 
 ghost use mathlib.Core.Path.{_≡_};
 ghost use Rattle.chain_words.specs.States.{stateOf};
-ghost use Rattle.replay_format.specs.Header.{headerSaid};
+ghost use Rattle.replay_format.specs.Header.{saidHeader, headerNumber, headerSaid};
 ghost use Rattle.replay_start.specs.Starting.{saidStart, startState};
 ghost use Rattle.vatgorge.specs.Codes.{stateAfter};
 ghost use Rattle.vatgorge.specs.Config.{configIn};
 ghost use Rattle.vatgorge.specs.Make.{After, codeOf};
-ghost use Rattle.vatgorge.specs.Recording.{headerCode, headerWords, headerConfig, after};
+ghost use Rattle.vatgorge.specs.Recording.{headerWords, headerConfig, after};
 use crate::config;
 use crate::making;
 use replay_format::HeaderRead;
 use replay_start::StartAnswer;
 
+fn tell_header(read: HeaderRead, config: &mut [u64; config::CONFIG_WORDS])
+    ensures words { λ _. ⌜ now (config .exit) ≡ headerWords (now (config .entry)) (saidHeader read) ⌝ }
+    ensures again { λ _. ⌜ configIn (now (config .exit)) ≡ headerConfig (now (config .entry)) (saidHeader read) ⌝ }
+{
+    match read {
+        HeaderRead::Bad => {}
+        HeaderRead::Config(said) => config::write_config(said, config),
+    }
+}
+
 // What a header's bytes say: 0 with the configuration's words, or 14, which leaves every word.
 #[no_mangle]
 pub extern "C" fn vg_header(bytes: &[u8], config: &mut [u64; config::CONFIG_WORDS]) -> u64
-    ensures code { λ r. ⌜ r ≡ headerCode (headerSaid (now (bytes .entry))) ⌝ }
+    ensures code { λ r. ⌜ r ≡ headerNumber (headerSaid (now (bytes .entry))) ⌝ }
     ensures words { λ _. ⌜ now (config .exit) ≡ headerWords (now (config .entry)) (headerSaid (now (bytes .entry))) ⌝ }
     ensures again { λ _. ⌜ configIn (now (config .exit)) ≡ headerConfig (now (config .entry)) (headerSaid (now (bytes .entry))) ⌝ }
 {
     let read = replay_format::header::header(bytes);
-    match read {
-        HeaderRead::Bad => 14,
-        HeaderRead::Config(said) => {
-            config::write_config(said, config);
-            0
-        }
-    }
+    tell_header(read, config);
+    replay_format::header::number(read)
 }
 
 fn start_code(answer: StartAnswer) -> u64
     ensures { λ r. ⌜ r ≡ codeOf (saidStart answer) ⌝ }
 {
-    match answer {
-        StartAnswer::BadHeader => 14,
-        StartAnswer::NoSample => 15,
-        StartAnswer::Making(made) => making::making_code(made),
+    if let StartAnswer::Making(made) = answer {
+        return making::making_code(made);
     }
+    replay_start::start_number(answer)
 }
 
 // Begins with the header's bytes and the first block behind them: 14, 15, and then making, with stores

@@ -8,7 +8,7 @@ use lib.Dec.{T, eqb, ltb}
 use borrow.Author.Tests.{lt-ltb, le-ltb, eqb-true, ltb-true, ltb-false, not-false}
 use lib.ListN.{length, drop}
 use Rattle.rules.specs.Guard.{usable, firstUnusableFrom, Usable}
-use Rattle.rules.specs.Answers.{Said, refused, numberOf}
+use Rattle.rules.specs.Answers.{Said, accepted, refused, numberOf}
 use Rattle.rules.specs.Refusals.{Cause, firstOf, tooMany, unusableAt, anyUnusable}
 use Rattle.rules.specs.Lists.{All}
 use Rattle.rules.specs.Log.{repairWidth, storeWidth}
@@ -21,7 +21,7 @@ use Rattle.sample_guard.specs.Found.{found, placeIn}
 use Rattle.chain_state.specs.declared.InputConditioner.{InputConditioner}
 use Rattle.chain_state.specs.Fits.{stateFits}
 use Rattle.chain.specs.Stages.{newPart, Machine, machineOf, Acceptable}
-use Rattle.chain.specs.Calls.{unreadCauses, unreadRefusal, callRefusal, toldUnread, Outcome, taken, declined, called}
+use Rattle.chain.specs.Calls.{unreadCauses, unreadRefusal, callRefusal, toldUnread, toldRead, Outcome, taken, declined, called}
 
 -- ---- the first cause of a list
 
@@ -256,18 +256,37 @@ module _ (c : InputConditioner) (samples spans repairs : List ℕ) where
       (ap (λ (m : ℕ). eqb m 7) (sym e) ∙ no-seven c (length samples) spans repairs)
 
   module _ (z : unreadRefusal c (length samples) spans repairs ≡ 0) where
-    pub unusable-sample : (k : ℕ)
-        → (anyUnusable (c .counts .held) (newPart c samples) .holds ≡ true) × (unusableAt (c .counts .held) (newPart c samples) ≡ c .counts .held + k)
-        → Is (called (machineOf c spans repairs) samples) (refused (7 ∷ (c .counts .held + k) ∷ [])) (machineOf c spans repairs) samples
+    -- what is refused for a sample leaves all
+    pub read-declined : (s : Said ℕ) → s ≡ toldRead (c .counts .held) (newPart c samples) → eqb (numberOf s) 0 ≡ false
+        → Is (called (machineOf c spans repairs) samples) s (machineOf c spans repairs) samples
     unfolding returned
-    unusable-sample k u =
-        is-by (called (machineOf c spans repairs) samples) (refused (7 ∷ (c .counts .held + k) ∷ [])) (machineOf c spans repairs) samples
-        (declined-by c samples spans repairs 7 (by-order 0 true z (u .0)) refl
-        ∙ ap (λ (n : ℕ). declined (machineOf c spans repairs) samples (7 ∷ n ∷ [])) (u .1))
+    read-declined s e some = go (anyUnusable (c .counts .held) (newPart c samples) .holds) refl e
+      where
+        seven : Said ℕ
+        seven = refused (7 ∷ unusableAt (c .counts .held) (newPart c samples) ∷ [])
+
+        go : (b : Bool) → anyUnusable (c .counts .held) (newPart c samples) .holds ≡ b → s ≡ cond b seven (accepted 0)
+            → Is (called (machineOf c spans repairs) samples) s (machineOf c spans repairs) samples
+        go true u q =
+            let d = is-by (called (machineOf c spans repairs) samples) seven (machineOf c spans repairs) samples
+            (declined-by c samples spans repairs 7 (by-order 0 true z u) refl) in
+            (q ∙ d .0, d .1)
+        go false u q = absurd (false≢true (sym some ∙ ap (λ (x : Said ℕ). eqb (numberOf x) 0) q))
 
     pub accepted-call : anyUnusable (c .counts .held) (newPart c samples) .holds ≡ false
         → called (machineOf c spans repairs) samples ≡ taken (machineOf c spans repairs) samples
     accepted-call u = taken-by c samples spans repairs (by-order 0 false z u)
+
+    -- what is not refused for a sample either is accepted
+    pub read-accepted : (s : Said ℕ) → s ≡ toldRead (c .counts .held) (newPart c samples) → numberOf s ≡ 0
+        → called (machineOf c spans repairs) samples ≡ taken (machineOf c spans repairs) samples
+    read-accepted s e none = go (anyUnusable (c .counts .held) (newPart c samples) .holds) refl e
+      where
+        go : (b : Bool) → anyUnusable (c .counts .held) (newPart c samples) .holds ≡ b
+            → s ≡ cond b (refused (7 ∷ unusableAt (c .counts .held) (newPart c samples) ∷ [])) (accepted 0)
+            → called (machineOf c spans repairs) samples ≡ taken (machineOf c spans repairs) samples
+        go true u q = absurd (false≢true (ap (λ (x : Said ℕ). eqb (numberOf x) 0) (sym q) ∙ ap (λ (n : ℕ). eqb n 0) none))
+        go false u q = accepted-call u
 
     pub acceptable : length (c .notes .log .rings) ≡ 12 → length (c .notes .log .counts) ≡ 12 → Acceptable c samples spans repairs
     acceptable rings counts =

@@ -4,11 +4,8 @@ use mathlib.Core.Bool.{Bool, true, false, cond}
 use mathlib.Core.List.{List}
 use Prim.Native.Nat.{ℕ}
 use lib.Dec.{eqb}
-use Rattle.rules.specs.Answers.{isAccepted, numberOf}
+use Rattle.rules.specs.Answers.{isAccepted}
 use Rattle.chain_state.specs.declared.InputConditioner.{InputConditioner}
-use Rattle.chain_call.specs.declared.Conditioned.{Conditioned}
-use Rattle.chain_call.specs.declared.Conditioned.the-variants as call
-use Rattle.chain_call.specs.Said.{said}
 use Rattle.chain_hop.specs.declared.HopSaid.{HopSaid}
 use Rattle.chain_hop.specs.declared.HopSaid.the-variants as hop
 use Rattle.chain_hop.specs.Hops.{saidHop}
@@ -25,14 +22,6 @@ says code ws s keeps = go (eqb code 0) refl
     go false e = sym (keeps e)
 
 -- 0 is accepted, and nothing else is
-pub call-zero : (a : Conditioned) → isAccepted (said a) ≡ eqb (numberOf (said a)) 0
-call-zero (call.Ready k) = refl
-call-zero call.BadState = refl
-call-zero call.BadLength = refl
-call-zero call.Short = refl
-call-zero call.TooMany = refl
-call-zero (call.Unusable k) = refl
-
 pub hop-zero : (a : HopSaid) → isAccepted (saidHop a) ≡ eqb (codeOf (saidHop a)) 0
 hop-zero hop.Nothing = refl
 hop-zero hop.NoReport = refl
