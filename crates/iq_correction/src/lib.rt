@@ -14,7 +14,7 @@ ghost use Rattle.amplitude_limit.specs.Limit.{under};
 ghost use Rattle.iq.specs.View.{settledOf};
 ghost use Rattle.iq_correction.specs.Groups.{Small, FiniteWord, rebased, partBits, Clear, Mapping};
 ghost use Rattle.rules.specs.Answers.{numberIn};
-ghost use Rattle.iq_correction.specs.Undo.{said, undoReturned, undoWords};
+ghost use Rattle.iq_correction.specs.Undo.{said, divisorOf, uncorrectedBy, undoReturned, undoWords};
 use complex::Complex64;
 use iq::Iq;
 
@@ -30,13 +30,19 @@ pub fn correct(rho: Complex64, w: u64) -> u64
     y.word
 }
 
-// The sample y of a word, as (y + rho·conj(y))/(1 − power of rho).
-fn uncorrect(rho: Complex64, w: u64) -> u64
-    ensures { λ r. ⌜ r ≡ uncorrected (view64 rho) w ⌝ }
+// 1 − power of rho.
+fn divisor(rho: Complex64) -> f64
+    ensures { λ r. ⌜ r ≡ divisorOf (view64 rho) ⌝ }
+{
+    1.0 - rho.norm_sqr()
+}
+
+// The sample y of a word, as (y + rho·conj(y))/divisor, whatever the divisor is.
+fn uncorrect(rho: Complex64, divisor: f64, w: u64) -> u64
+    ensures { λ r. ⌜ r ≡ uncorrectedBy (view64 rho) divisor w ⌝ }
 {
     let y = Complex64::unpack(w);
-    let scale = 1.0 - rho.norm_sqr();
-    let m = y.add(rho.mul(y.conj())).unscale(scale).rounded();
+    let m = y.add(rho.mul(y.conj())).unscale(divisor).rounded();
     m.word
 }
 
@@ -177,15 +183,22 @@ fn correct_all(rho: Complex64, samples: &mut [u64])
     correct_each(rho, &mut samples[k..]);
 }
 
-// Each correction undone, in place.
-fn uncorrect_all(rho: Complex64, samples: &mut [u64])
-    ensures { λ r. ⌜ now (samples .exit) ≡ map (uncorrected (view64 rho)) (now (samples .entry)) ⌝ }
+// Each correction undone by this divisor, one after the other.
+fn uncorrect_each(rho: Complex64, divisor: f64, samples: &mut [u64])
+    ensures { λ r. ⌜ now (samples .exit) ≡ map (uncorrectedBy (view64 rho) divisor) (now (samples .entry)) ⌝ }
 {
     let mut k: usize = 0;
     while k < samples.len() {
-        samples[k] = uncorrect(rho, samples[k]);
+        samples[k] = uncorrect(rho, divisor, samples[k]);
         k += 1;
     }
+}
+
+// Each correction undone, in place. The divisor is worked out once, before the samples.
+fn uncorrect_all(rho: Complex64, samples: &mut [u64])
+    ensures { λ r. ⌜ now (samples .exit) ≡ map (uncorrected (view64 rho)) (now (samples .entry)) ⌝ }
+{
+    uncorrect_each(rho, divisor(rho), samples);
 }
 
 // The stage over a slice, as it was settled.

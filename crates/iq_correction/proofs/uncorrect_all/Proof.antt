@@ -1,77 +1,32 @@
--- `iq_correction::uncorrect_all` is the map of `uncorrected`. The invariant: what is written before place k, and what is left from k on, give the same. Assumes
--- nothing.
-use mathlib.Core.Path.{refl, sym, subst}
-use Prim.Native.Nat.{ℕ, _+_, _-_}
-use lib.ListN.{length, set}
+-- `iq_correction::uncorrect_all` is the map of `uncorrected`: the loop's, by document 01's divisor. Assumes nothing.
+use mathlib.Core.Path.{ap, _∙_}
+use mathlib.Core.List.{map}
+use Prim.Native.Nat.{ℕ}
+use lib.Ieee.{Float}
 use Rattle.complex.specs.View.{view64}
-use Rattle.rules.specs.Iq.{uncorrected}
-use Rattle.iq_correction.specs.laws.Maps.{mapping-next, mapping-end}
-use Rattle.iq_correction.specs.Groups.{Mapping}
+use Rattle.iq_correction.specs.laws.UndoLaws.{by-the-formula}
+use Rattle.iq_correction.specs.Undo.{uncorrectedBy}
 use borrow.Author.Needs.{needs}
 use Rattle.iq_correction.proofs.uncorrect_all.Statement.{statement}
 use Rattle.iq_correction.proofs.uncorrect_all.Tie as tie
 
-abbrev Inv-loop : tie.InvT-loop
-Inv-loop rho samples₀ k₀ samples k = Mapping (uncorrected (view64 rho)) samples₀ samples k
+divisor-requires : tie.Need-divisor-requires
+divisor-requires c κs = search needs
 
-abbrev μ-loop : tie.MeasureT-loop
-μ-loop rho samples₀ k₀ samples k = length samples₀ - k
+uncorrect-each-requires : tie.Need-uncorrect-each-requires
+uncorrect-each-requires c κs = search needs
 
-loop-holds : tie.Need-loop-holds Inv-loop μ-loop
-loop-holds c = record { same = refl; place = search needs; written = refl }
+same-length : tie.Need-same-length
+same-length c = search needs
 
-mul-uncorrect : tie.Need-mul-uncorrect Inv-loop μ-loop
-mul-uncorrect c = search needs
-
-slice-read-uncorrect : tie.Need-slice-read-uncorrect Inv-loop μ-loop
-slice-read-uncorrect c = search needs
-
-uncorrect-requires : tie.Need-uncorrect-requires Inv-loop μ-loop
-uncorrect-requires c κs = search needs
-
-mul-samples : tie.Need-mul-samples Inv-loop μ-loop
-mul-samples c = search needs
-
-slice-write-samples : tie.Need-slice-write-samples Inv-loop μ-loop
-slice-write-samples c = search needs
-
-add-k : tie.Need-add-k Inv-loop μ-loop
-add-k c = search needs
-
-loop-less : tie.Need-loop-less Inv-loop μ-loop
-loop-less c = search needs
-
-loop-again : tie.Need-loop-again Inv-loop μ-loop
-loop-again c =
-    let l = c .before .before .before .loop in
-    let a = c .before .before .before .before .before .args in
-    let f = uncorrected (view64 (a .rho)) in
-    subst (λ (w : ℕ). Mapping f (a .samples .now) (set (l .samples) (l .k) w) (l .k + 1)) (sym (c .uncorrect .ensures))
-    (mapping-next f (a .samples .now) (l .samples) (l .k) (c .before .before .loop-test .taken) (l .inv))
-
-same-length : tie.Need-same-length Inv-loop μ-loop
-same-length c = c .before .loop .inv .same
-
-returns : tie.Need-returns Inv-loop μ-loop
+returns : tie.Need-returns
 returns c =
-    let l = c .before .loop in
-    let a = c .before .before .before .args in
-    mapping-end (uncorrected (view64 (a .rho))) (a .samples .now) (l .samples) (l .k) (c .loop-test .left) (l .inv)
+    let a = c .before .before .before .before .before .before .args in
+    let r = view64 (a .rho) in
+    let xs = a .samples .now in
+    c .before .before .uncorrect-each .ensures
+    ∙ ap (λ (d : Float). map (uncorrectedBy r d) xs) (c .before .before .before .before .divisor .ensures)
+    ∙ ap (λ (f : ℕ → ℕ). map f xs) (by-the-formula r)
 
 pub uncorrect-all-spec : {M : Type 1} → statement M
-uncorrect-all-spec =
-    tie.close
-    (tie.spec
-    Inv-loop
-    μ-loop
-    loop-holds
-    mul-uncorrect
-    slice-read-uncorrect
-    uncorrect-requires
-    mul-samples
-    slice-write-samples
-    add-k
-    loop-less
-    loop-again
-    same-length
-    returns)
+uncorrect-all-spec = tie.close (tie.spec divisor-requires uncorrect-each-requires same-length returns)

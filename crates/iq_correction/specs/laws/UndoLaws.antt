@@ -1,4 +1,4 @@
--- IQ undo by the answers of its two tests. Assumes nothing.
+-- IQ undo: by its divisor, and by the answers of its two tests. Assumes nothing.
 use mathlib.Core.Path.{_≡_, refl, sym, ap, _∙_}
 use mathlib.Core.Bool.{Bool, true, false, not, cond}
 use mathlib.Core.List.{List, map}
@@ -9,7 +9,12 @@ use Rattle.complex.specs.Complex.{Complex}
 use Rattle.rules.specs.Iq.{accepted, uncorrected}
 use Rattle.rules.specs.Refusals.{firstOf, iqUndoRefusal, firstBeyondFrom}
 use Rattle.amplitude_limit.specs.Limit.{returned}
-use Rattle.iq_correction.specs.Undo.{undoReturned, undoWords}
+use Rattle.iq_correction.specs.Undo.{divisorOf, uncorrectedBy, undoReturned, undoWords}
+
+-- by document 01's divisor the loop's formula is document 01's
+pub by-the-formula : (r : Complex) → uncorrectedBy r (divisorOf r) ≡ uncorrected r
+unfolding uncorrectedBy uncorrected
+by-the-formula r = refl
 
 -- by whether the coefficient is fit, and a part is beyond the limit
 abbrev pub undoNumber : Bool → Bool → ℕ
