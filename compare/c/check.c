@@ -227,6 +227,13 @@ static void validating(void) {
     SAME(vg_validate(1.0, 0.0, NAN), VG_BAD_CENTRE);
 }
 
+/* The words of the stores are to become 0. */
+static void zeroed(size_t span_words, size_t repair_words, size_t monitor_words) {
+    memset(was.spans, 0, 8 * span_words);
+    memset(was.repairs, 0, 8 * repair_words);
+    memset(was.monitor, 0, 8 * monitor_words);
+}
+
 static void making(void) {
     static const double rates[] = {0.0, 0.999, 10000000.5, -48000.0, INFINITY, NAN};
     struct vg_state applying;
@@ -234,9 +241,7 @@ static void making(void) {
     begin(VG_APPLY, VG_APPLY, VG_APPLY);
     ANSWERS(VG_ACCEPTED, make(SPAN_WORDS, REPAIR_WORDS, MONITOR_WORDS));
     WRITES(state);
-    memset(was.spans, 0, 8 * SPAN_WORDS);
-    memset(was.repairs, 0, 8 * REPAIR_WORDS);
-    memset(was.monitor, 0, 8 * MONITOR_WORDS);
+    zeroed(SPAN_WORDS, REPAIR_WORDS, MONITOR_WORDS);
     LEFT();
     applying = lent.state;
     begin(3, UINT64_MAX, 77);
@@ -678,9 +683,7 @@ static void starts(void) {
         if (k != REPLAY_MONITOR_WORDS) REFUSES(VG_BAD_LENGTH, start(HEADER, 8, REPLAY_SPAN_WORDS, REPLAY_REPAIR_WORDS, k));
     ANSWERS(VG_ACCEPTED, start(HEADER, 8, REPLAY_SPAN_WORDS, REPLAY_REPAIR_WORDS, REPLAY_MONITOR_WORDS));
     WRITES(state);
-    memset(was.spans, 0, 8 * REPLAY_SPAN_WORDS);
-    memset(was.repairs, 0, 8 * REPLAY_REPAIR_WORDS);
-    memset(was.monitor, 0, 8 * REPLAY_MONITOR_WORDS);
+    zeroed(REPLAY_SPAN_WORDS, REPLAY_REPAIR_WORDS, REPLAY_MONITOR_WORDS);
     LEFT();
     // it is the chain that its header's configuration makes
     started = lent.state;

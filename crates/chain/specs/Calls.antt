@@ -40,7 +40,7 @@ abbrev pub toldUnread : ℕ → Said ℕ
 toldUnread zero = accepted 0
 toldUnread (suc k) = refused (suc k ∷ [])
 
--- what is told of the new samples, the first of which is number held: a refusal, or that none is ready
+-- what is told of the new samples, the first of which stands at place held: a refusal, or that none is ready
 abbrev pub toldRead : ℕ → List ℕ → Said ℕ
 toldRead held xs = cond (anyUnusable held xs .holds) (refused (7 ∷ unusableAt held xs ∷ [])) (accepted 0)
 

@@ -74,6 +74,14 @@ told-number n k s e q = go n ∙ sym (q ∙ ap numberOf e)
     go zero = refl
     go (suc k) = refl
 
+-- what is told of the new samples tells whether one is not usable
+told-read : (held : ℕ) (xs : List ℕ) (s : Said ℕ) → s ≡ toldRead held xs → anyUnusable held xs .holds ≡ not (eqb (numberOf s) 0)
+told-read held xs s e = go (anyUnusable held xs .holds) ∙ ap (λ (x : Said ℕ). not (eqb (numberOf x) 0)) (sym e)
+  where
+    go : (b : Bool) → b ≡ not (eqb (numberOf {A = ℕ} (cond b (refused (7 ∷ unusableAt held xs ∷ [])) (accepted 0))) 0)
+    go true = refl
+    go false = refl
+
 module _ (c : InputConditioner) (len : ℕ) (spans repairs : List ℕ) where
   pub unread-by : (f r s e h t : Bool)
       → stateFits c ≡ f
@@ -260,18 +268,13 @@ module _ (c : InputConditioner) (samples spans repairs : List ℕ) where
     pub read-declined : (s : Said ℕ) → s ≡ toldRead (c .counts .held) (newPart c samples) → eqb (numberOf s) 0 ≡ false
         → Is (called (machineOf c spans repairs) samples) s (machineOf c spans repairs) samples
     unfolding returned
-    read-declined s e some = go (anyUnusable (c .counts .held) (newPart c samples) .holds) refl e
-      where
-        seven : Said ℕ
-        seven = refused (7 ∷ unusableAt (c .counts .held) (newPart c samples) ∷ [])
-
-        go : (b : Bool) → anyUnusable (c .counts .held) (newPart c samples) .holds ≡ b → s ≡ cond b seven (accepted 0)
-            → Is (called (machineOf c spans repairs) samples) s (machineOf c spans repairs) samples
-        go true u q =
-            let d = is-by (called (machineOf c spans repairs) samples) seven (machineOf c spans repairs) samples
-            (declined-by c samples spans repairs 7 (by-order 0 true z u) refl) in
-            (q ∙ d .0, d .1)
-        go false u q = absurd (false≢true (sym some ∙ ap (λ (x : Said ℕ). eqb (numberOf x) 0) q))
+    read-declined s e some =
+        let place = unusableAt (c .counts .held) (newPart c samples) in
+        let u = told-read (c .counts .held) (newPart c samples) s e ∙ ap not some in
+        let seven = e ∙ ap (λ (b : Bool). cond b (refused (7 ∷ place ∷ [])) (accepted 0)) u in
+        let d = is-by (called (machineOf c spans repairs) samples) (refused (7 ∷ place ∷ [])) (machineOf c spans repairs) samples
+        (declined-by c samples spans repairs 7 (by-order 0 true z u) refl) in
+        (seven ∙ d .0, d .1)
 
     pub accepted-call : anyUnusable (c .counts .held) (newPart c samples) .holds ≡ false
         → called (machineOf c spans repairs) samples ≡ taken (machineOf c spans repairs) samples
@@ -280,13 +283,7 @@ module _ (c : InputConditioner) (samples spans repairs : List ℕ) where
     -- what is not refused for a sample either is accepted
     pub read-accepted : (s : Said ℕ) → s ≡ toldRead (c .counts .held) (newPart c samples) → numberOf s ≡ 0
         → called (machineOf c spans repairs) samples ≡ taken (machineOf c spans repairs) samples
-    read-accepted s e none = go (anyUnusable (c .counts .held) (newPart c samples) .holds) refl e
-      where
-        go : (b : Bool) → anyUnusable (c .counts .held) (newPart c samples) .holds ≡ b
-            → s ≡ cond b (refused (7 ∷ unusableAt (c .counts .held) (newPart c samples) ∷ [])) (accepted 0)
-            → called (machineOf c spans repairs) samples ≡ taken (machineOf c spans repairs) samples
-        go true u q = absurd (false≢true (ap (λ (x : Said ℕ). eqb (numberOf x) 0) (sym q) ∙ ap (λ (n : ℕ). eqb n 0) none))
-        go false u q = accepted-call u
+    read-accepted s e none = accepted-call (told-read (c .counts .held) (newPart c samples) s e ∙ ap (λ (n : ℕ). not (eqb n 0)) none)
 
     pub acceptable : length (c .notes .log .rings) ≡ 12 → length (c .notes .log .counts) ≡ 12 → Acceptable c samples spans repairs
     acceptable rings counts =
