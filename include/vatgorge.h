@@ -206,7 +206,8 @@ uint64_t vg_undo_repairs(const struct vg_state *state, const uint64_t *repairs, 
 
 /* Undoes an applying DC stage: y is all that it wrote, from sample 0 on, at the rate fs. No part is above 1e18 in size.
  * Answers 0, 1, 4 (the lengths differ), 7.
- * Accepted: all of x is written. Number 7 writes *place. */
+ * Accepted: all of x is written. Number 7 writes *place.
+ * A part of at most 1 in size comes back within 2^-22, if that part of the stage's level is at most 1 in size too. */
 uint64_t vg_undo_dc(const uint64_t *y, size_t length, double fs, uint64_t *x, size_t x_length, uint64_t *place);
 
 /* Undoes an IQ correction by the coefficient (re, im), in place; the log says it. No part is above 1e18 in size.

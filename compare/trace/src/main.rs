@@ -6,6 +6,7 @@
 //! smallest case that was found.
 
 mod cases;
+mod closeness;
 mod figures;
 mod library;
 mod recordings;
@@ -87,8 +88,16 @@ fn compare(seed: u64, samples: u64) -> bool {
             return false;
         }
     };
+    let closeness = match closeness::compare(seed, samples / 20) {
+        Ok(met) => met,
+        Err(difference) => {
+            println!("a difference at DC undone: {difference}");
+            return false;
+        }
+    };
     figures.say();
     recordings.say();
+    closeness.say();
     println!(
         "0 differences; {:.0} s, {:.0} s of them the library",
         begun.elapsed().as_secs_f64(),

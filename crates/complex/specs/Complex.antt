@@ -4,6 +4,7 @@ use Prim.Native.Nat.{ℕ, _+_, _*_, _/_, _%_, _^_}
 use mathlib.Core.Bool.{not}
 use lib.Dec.{T}
 use lib.Ieee.{Float, isNan, Format, binary32, binary64, add, sub, mul, div, neg, ofBits, toBits}
+use Rattle.ieee.specs.Bound.{Within}
 use Rattle.ieee.specs.Narrow.{narrowed}
 use Rattle.ieee.specs.Root.{rooted}
 
@@ -82,3 +83,10 @@ wordOf a = toBits binary32 (a .re) + toBits binary32 (a .im) * 2 ^ 32
 
 unfoldable pub sampleOf : ℕ → Complex
 sampleOf w = record { re = ofBits binary32 (w % 2 ^ 32); im = ofBits binary32 (w / 2 ^ 32) }
+
+-- both parts are at most b in size, and so are those of a word
+abbrev pub PartsWithin : ℕ → Complex → Type 0
+PartsWithin b z = Within (z .re) b 1 × Within (z .im) b 1
+
+abbrev pub WordWithin : ℕ → ℕ → Type 0
+WordWithin b w = PartsWithin b (sampleOf w)

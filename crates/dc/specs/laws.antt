@@ -3,5 +3,3 @@ pub mod Steps
 pub mod Runs
 pub mod UndoLaws
 pub mod Cutting
-pub mod NormBounds
-pub mod LevelBounds

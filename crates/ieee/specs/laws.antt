@@ -7,6 +7,7 @@ pub mod NarrowLaws
 pub mod SingleLaws
 pub mod Bounds
 pub mod RoundingError
+pub mod Signed
 pub mod RootValue
 pub mod RootNearest
 pub mod LowerBounds

@@ -5,7 +5,7 @@ use lib.Ieee.{Float, binary32, lt}
 use lib.ListN.{length, getD, take}
 use Rattle.ieee.specs.Bound.{Within}
 use Rattle.ieee.specs.Plain.{Plain}
-use Rattle.complex.specs.Complex.{Complex, sampleOf}
+use Rattle.complex.specs.Complex.{WordWithin}
 use Rattle.rules.specs.Constants.{zeroF}
 use Rattle.rules.specs.Sort.{sort}
 use Rattle.rules.specs.Lists.{All}
@@ -15,13 +15,6 @@ use Rattle.impulse.specs.declared.Open.the-variants.{Running}
 use Rattle.impulse.specs.declared.Left.the-variants.{Neighbour}
 use Rattle.impulse.specs.declared.ImpulseSuppressor.{ImpulseSuppressor}
 use Rattle.impulse.specs.State.{padded}
-
--- both parts are at most b in size
-abbrev pub PartsWithin : ℕ → Complex → Type 0
-PartsWithin b z = Within (z .re) b 1 × Within (z .im) b 1
-
-abbrev pub WordWithin : ℕ → ℕ → Type 0
-WordWithin b w = PartsWithin b (sampleOf w)
 
 -- a power of the window: within 2 ^ 115, no NaN, no sign bit
 abbrev pub PowerWithin : Float → Type 0

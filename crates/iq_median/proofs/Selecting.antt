@@ -20,7 +20,7 @@ use Rattle.rules.specs.Constants.{zeroF, oneHalf}
 use Rattle.rules.specs.Monitor.{floorOf, channelWidth}
 use Rattle.rules.specs.Sort.{insert, sort}
 use borrow.Author.Tests.{not-true}
-use Rattle.rules.specs.laws.SortLaws.{Ordered, below, not-below, is-below, is-not-below, sort-length, sort-good, all-getD, plain-order}
+use Rattle.rules.specs.laws.SortLaws.{Ordered, below, not-below, is-below, is-not-below, sort-length, sort-good, all-as, all-getD, plain-order}
 use Rattle.rules.specs.Lists.{All}
 use Rattle.iq_median.specs.declared.Search.{Search}
 use Rattle.rules.specs.laws.ListLaws.{read-any, bit}
@@ -30,10 +30,6 @@ use Rattle.iq_median.specs.Select.{passing, belowOf, aboveOf, sortedIn, 
 
 pub one-more : {A : Type 0} (l : List A) (k : ℕ) (d : A) → k < length l → drop k l ≡ getD l k d ∷ drop (k + 1) l
 one-more {A = A} l k d h = drop-cons l k d h ∙ ap (λ (i : ℕ). getD l k d ∷ drop i l) (sym (add-one k))
-
-all-as : {A : Type 0} (P Q : A → Type 0) → ((x : A) → P x → Q x) → (l : List A) → All P l → All Q l
-all-as P Q f [] g = tt
-all-as P Q f (x ∷ l) g = (f x (g .0), all-as P Q f l (g .1))
 
 -- ---- what passes a test
 

@@ -13,3 +13,4 @@ pub mod GoodRepairs
 pub mod Good
 pub mod Fresh
 pub mod OneRecord
+pub mod ReleasedUndone

@@ -7,19 +7,19 @@ use native.Mathlib.Nat.{add-zero, add-comm, le-of-suc-le-suc}
 use native.Mathlib.Numerals.{add-one}
 use native.Mathlib.Omega.{arith}
 use lib.Dec.{T, leb, leb→le}
-use lib.IntN.{pos}
 use lib.ListN.{length, drop, getD, drop-of-length-le}
-use lib.Ieee.{Float, le, neg, ofBits}
+use lib.Ieee.{Float, le, neg}
 use lib.Ieee.Fits.{and-l, and-r}
 use Rattle.rules.specs.Constants.{partLimit}
-use Rattle.rules.specs.laws.SizeLaws.{size-le}
+use Rattle.rules.specs.laws.SizeLaws.{part-between}
+use Rattle.rules.specs.Lists.{All}
 use Rattle.rules.specs.Refusals.{withinLimit, firstBeyondFrom}
 use Rattle.amplitude_limit.specs.laws.Slices.{left}
 use Rattle.amplitude_limit.specs.Limit.{limited, under}
 
 pub limited-is : (x : Float) → limited x ≡ (le (neg partLimit) x && le x partLimit)
-unfolding limited neg ofBits
-limited-is x = size-le x 3814697265625 (pos 18)
+unfolding limited
+limited-is x = part-between x
 
 -- both parts of a sample under a limit
 pub parts-under : (limit w : ℕ) → T (under limit w) → (w % 2 ^ 31 ≤ limit) × (w / 2 ^ 32 % 2 ^ 31 ≤ limit)
@@ -40,6 +40,14 @@ scan-here xs k h = ap (firstBeyondFrom k) (left xs k h)
 pub scan-end : (xs : List ℕ) (k : ℕ) → length xs ≤ k → firstBeyondFrom k (drop k xs) ≡ k
 unfolding firstBeyondFrom
 scan-end xs k h = ap (firstBeyondFrom k) (drop-of-length-le xs h)
+
+pub scan-within : (k : ℕ) (ws : List ℕ) → All (λ w. T (withinLimit w)) ws → firstBeyondFrom k ws ≡ k + length ws
+unfolding firstBeyondFrom
+scan-within k [] g = sym (add-zero k)
+scan-within k (w ∷ ws) g = go (withinLimit w) (g .0) (scan-within (suc k) ws (g .1))
+  where
+    go : (t : Bool) → T t → firstBeyondFrom (suc k) ws ≡ suc k + length ws → cond t (firstBeyondFrom (suc k) ws) k ≡ k + suc (length ws)
+    go true u e = omega arith
 
 -- ---- what the place is
 

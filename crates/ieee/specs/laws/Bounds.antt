@@ -29,7 +29,7 @@ closest-whole r u h =
     let z : r * u % u ≡ 0 = mul-mod-left r u in
     closest-down (r * u) u (omega arith) ∙ q
 
-spare : (z p j : ℕ) → z ≤ p + j → z - p ≤ j
+pub spare : (z p j : ℕ) → z ≤ p + j → z - p ≤ j
 spare z p j h = omega arith
 
 pub grid-le : (p n den q j : ℕ) → 0 < den → q < 2 ^ p → n ≤ q * 2 ^ j * den → kept p n den * 2 ^ drop p n den ≤ q * 2 ^ j

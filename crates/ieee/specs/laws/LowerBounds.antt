@@ -51,6 +51,26 @@ beyond-of-value (fin t m e) s g l a c L v h =
     (le-of-eq (mul-right-comm g c (down e) ∙ ap (λ (x : ℕ). x * c) (sym (v .1)) ∙ mul-right-comm (m * up e) l c))))
     L
 
+-- and back
+pub value-beyond : (x : Float) (s : Bool) (g l a c : ℕ) → HasValue x s g l → Beyond x a c → a * l ≤ g * c
+value-beyond nan s g l a c v b = absurd v
+value-beyond (inf t) s g l a c v b = absurd v
+value-beyond (fin t m e) s g l a c v b =
+    le-of-mul-le-mul-right
+    (le-trans (le-of-eq (mul-right-comm a l (down e)))
+    (le-trans (mul-le-mul-right l b)
+    (le-of-eq (mul-right-comm (m * up e) c l ∙ ap (λ (x : ℕ). x * c) (v .1) ∙ mul-right-comm g (down e) c))))
+    (down-pos e)
+
+pub value-within : (x : Float) (s : Bool) (g l a c : ℕ) → HasValue x s g l → Within x a c → g * c ≤ a * l
+value-within nan s g l a c v b = absurd v
+value-within (inf t) s g l a c v b = absurd v
+value-within (fin t m e) s g l a c v b =
+    le-of-mul-le-mul-right
+    (le-trans (le-of-eq (mul-right-comm g c (down e) ∙ ap (λ (x : ℕ). x * c) (sym (v .1)) ∙ mul-right-comm (m * up e) l c))
+    (le-trans (mul-le-mul-right l b) (le-of-eq (mul-right-comm a (down e) l))))
+    (down-pos e)
+
 -- y is at most z in size, and z is at most a / c
 pub under : (y z : Float) (a c : ℕ) → T (finite y) → Beyond z (num y) (den y) → Within z a c → Within y a c
 under nan z a c F b w = F

@@ -7,19 +7,18 @@ use native.Mathlib.Omega.{arith}
 use lib.IntN.{pos}
 use lib.Dec.{T, lit≤, lit<}
 use lib.Ieee.{Float, nan, inf, fin, binary32, add, sub, mul, le, ofInt, ofBits, isNan}
-use lib.Ieee.Fits.{and-l, and-r, and-i, add-fits}
+use lib.Ieee.Fits.{and-l, and-r, add-fits}
 use Rattle.ieee.specs.Bound.{Within, Beyond, Value}
 use Rattle.ieee.specs.laws.Bounds.{within-mono, add-within, sub-within, mul-within, div-within, ofInt-within, whole-value, scaled-value}
 use Rattle.ieee.specs.laws.LowerBounds.{fine, round-beyond}
-use Rattle.complex.specs.Complex.{Complex, sum, difference, scaled, power, wordOf, sampleOf, NoNan}
+use Rattle.complex.specs.Complex.{Complex, sum, difference, scaled, power, wordOf, sampleOf, NoNan, PartsWithin, WordWithin}
 use Rattle.complex.specs.laws.Words.{Parts32, sample-of-word}
-use Rattle.rules.specs.laws.SizeLaws.{size-within, within-size}
-use Rattle.rules.specs.Constants.{usableLimit, partLimit}
+use Rattle.rules.specs.laws.SizeLaws.{size-within}
+use Rattle.rules.specs.Constants.{usableLimit}
 use Rattle.rules.specs.Guard.{magnitude, usablePart, usable}
-use Rattle.rules.specs.Refusals.{withinLimit}
 use Rattle.rules.specs.laws.SortLaws.{power-plain}
 use Rattle.rules.specs.Impulse.{powerOf, fraction, between}
-use Rattle.impulse.specs.Sound.{PartsWithin, WordWithin, PowerWithin}
+use Rattle.impulse.specs.Sound.{PowerWithin}
 
 -- ---- samples
 
@@ -52,22 +51,6 @@ within-clean b w h = record { re = within-no-nan (sampleOf w .re) b 1 (h .0); im
 pub within-more : (b c w : ℕ) → b ≤ c → WordWithin b w → WordWithin c w
 within-more b c w l h =
     (within-mono (sampleOf w .re) b 1 c 1 (lit< tt) (omega arith) (h .0), within-mono (sampleOf w .im) b 1 c 1 (lit< tt) (omega arith) (h .1))
-
-part-limit-is : partLimit ≡ fin false 3814697265625 (pos 18)
-unfolding ofBits
-part-limit-is = refl
-
--- what is within 2 ^ 59 passes the paper's test
-limited : (x : Float) → Within x (2 ^ 59) 1 → T (le (magnitude x) partLimit)
-limited x w =
-    subst (λ (y : Float). T (le (magnitude x) y)) (sym part-limit-is)
-    (within-size x 3814697265625 (pos 18) (within-mono x (2 ^ 59) 1 (3814697265625 * 2 ^ 18) 1 (lit< tt) (lit≤ tt) w))
-
-pub within-limit : (w : ℕ) → WordWithin (2 ^ 59) w → T (withinLimit w)
-unfolding withinLimit
-within-limit w h =
-    and-i (le (magnitude (sampleOf w .re)) partLimit) (le (magnitude (sampleOf w .im)) partLimit) (limited (sampleOf w .re) (h .0))
-    (limited (sampleOf w .im) (h .1))
 
 -- ---- a mended sample
 

@@ -12,7 +12,7 @@ use lib.ListN.{length, getD, set, take, replicate, length-set, length-append, le
 use lib.Seq.{take-suc-set, take-all}
 use borrow.Author.Tests.{ltb-true, ltb-false, eqb-false}
 use Rattle.ieee.specs.Plain.{Plain}
-use Rattle.complex.specs.Complex.{wordOf, sampleOf}
+use Rattle.complex.specs.Complex.{wordOf, sampleOf, WordWithin}
 use Rattle.rules.specs.Constants.{zeroF}
 use Rattle.rules.specs.Lists.{at, All}
 use Rattle.rules.specs.Guard.{usable}
@@ -31,7 +31,7 @@ use Rattle.impulse.specs.laws.CircleLaws.{circle-length, circle-read-any
 use Rattle.impulse.specs.State.{runBefore, openAt, leftAt, newestPowers, padded, stateAt}
 use Rattle.impulse.specs.laws.Step.{Fine, newest-length, window-grows, window-moves}
 use Rattle.impulse.specs.laws.Theorem.{Clean, fine-all}
-use Rattle.impulse.specs.Sound.{WordWithin, PowerWithin, Sound}
+use Rattle.impulse.specs.Sound.{PowerWithin, Sound}
 use Rattle.impulse.specs.laws.PartBounds.{usable-within, within-clean, within-more, mended-within, power-sound}
 
 -- ---- all of a circle

@@ -7,6 +7,7 @@ use native.Mathlib.Nat.{le-trans, mul-le-mul-right, le-of-eq, suc-mul, zero-add,
 use native.Mathlib.Omega.{arith}
 use lib.IntN.{pos}
 use lib.Dec.{T, lit≤, lit<}
+use lib.Ieee.Bits.{is-true}
 use lib.Ieee.Fits.{and-l, and-r}
 use lib.ListN.{length, take, drop, replicate, length-append}
 use lib.Ieee.{Float, nan, inf, fin, binary64, add, sub, mul, le, ofBits, isNan}
@@ -15,37 +16,27 @@ use Rattle.ieee.specs.Bound.{Within}
 use Rattle.ieee.specs.laws.Bounds.{within-mono, add-within, sub-within, mul-within, scaled-value}
 use Rattle.ieee.specs.laws.Order.{square-clear, add-clear}
 use Rattle.ieee.specs.Plain.{signClear}
-use Rattle.complex.specs.Complex.{Complex, power, product, sampleOf}
+use Rattle.complex.specs.Complex.{Complex, power, product, sampleOf, PartsWithin, WordWithin}
 use Rattle.amplitude_limit.specs.laws.LimitLaws.{first-place}
-use Rattle.rules.specs.laws.SizeLaws.{size-within, within-size}
+use Rattle.rules.specs.laws.SizeLaws.{limited-part, within-size}
+use Rattle.rules.specs.laws.SortLaws.{all-append}
 use Rattle.rules.specs.Constants.{zeroF, partLimit, wordLimit, sizeLimit}
 use Rattle.rules.specs.Guard.{magnitude}
-use Rattle.rules.specs.Lists.{at, upTo, All}
+use Rattle.rules.specs.Lists.{at, upTo, allOf, All}
 use Rattle.rules.specs.Refusals.{withinLimit, firstBeyondFrom}
 use Rattle.rules.specs.Monitor.{Hop, hopEnd, channel, mirrorOf, channelPower, channelProduct, total, powerSum, realSum, imagSum, windowStart, due, nextWindow}
 use Rattle.rules.specs.Monitor.{openWindow, windowLength, monitorWords}
-use Rattle.rules.specs.Lists.{allOf}
 use Rattle.iq_monitor.specs.Words.{sumFits, powerFits, wordsFit}
-use Rattle.rules.specs.Lists.{allOf}
 use Rattle.iq_monitor.specs.laws.WordsLaws.{powers-are, others-are}
 use Rattle.iq_monitor.specs.laws.ObserveLaws.{is-some, is-next}
 use Rattle.iq_monitor.specs.Hops.{Accepted, InOrder, lastEnd, byRules}
 
--- ---- a size as a bound
-
-holds : (b : Bool) → T b → b ≡ true
-holds true t = refl
-
 -- ---- a channel
 
-abbrev Given : Complex → Type 0
-Given z = Within (z .re) (2 ^ 60) 1 × Within (z .im) (2 ^ 60) 1
-
 part-within : (x : Float) → T (le (magnitude x) partLimit) → Within x (2 ^ 60) 1
-unfolding ofBits
-part-within x t = within-mono x (3814697265625 * 2 ^ 18) 1 (2 ^ 60) 1 (lit< tt) (lit≤ tt) (size-within x 3814697265625 (pos 18) t)
+part-within x t = within-mono x (10 ^ 18) 1 (2 ^ 60) 1 (lit< tt) (lit≤ tt) (limited-part x t)
 
-given : (w : ℕ) → withinLimit w ≡ true → Given (sampleOf w)
+given : (w : ℕ) → withinLimit w ≡ true → WordWithin (2 ^ 60) w
 unfolding withinLimit
 given w e =
     let t = subst T (sym e) tt in
@@ -62,11 +53,11 @@ plus x y h k = add-within binary64 x y (2 ^ 120) (2 ^ 120) (2 ^ 121) 1 (lit< tt)
 minus : (x y : Float) → Within x (2 ^ 120) 1 → Within y (2 ^ 120) 1 → Within (sub binary64 x y) (2 ^ 121) 1
 minus x y h k = sub-within binary64 x y (2 ^ 120) (2 ^ 120) (2 ^ 121) 1 (lit< tt) (scaled-value binary64 1 121 (lit< tt) (lit≤ tt)) (lit≤ tt) h k
 
-power-within : (z : Complex) → Given z → Within (power binary64 z) (2 ^ 121) 1
+power-within : (z : Complex) → PartsWithin (2 ^ 60) z → Within (power binary64 z) (2 ^ 121) 1
 unfolding power
 power-within z g = plus _ _ (times (z .re) (z .re) (g .0) (g .0)) (times (z .im) (z .im) (g .1) (g .1))
 
-product-within : (a b : Complex) → Given a → Given b → Within (product binary64 a b .re) (2 ^ 121) 1 × Within (product binary64 a b .im) (2 ^ 121) 1
+product-within : (a b : Complex) → PartsWithin (2 ^ 60) a → PartsWithin (2 ^ 60) b → PartsWithin (2 ^ 121) (product binary64 a b)
 unfolding product
 product-within a b g h = (
   minus _ _ (times (a .re) (b .re) (g .0) (h .0)) (times (a .im) (b .im) (g .1) (h .1)),
@@ -79,7 +70,7 @@ within-number nan a c w = w
 within-number (inf s) a c w = tt
 within-number (fin s m e) a c w = tt
 
-power-clear : (z : Complex) → Given z → T (signClear (power binary64 z))
+power-clear : (z : Complex) → PartsWithin (2 ^ 60) z → T (signClear (power binary64 z))
 unfolding power
 power-clear z g =
     add-clear binary64 (mul binary64 (z .re) (z .re)) (mul binary64 (z .im) (z .im)) (square-clear binary64 (z .re) (within-number (z .re) (2 ^ 60) 1 (g .0)))
@@ -196,11 +187,11 @@ fitting n x h b = within-size x 1401298464324817 (pos 149) (within-mono x (n * 2
 
 sum-fits : (x : Float) → T (le (magnitude x) wordLimit) → sumFits x ≡ true
 unfolding sumFits
-sum-fits x t = holds (le (magnitude x) wordLimit) t
+sum-fits x t = is-true (le (magnitude x) wordLimit) t
 
 power-fits : (x : Float) → T (signClear x) → T (le (magnitude x) wordLimit) → powerFits x ≡ true
 unfolding powerFits
-power-fits x c t = let a = holds (signClear x) c in let b = holds (le (magnitude x) wordLimit) t in λ i. a i && b i
+power-fits x c t = let a = is-true (signClear x) c in let b = is-true (le (magnitude x) wordLimit) t in λ i. a i && b i
 
 all-and : (p : Float → Bool) (a b : List Float) → allOf p a ≡ true → allOf p b ≡ true → allOf p (a ++ b) ≡ true
 unfolding allOf
@@ -240,10 +231,6 @@ words-fit n end w s =
 
 -- ---- accepted hops keep a window sound
 
-all-snoc : {A : Type 0} (P : A → Type 0) (l : List A) (x : A) → All P l → P x → All P (l ++ (x ∷ []))
-all-snoc P [] x g h = (h, tt)
-all-snoc P (y ∷ l) x g h = (g .0, all-snoc P l x (g .1) h)
-
 start-of : (w : List Hop) (h : Hop) (end : ℕ) → windowStart w + 2 * length w ≤ end → end ≤ h .start → windowStart (w ++ (h ∷ [])) + 2 * length w ≤ h .start
 start-of [] h end r e = omega arith
 start-of (g ∷ w) h end r e = omega arith
@@ -261,7 +248,7 @@ sound-next n enough end w h big a s = go (due n enough w h)
     go true = record { all = tt; room = omega arith; late = omega (arith, next .0, big) }
     go false =
         record {
-          all = all-snoc (Heard n) w h (s .all) (heard n end h a);
+          all = all-append (Heard n) w (h ∷ []) (s .all) (heard n end h a, tt);
           room = let l = length-append w (h ∷ []) in let r = start-of w h end (s .room) (next .1) in omega (arith, wide);
           late = omega (arith, next .0, big);
         }

@@ -8,14 +8,16 @@ use borrow.Author.Tests.{lt-ltb, le-leb, eq-eqb}
 use lib.IntN.{pos}
 use lib.Dec.{T, ltb, eqb, lit≤, lit<}
 use lib.Ieee.{Float, binary64, le, lt, toBits, ofBits}
+use lib.Ieee.Bits.{is-true}
 use lib.ListN.{length, getD, take, replicate, List·getD-append}
 use lib.Seq.{length-take-le}
 use Rattle.ieee.specs.laws.Bounds.{within-mono}
 use Rattle.ieee.specs.Plain.{signClear}
 use Rattle.rules.specs.laws.TestLaws.{and-so}
+use Rattle.complex.specs.Complex.{WordWithin}
 use Rattle.rules.specs.Constants.{zeroF, powerLimit, totalLimit}
 use Rattle.rules.specs.Guard.{magnitude, Usable}
-use Rattle.rules.specs.laws.SizeLaws.{within-size}
+use Rattle.rules.specs.laws.SizeLaws.{within-size, word-limited}
 use Rattle.rules.specs.Refusals.{withinLimit}
 use Rattle.rules.specs.Sort.{sort}
 use Rattle.rules.specs.laws.SortLaws.{all-getD, sort-length}
@@ -29,20 +31,16 @@ use Rattle.impulse.specs.declared.Left.{Left}
 use Rattle.impulse.specs.declared.Left.the-variants.{Neighbour, Missing}
 use Rattle.impulse.specs.declared.ImpulseSuppressor.{ImpulseSuppressor}
 use Rattle.impulse.specs.Machine.{fresh}
-use Rattle.impulse.specs.Sound.{WordWithin, PowerWithin, Sound}
-use Rattle.impulse.specs.laws.PartBounds.{within-limit}
+use Rattle.impulse.specs.Sound.{PowerWithin, Sound}
 use Rattle.impulse.specs.laws.StateBounds.{state-sound}
 use Rattle.impulse.specs.laws.Theorem.{stateOf}
 use Rattle.chain_state.specs.Fits.{counter, runFits, leftFits, gateFits, windowHeld, pendingHeld, powerFits, powersFit, samplesFit, arraysFit, sortedFits}
 use Rattle.chain_state.specs.Fits.{runningFits, suppressorFits}
 
-holds : (b : Bool) → T b → b ≡ true
-holds true t = refl
-
 -- ---- a sample and a power
 
 pub word-good : (w : ℕ) → WordWithin (2 ^ 59) w → withinLimit w ≡ true
-word-good w h = holds (withinLimit w) (within-limit w h)
+word-good w h = is-true (withinLimit w) (word-limited w (2 ^ 59) (lit≤ tt) h)
 
 power-limit : (p : Float) → PowerWithin p → T (le (magnitude p) powerLimit)
 unfolding ofBits
@@ -50,7 +48,7 @@ power-limit p h = within-size p 6776263578034403 (pos 67) (within-mono p (2 ^ 11
 
 pub power-good : (p : Float) → PowerWithin p → powerFits p ≡ true
 unfolding powerFits
-power-good p h = and-so (signClear p) (le (magnitude p) powerLimit) (holds (signClear p) (h .1 .0)) (holds (le (magnitude p) powerLimit) (power-limit p h))
+power-good p h = and-so (signClear p) (le (magnitude p) powerLimit) (is-true (signClear p) (h .1 .0)) (is-true (le (magnitude p) powerLimit) (power-limit p h))
 
 -- ---- the gate
 

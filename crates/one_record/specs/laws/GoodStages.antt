@@ -2,21 +2,20 @@
 -- accepted hops. Assumes nothing.
 use mathlib.Core.Path.{_≡_, refl, sym, subst}
 use mathlib.Core.Bool.{Bool, true, false, cond, _&&_}
-use mathlib.Core.List.{List, [], _∷_, _++_}
+use mathlib.Core.List.{List, [], _∷_}
 use Prim.Native.Nat.{ℕ, zero, suc, _+_, _-_, _^_, _≤_, _<_}
 use native.Mathlib.Omega.{arith}
 use borrow.Author.Tests.{le-leb, eq-eqb}
-use lib.Dec.{T, leb, eqb, lit≤, lit<}
+use lib.Dec.{T, leb, eqb, lit≤}
 use lib.Ieee.{Float, le, ofBits}
 use lib.ListN.{length}
-use Rattle.ieee.specs.laws.Bounds.{within-mono}
-use Rattle.complex.specs.Complex.{sampleOf}
+use Rattle.complex.specs.Complex.{WordWithin}
 use Rattle.rules.specs.Constants.{one, rateLimit, sizeLimit, totalLimit}
 use Rattle.rules.specs.laws.TestLaws.{both, and-so}
-use Rattle.rules.specs.Lists.{upTo, at}
+use Rattle.rules.specs.Lists.{upTo, at, All}
 use Rattle.rules.specs.laws.ListLaws.{length-upTo}
 use Rattle.rules.specs.Guard.{magnitude, usable, Usable}
-use Rattle.rules.specs.laws.SortLaws.{all-getD}
+use Rattle.rules.specs.laws.SortLaws.{all-as, all-append, all-getD}
 use Rattle.rules.specs.Impulse.{Setting, lookahead, blockLength, flagged, judged, start, value, handedOn}
 use Rattle.rules.specs.Dc.{Level, firstLevel, corner, levelAfter}
 use Rattle.rules.specs.Iq.{Calibrated, none, with, Correcting, Withheld, ranged, coefficient, accepted, correctable, settled}
@@ -24,12 +23,11 @@ use Rattle.rules.specs.Mode.{Mode, off, observe, apply, runs}
 use Rattle.rules.specs.Chain.{Config, settingOf, afterImpulse, settledBy}
 use Rattle.rules.specs.Monitor.{Hop, windowStart, windowLength, openWindow}
 use Rattle.amplitude_limit.specs.Limit.{limited}
-use Rattle.impulse.specs.Sound.{WordWithin}
 use Rattle.impulse.specs.laws.PartBounds.{usable-within, within-more, mended-within}
 use Rattle.impulse.specs.laws.StateBounds.{value-keeps}
 use Rattle.dc.specs.Blocker.{blockerOf}
-use Rattle.dc.specs.laws.LevelBounds as level
-use Rattle.dc.specs.laws.LevelBounds.{Given, level-bounded}
+use Rattle.dc_bounds.specs.Undone.{givenMost, Given}
+use Rattle.dc_bounds.specs.laws.LevelBounds.{level-bounded}
 use Rattle.iq_monitor.specs.Words.{wordsFit}
 use Rattle.iq_monitor.specs.Hops.{InOrder, lastEnd, windowState, byRules}
 use Rattle.iq_monitor.specs.laws.WordBounds.{no-five}
@@ -39,35 +37,22 @@ use Rattle.chain_state.specs.Fits.{counter, settingsFit, heldBy, countsFit, blo
 
 -- ---- the samples that the DC stage gets
 
--- a mended part is within 2 ^ 59, and so is a usable one
-value-within : (s : Setting) → s .run ≤ 32 → (F : ℕ → Bool) (xs : List ℕ) → ((i : ℕ) → i < length xs → WordWithin (2 ^ 57) (at xs i))
-    → (j k : ℕ) → j ≤ length xs → k < length xs → WordWithin (2 ^ 59) (value s F xs j k)
-value-within s short F xs each =
-    value-keeps (WordWithin (2 ^ 57)) (WordWithin (2 ^ 59)) s F xs (λ x w. within-more (2 ^ 57) (2 ^ 59) x (lit≤ tt) w)
+-- mended or not
+value-given : (s : Setting) → s .run ≤ 32 → (F : ℕ → Bool) (xs : List ℕ) → ((i : ℕ) → i < length xs → WordWithin (2 ^ 57) (at xs i))
+    → (j k : ℕ) → j ≤ length xs → k < length xs → Given (value s F xs j k)
+value-given s short F xs each =
+    value-keeps (WordWithin (2 ^ 57)) Given s F xs (λ x w. within-more (2 ^ 57) givenMost x (lit≤ tt) w)
     (λ l r t n wl wr a b. mended-within l r t n a (omega arith) wl wr) each
 
-given : (w : ℕ) → WordWithin (2 ^ 59) w → Given w
-given w h =
-    record {
-      re = within-mono (sampleOf w .re) (2 ^ 59) 1 (2 ^ 60) 1 (lit< tt) (lit≤ tt) (h .0);
-      im =
-          within-mono (sampleOf w .im) (2 ^ 59) 1 (2 ^ 60) 1 (lit< tt) (lit≤ tt) (h .1);
-    }
-
-all-snoc : (P : ℕ → Type 0) (l : List ℕ) (x : ℕ) → level.All P l → P x → level.All P (l ++ (x ∷ []))
-all-snoc P [] x a p = level.All.more p level.All.none
-all-snoc P (y ∷ l) x (level.All.more q a) p = level.All.more q (all-snoc P l x a p)
-
-all-up-to : (P : ℕ → Type 0) (f : ℕ → ℕ) (n : ℕ) → ((k : ℕ) → k < n → P (f k)) → level.All P (upTo f n)
+all-up-to : (P : ℕ → Type 0) (f : ℕ → ℕ) (n : ℕ) → ((k : ℕ) → k < n → P (f k)) → All P (upTo f n)
 unfolding upTo
-all-up-to P f zero h = level.All.none
-all-up-to P f (suc n) h = all-snoc P (upTo f n) (f n) (all-up-to P f n (λ k l. h k (omega arith))) (h n (omega arith))
+all-up-to P f zero h = tt
+all-up-to P f (suc n) h = all-append P (upTo f n) (f n ∷ []) (all-up-to P f n (λ k l. h k (omega arith))) (h n (omega arith), tt)
 
-usable-given : (xs : List ℕ) → Usable xs → level.All Given xs
-usable-given [] u = level.All.none
-usable-given (x ∷ xs) u = level.All.more (given x (within-more (2 ^ 57) (2 ^ 59) x (lit≤ tt) (usable-within x (u .0)))) (usable-given xs (u .1))
+usable-given : (xs : List ℕ) → Usable xs → All Given xs
+usable-given xs u = all-as (λ w. T (usable w)) Given (λ w t. within-more (2 ^ 57) givenMost w (lit≤ tt) (usable-within w t)) xs u
 
-handed-given : (s : Setting) → s .run ≤ 32 → (xs : List ℕ) → Usable xs → level.All Given (handedOn s xs)
+handed-given : (s : Setting) → s .run ≤ 32 → (xs : List ℕ) → Usable xs → All Given (handedOn s xs)
 unfolding handedOn
 handed-given s short xs u = go (s .apply)
   where
@@ -77,10 +62,10 @@ handed-given s short xs u = go (s .apply)
     each : (i : ℕ) → i < length xs → WordWithin (2 ^ 57) (at xs i)
     each i q = usable-within (at xs i) (all-getD (λ w. T (usable w)) xs i 0 u q)
 
-    go : (b : Bool) → level.All Given (cond b (upTo f (length xs - lookahead s)) xs)
+    go : (b : Bool) → All Given (cond b (upTo f (length xs - lookahead s)) xs)
     go true =
         all-up-to Given f (length xs - lookahead s)
-        (λ k l. given (f k) (value-within s short (flagged s xs) xs each (judged s (length xs)) k (omega arith) (omega arith)))
+        (λ k l. value-given s short (flagged s xs) xs each (judged s (length xs)) k (omega arith) (omega arith))
     go false = usable-given xs u
 
 handed-most : (s : Setting) (xs : List ℕ) → length (handedOn s xs) ≤ length xs
@@ -94,11 +79,11 @@ handed-most s xs = go (s .apply)
     go true = omega (arith, length-upTo f (length xs - lookahead s))
     go false = omega arith
 
-pub after-given : (c : Config) (xs : List ℕ) → Usable xs → level.All Given (afterImpulse c xs)
+pub after-given : (c : Config) (xs : List ℕ) → Usable xs → All Given (afterImpulse c xs)
 unfolding afterImpulse
 after-given c xs u = go (runs (c .impulseMode))
   where
-    go : (b : Bool) → level.All Given (cond b (handedOn (settingOf c) xs) xs)
+    go : (b : Bool) → All Given (cond b (handedOn (settingOf c) xs) xs)
     go true = handed-given (settingOf c) (lit≤ tt) xs u
     go false = usable-given xs u
 

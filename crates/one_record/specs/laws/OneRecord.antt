@@ -2,7 +2,7 @@
 use mathlib.Core.Path.{_≡_, refl, ap, sym, _∙_, subst}
 use mathlib.Core.Bool.{Bool, true, false, cond, false≢true}
 use mathlib.Core.List.{List, [], _∷_, _++_, map, append-nil, append-assoc}
-use Prim.Native.Nat.{ℕ, _+_, _-_, _*_, _^_, _≤_, _<_}
+use Prim.Native.Nat.{ℕ, _+_, _-_, _*_, _≤_, _<_}
 use native.Mathlib.Omega.{arith}
 use lib.Dec.{T, eqb, ltb}
 use borrow.Author.Tests.{eq-eqb, eqb-true, lt-ltb, le-ltb}
@@ -448,6 +448,18 @@ module _ (g : ConditioningConfig) (f : Fit g) where
             (at-undone g f xs hs t d s (subst (λ (zs : List ℕ). length (repairsOf (impulseEvents (configOf g) zs)) ≤ g .repairs) x-is h)
             ∙ ap (λ (zs : List ℕ). record { said = accepted tt; samples = take (length (chainAt g xs hs .released)) zs }) (sym (brought-is g xs hs)));
       }
+
+-- what a list brought is usable, and no more than the limit
+pub brought-fits : (g : ConditioningConfig)
+    → (spans repairs : List ℕ) (words : List Float) → makingSaid (configOf g) (length spans) (length repairs) (length words) ≡ made
+    → let y = madeChain g spans repairs words in
+    (os : List Operation) → Proper y os → Usable (run y os .brought) × length (run y os .brought) ≤ totalLimit
+brought-fits g spans repairs words e os p =
+    let f = made-fit g (length spans) (length repairs) (length words) e .fit in
+    let a = made-is g spans repairs words e in
+    let n = from-fresh g f os (subst (λ (y : Chain). Proper y os) a p) in
+    let x = ap (λ (y : Chain). run y os .brought) a ∙ ap (λ (c : Chain). c .brought) (n .is) ∙ brought-is g (n .samples) (n .hops) in
+    subst (λ (xs : List ℕ). Usable xs × length xs ≤ totalLimit) (sym x) (n .reached .usable, n .reached .few)
 
 -- ---- THE THEOREM
 

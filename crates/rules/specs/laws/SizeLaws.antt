@@ -1,17 +1,20 @@
 -- A size at most a limit: as a bound, and as a number from minus the limit to the limit. Assumes nothing.
-use mathlib.Core.Path.{_≡_, refl, sym, ap, _∙_}
+use mathlib.Core.Path.{_≡_, refl, sym, ap, _∙_, subst}
 use mathlib.Core.Bool.{Bool, true, false, _&&_, _||_}
-use Prim.Native.Nat.{ℕ, _+_, _*_}
+use Prim.Native.Nat.{ℕ, _+_, _*_, _^_, _≤_}
 use native.Mathlib.Omega.{arith}
-use lib.Dec.{T, ltb, eqb}
-use lib.IntN.{ℤ}
-use lib.Ieee.{Float, nan, inf, fin, up, down, lt, eq, le}
-use lib.Ieee.Fits.{and-l}
+use lib.Dec.{T, ltb, eqb, lit<}
+use lib.IntN.{ℤ, pos}
+use lib.Ieee.{Float, nan, inf, fin, up, down, neg, lt, eq, le, ofBits}
+use lib.Ieee.Fits.{and-l, and-i}
 use borrow.Author.Tests.{ltb-false, eq-eqb, ne-eqb, eqb-true, eqb-false}
 use Rattle.ieee.specs.Bound.{Within}
-use Rattle.ieee.specs.laws.Bounds.{or-le}
+use Rattle.ieee.specs.laws.Bounds.{or-le, within-mono}
 use Rattle.ieee.specs.laws.LowerBounds.{within-between}
+use Rattle.complex.specs.Complex.{sampleOf, WordWithin}
+use Rattle.rules.specs.Constants.{partLimit}
 use Rattle.rules.specs.Guard.{magnitude}
+use Rattle.rules.specs.Refusals.{withinLimit}
 
 -- ---- as a bound
 
@@ -26,6 +29,25 @@ unfolding magnitude
 within-size nan m e w = absurd w
 within-size (inf s) m e w = absurd w
 within-size (fin s n d) m e w = and-l (le (fin false n d) (fin false m e)) (le (fin true m e) (fin false n d)) (within-between (fin false n d) m e w)
+
+-- ---- 'within 1e18', the paper's test, as a bound
+limit-is : partLimit ≡ fin false 3814697265625 (pos 18)
+unfolding ofBits
+limit-is = refl
+
+pub limited-part : (x : Float) → T (le (magnitude x) partLimit) → Within x (10 ^ 18) 1
+limited-part x t = size-within x 3814697265625 (pos 18) (subst (λ (y : Float). T (le (magnitude x) y)) limit-is t)
+
+pub part-limited : (x : Float) (b : ℕ) → b ≤ 10 ^ 18 → Within x b 1 → T (le (magnitude x) partLimit)
+part-limited x b l w =
+    subst (λ (y : Float). T (le (magnitude x) y)) (sym limit-is)
+    (within-size x 3814697265625 (pos 18) (within-mono x b 1 (10 ^ 18) 1 (lit< tt) (omega arith) w))
+
+pub word-limited : (w b : ℕ) → b ≤ 10 ^ 18 → WordWithin b w → T (withinLimit w)
+unfolding withinLimit
+word-limited w b l h =
+    and-i (le (magnitude (sampleOf w .re)) partLimit) (le (magnitude (sampleOf w .im)) partLimit) (part-limited (sampleOf w .re) b l (h .0))
+    (part-limited (sampleOf w .im) b l (h .1))
 
 -- ---- as two tests
 
@@ -66,3 +88,7 @@ size-le (fin true n d) m e =
     (ap (λ (t : Bool). le (fin true m e) (fin true n d) && t) (signs a b)
     ∙ and-true (le (fin true m e) (fin true n d))
     ∙ ap (λ (t : Bool). ltb a b || (t && true)) (eqb-sym b a))
+
+pub part-between : (x : Float) → le (magnitude x) partLimit ≡ (le (neg partLimit) x && le x partLimit)
+unfolding neg
+part-between x = subst (λ (y : Float). le (magnitude x) y ≡ (le (neg y) x && le x y)) (sym limit-is) (size-le x 3814697265625 (pos 18))

@@ -39,6 +39,10 @@ module _ {A : Type 0} (P : A → Type 0) where
   all-getD (x ∷ l) zero d g h = g .0
   all-getD (x ∷ l) (suc k) d g h = all-getD l k d (g .1) (omega arith)
 
+pub all-as : {A : Type 0} (P Q : A → Type 0) → ((x : A) → P x → Q x) → (l : List A) → All P l → All Q l
+all-as P Q f [] g = tt
+all-as P Q f (x ∷ l) g = (f x (g .0), all-as P Q f l (g .1))
+
 pub all-map : {A B : Type 0} (P : B → Type 0) (f : A → B) (l : List A) → All (λ x. P (f x)) l → All P (map f l)
 all-map P f [] g = tt
 all-map P f (x ∷ l) g = (g .0, all-map P f l (g .1))

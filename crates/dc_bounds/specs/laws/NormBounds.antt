@@ -8,22 +8,24 @@ use mathlib.Core.Bool.{Bool, true, false, not, Bool·beq, cond, true≢false}
 use lib.Dec.{T, ltb→lt, nltb→le, lit≤, lit<}
 use lib.Pow.{pow-pos}
 use lib.Ieee.{Float, nan, inf, fin, Format, binary32, binary64, up, down, size, round, add, mul, div, lt, fits, ofBits}
-use lib.Ieee as ieee
 use lib.Ieee.Digits.{size-lt, size-reaches}
 use lib.Ieee.Fits.{down-pos, round-fits}
 use lib.Ieee.Exact.{HasValue, round-exact}
-use lib.Ieee.Scale.{grid, overflow, finite, round-same}
+use lib.Ieee.Scale.{grid, overflow, finite}
 use lib.Ieee.Positive.{num, den, den-pos}
 use Rattle.ieee.specs.Bound.{Within, Beyond, Value}
 use Rattle.ieee.specs.Root.{rooted}
 use Rattle.ieee.specs.laws.Numbers.{pow-le-back, size-gt}
 use Rattle.ieee.specs.laws.Bounds.{within-mono, mul-within, div-within, round-within, whole-value, scaled-value, part-value}
 use Rattle.ieee.specs.laws.RoundingError.{round-value}
+use Rattle.ieee.specs.laws.Signed.{add-value}
 use Rattle.ieee.specs.laws.LowerBounds.{within-finite, own-within, under, fine, round-beyond, rooted-beyond, rooted-bound, rooted-plain, fits-value, squares}
-use Rattle.ieee.specs.laws.LowerBounds.{widened, scale-value}
+use Rattle.ieee.specs.laws.LowerBounds.{value-beyond, value-within, widened, scale-value}
+use Rattle.ieee.specs.laws.RootNearest.{rescale}
 use Rattle.complex.specs.Complex.{Complex, power, norm, scaled}
 use Rattle.rules.specs.Constants.{one}
 use Rattle.rules.specs.Dc.{clamped}
+use Rattle.dc_bounds.specs.Undone.{givenMost}
 
 -- ---- the power of a sample is one rounding of the exact one
 
@@ -44,51 +46,19 @@ square-is (fin s m e) N F =
 -- the sum of two values that are not negative
 add-is : (f : Format) (x y : Float) (a c b d : ℕ) → 0 < c → 0 < d → HasValue x false a c → HasValue y false b d
     → add f x y ≡ round f false (a * d + b * c) (c * d)
-unfolding add ieee.sum
-add-is f nan y a c b d C D h k = absurd h
-add-is f (inf s) y a c b d C D h k = absurd h
-add-is f (fin s m e) nan a c b d C D h k = absurd k
-add-is f (fin s m e) (inf t) a c b d C D h k = absurd k
-add-is f (fin s m e) (fin t n g) a c b d C D h k =
-    ap (λ (z : Bool). ieee.sum f z (m * up e * down g) t (n * up g * down e) (down e * down g)) (h .0)
-    ∙ ap (λ (z : Bool). ieee.sum f false (m * up e * down g) z (n * up g * down e) (down e * down g)) (k .0)
-    ∙ round-same f false (m * up e * down g + n * up g * down e) (down e * down g) (a * d + b * c) (c * d) (mul-pos (down-pos e) (down-pos g)) (mul-pos C D)
-    (add-mul (m * up e * down g) (n * up g * down e) (c * d)
-    ∙ ap (λ (z : ℕ). z + n * up g * down e * (c * d)) (first (m * up e) (down e) a c d (down g) (h .1))
-    ∙ ap (λ (z : ℕ). a * d * (down e * down g) + z) (second (n * up g) (down g) b d c (down e) (k .1))
-    ∙ sym (add-mul (a * d) (b * c) (down e * down g)))
-  where
-    first : (x de a c d dg : ℕ) → x * c ≡ a * de → x * dg * (c * d) ≡ a * d * (de * dg)
-    first x de a c d dg p = simp (mul-assoc, mul-comm, mul-left-comm) (simp (mul-assoc, mul-comm, mul-left-comm) at (ap (λ (z : ℕ). z * (dg * d)) p))
-
-    second : (x dg b d c de : ℕ) → x * d ≡ b * dg → x * de * (c * d) ≡ b * c * (de * dg)
-    second x dg b d c de p = simp (mul-assoc, mul-comm, mul-left-comm) (simp (mul-assoc, mul-comm, mul-left-comm) at (ap (λ (z : ℕ). z * (de * c)) p))
-
--- ---- bounds of a value, by the fraction that it is
-pub value-beyond : (x : Float) (s : Bool) (g l a c : ℕ) → HasValue x s g l → Beyond x a c → a * l ≤ g * c
-value-beyond nan s g l a c v b = absurd v
-value-beyond (inf t) s g l a c v b = absurd v
-value-beyond (fin t m e) s g l a c v b =
-    le-of-mul-le-mul-right
-    (le-trans (le-of-eq (mul-right-comm a l (down e)))
-    (le-trans (mul-le-mul-right l b)
-    (le-of-eq (mul-right-comm (m * up e) c l ∙ ap (λ (x : ℕ). x * c) (v .1) ∙ mul-right-comm g (down e) c))))
-    (down-pos e)
-
-pub value-within : (x : Float) (s : Bool) (g l a c : ℕ) → HasValue x s g l → Within x a c → g * c ≤ a * l
-value-within nan s g l a c v b = absurd v
-value-within (inf t) s g l a c v b = absurd v
-value-within (fin t m e) s g l a c v b =
-    le-of-mul-le-mul-right
-    (le-trans (le-of-eq (mul-right-comm g c (down e) ∙ ap (λ (x : ℕ). x * c) (sym (v .1)) ∙ mul-right-comm (m * up e) l c))
-    (le-trans (mul-le-mul-right l b) (le-of-eq (mul-right-comm a (down e) l))))
-    (down-pos e)
+add-is f x y a c b d C D h k =
+    add-value f x y false (a * d) false (b * c) (c * d) (mul-pos C D)
+    (rescale x false a c (a * d) (c * d) C (sym (mul-assoc a c d) ∙ mul-right-comm a c d) h)
+    (rescale y false b d (b * c) (c * d) D (sym (mul-assoc b c d)) k)
 
 -- ---- the norm is at least each part, and below 2 ^ 62
--- a part: a value of binary32, within 2 ^ 61
+-- a part: a value of binary32, within what a sample and a level come to
+abbrev pub partMost : ℕ
+partMost = givenMost + 2 ^ 54
+
 pub record Part (x : Float) : Type 0 where
   pub single : T (fits binary32 x)
-  pub small : Within x (2 ^ 61) 1
+  pub small : Within x partMost 1
 
 -- the norm of y: not below either part, within 2 ^ 62, not negative
 pub record Normed (y : Complex) : Type 0 where
@@ -114,12 +84,13 @@ power-is y p q =
     add-is binary64 (mul binary64 (y .re) (y .re)) (mul binary64 (y .im) (y .im)) (num (y .re) * num (y .re)) (den (y .re) * den (y .re))
     (num (y .im) * num (y .im)) (den (y .im) * den (y .im))
     (mul-pos (den-pos (y .re)) (den-pos (y .re))) (mul-pos (den-pos (y .im)) (den-pos (y .im)))
-    (square-is (y .re) (within-finite (y .re) (2 ^ 61) 1 (p .small)) (p .single))
-    (square-is (y .im) (within-finite (y .im) (2 ^ 61) 1 (q .small)) (q .single))
+    (square-is (y .re) (within-finite (y .re) partMost 1 (p .small)) (p .single))
+    (square-is (y .im) (within-finite (y .im) partMost 1 (q .small)) (q .single))
 
 square-within : (x : Float) → Part x → num x * num x ≤ 2 ^ 122 * (den x * den x)
 square-within x p =
-    let h : num x ≤ 2 ^ 61 * den x = le-trans (le-of-eq (sym (mul-one (num x)))) (own-within x (2 ^ 61) 1 (p .small)) in
+    let h : num x ≤ 2 ^ 61 * den x =
+    le-trans (le-of-eq (sym (mul-one (num x)))) (le-trans (own-within x partMost 1 (p .small)) (mul-le-mul-right (den x) (lit≤ tt))) in
     le-trans (mul-le-mul h h) (le-of-eq (mul-mul-mul-comm (2 ^ 61) (den x) (2 ^ 61) (den x)))
 
 -- the same of a power w of the parts A / C and B / D
@@ -173,8 +144,8 @@ unfolding norm
 normed y p q =
     let r = subst (λ (w : Float). Reaches w (num (y .re)) (den (y .re)) (num (y .im)) (den (y .im))) (sym (power-is y p q))
     (reaches (num (y .re)) (den (y .re)) (num (y .im)) (den (y .im)) (den-pos (y .re)) (den-pos (y .im))
-    (fits-value binary32 (y .re) (p .single) (within-finite (y .re) (2 ^ 61) 1 (p .small)))
-    (fits-value binary32 (y .im) (q .single) (within-finite (y .im) (2 ^ 61) 1 (q .small)))
+    (fits-value binary32 (y .re) (p .single) (within-finite (y .re) partMost 1 (p .small)))
+    (fits-value binary32 (y .im) (q .single) (within-finite (y .im) partMost 1 (q .small)))
     (square-within (y .re) p) (square-within (y .im) q)) in
     record { re-least = r .first; im-least = r .second; most = r .most; plain = r .plain }
 
@@ -268,7 +239,7 @@ clamped-within y p q =
     let z : Complex = scaled binary64 y (div binary64 one m) in
     record {
       re = subst (λ (x : Float). Within x 2 1) (part-of (λ (c : Complex). c .re) (lt one m) z y)
-          (part-within m (y .re) (n .plain .0) (2 ^ 1074) (within-finite (y .re) (2 ^ 61) 1 (p .small)) (n .re-least) (n .most) (n .plain .1));
+          (part-within m (y .re) (n .plain .0) (2 ^ 1074) (within-finite (y .re) partMost 1 (p .small)) (n .re-least) (n .most) (n .plain .1));
       im = subst (λ (x : Float). Within x 2 1) (part-of (λ (c : Complex). c .im) (lt one m) z y)
-          (part-within m (y .im) (n .plain .0) (2 ^ 1074) (within-finite (y .im) (2 ^ 61) 1 (q .small)) (n .im-least) (n .most) (n .plain .1));
+          (part-within m (y .im) (n .plain .0) (2 ^ 1074) (within-finite (y .im) partMost 1 (q .small)) (n .im-least) (n .most) (n .plain .1));
     }

@@ -1,6 +1,7 @@
--- The DC level stays within 64 for each update, and what the stage writes is finite, for parts within 2 ^ 60 and up to 2 ^ 48 samples. Assumes nothing.
-use mathlib.Core.Path.{_≡_, refl, sym, _∙_, subst}
-use Prim.Native.Nat.{ℕ, suc, _+_, _-_, _*_, _^_, _≤_, _<_}
+-- The DC level stays within 64 for each update, and what the stage writes is within 1e18, for up to 2 ^ 48 samples that the chain can hand it. Assumes
+-- nothing.
+use mathlib.Core.Path.{_≡_, refl, sym, subst}
+use Prim.Native.Nat.{ℕ, suc, _+_, _*_, _/_, _^_, _≤_, _<_}
 use native.Mathlib.Nat.{le-trans, le-of-eq, one-mul, le-add-right}
 use native.Mathlib.Omega.{arith}
 use mathlib.Core.Bool.{Bool, true, false, _&&_, _||_, cond}
@@ -9,24 +10,27 @@ use lib.IntN.{pos}
 use lib.ListN.{length}
 use lib.Dec.{T, eqb, eqb→eq, lit≤, lit<}
 use lib.Ieee.{Float, nan, inf, fin, binary32, binary64, up, down, add, sub, mul, div, lt, le, ofInt, ofBits}
-use lib.Ieee as ieee
+use lib.Ieee.Bits.{is-true}
 use lib.Ieee.Fits.{down-pos, and-l, and-r}
 use lib.Ieee.Scale.{finite}
 use Rattle.ieee.specs.Bound.{Within, Beyond}
 use Rattle.ieee.specs.Narrow.{narrowed}
 use Rattle.ieee.specs.laws.NarrowLaws.{narrowed-fits}
 use Rattle.ieee.specs.laws.Bounds.{or-le, within-mono, add-within, sub-within, mul-within, div-within, narrowed-within, whole-value, scaled-value}
-use Rattle.ieee.specs.laws.LowerBounds.{fine, round-beyond, scale-value, within-between}
+use Rattle.ieee.specs.laws.LowerBounds.{fine, round-beyond, scale-value}
 use Rattle.complex.specs.Complex as complex
-use Rattle.complex.specs.Complex.{Complex, scaled, narrowedParts, difference, wordOf, sampleOf}
+use Rattle.complex.specs.Complex.{Complex, scaled, narrowedParts, difference, wordOf, sampleOf, PartsWithin, WordWithin}
 use Rattle.complex.specs.laws.Words.{sample-of-word}
-use Rattle.rules.specs.Constants.{one, five, tau, rateLimit}
+use Rattle.rules.specs.Constants.{one, five, tau, rateLimit, partLimit}
 use Rattle.rules.specs.Dc.{Level, firstLevel, corner, blocked, weight, clamped, isZero, advanced, stepped, levelAfter, blockedAll}
+use Rattle.rules.specs.Guard.{magnitude}
 use Rattle.rules.specs.Iq.{ranged}
+use Rattle.rules.specs.Lists.{All}
+use Rattle.rules.specs.laws.SizeLaws.{part-limited}
 use Rattle.amplitude_limit.specs.Limit.{limited}
-use Rattle.amplitude_limit.specs.laws.LimitLaws.{limited-is}
 use Rattle.dc.specs.laws.Steps.{moved, advanced-by}
-use Rattle.dc.specs.laws.NormBounds.{Part, clamped-within}
+use Rattle.dc_bounds.specs.Undone.{givenMost, Given}
+use Rattle.dc_bounds.specs.laws.NormBounds.{partMost, Part, clamped-within}
 
 -- ---- the weight: at most 32
 one-beyond : (x : Float) → T (le one x) → T (finite x) → Beyond x 1 1
@@ -87,28 +91,23 @@ pub record Steady (l : Level) : Type 0 where
   pub re : Within (l .level .re) (l .updates * 2 ^ 6) 1
   pub im : Within (l .level .im) (l .updates * 2 ^ 6) 1
 
--- a sample that comes in: parts within 2 ^ 60, as 1e18 is, and 2 ^ 59, which no mended part passes
-pub record Given (x : ℕ) : Type 0 where
-  pub re : Within (sampleOf x .re) (2 ^ 60) 1
-  pub im : Within (sampleOf x .im) (2 ^ 60) 1
-
 -- a sample less the level: values of binary32, and finite
 pub record Parts (y : Complex) : Type 0 where
   pub re : Part (y .re)
   pub im : Part (y .im)
 
-part : (x l : Float) (n : ℕ) → n ≤ 2 ^ 48 → Within x (2 ^ 60) 1 → Within l (n * 2 ^ 6) 1 → Part (narrowed (sub binary64 x l))
+part : (x l : Float) (n : ℕ) → n ≤ 2 ^ 48 → Within x givenMost 1 → Within l (n * 2 ^ 6) 1 → Part (narrowed (sub binary64 x l))
 part x l n h w v = record {
   single = narrowed-fits (sub binary64 x l);
-  small = narrowed-within (sub binary64 x l) (2 ^ 61) 1 (lit< tt) (scaled-value binary32 1 61 (lit< tt) (lit≤ tt))
-      (sub-within binary64 x l (2 ^ 60) (n * 2 ^ 6) (2 ^ 61) 1 (lit< tt) (scaled-value binary64 1 61 (lit< tt) (lit≤ tt)) (omega arith) w v);
+  small = narrowed-within (sub binary64 x l) partMost 1 (lit< tt) (scaled-value binary32 (partMost / 2 ^ 54) 54 (lit< tt) (lit≤ tt))
+      (sub-within binary64 x l givenMost (n * 2 ^ 6) partMost 1 (lit< tt) (scaled-value binary64 (partMost / 2 ^ 54) 54 (lit< tt) (lit≤ tt)) (omega arith) w v);
 }
 
 pub blocked-parts : (l : Level) (x : ℕ) → l .updates ≤ 2 ^ 48 → Steady l → Given x → Parts (blocked (l .level) (sampleOf x))
 unfolding blocked narrowedParts difference
 blocked-parts l x h s g = record {
-  re = part (sampleOf x .re) (l .level .re) (l .updates) h (g .re) (s .re);
-  im = part (sampleOf x .im) (l .level .im) (l .updates) h (g .im) (s .im);
+  re = part (sampleOf x .re) (l .level .re) (l .updates) h (g .0) (s .re);
+  im = part (sampleOf x .im) (l .level .im) (l .updates) h (g .1) (s .im);
 }
 
 grown : (l v g : Float) (n : ℕ) → n < 2 ^ 48 → Within l (n * 2 ^ 6) 1 → Within v 2 1 → Within g 32 1
@@ -144,53 +143,34 @@ advanced-steady a l y h w s p =
         }
 
 -- ---- all samples
-pub data All (P : ℕ → Type 0) : List ℕ → Type 0 where
-  none : All P []
-  more : {x : ℕ} {xs : List ℕ} → P x → All P xs → All P (x ∷ xs)
 
--- a word that the stage writes: both parts finite, within 2 ^ 61
-pub record Written (w : ℕ) : Type 0 where
-  pub re : Within (sampleOf w .re) (2 ^ 61) 1
-  pub im : Within (sampleOf w .im) (2 ^ 61) 1
-
-written : (y : Complex) → Parts y → Written (wordOf y)
+-- a word that the stage writes
+written : (y : Complex) → Parts y → WordWithin partMost (wordOf y)
 written y p =
-    let same : sampleOf (wordOf y) ≡ y = sample-of-word y (record { re = p .re .single; im = p .im .single }) in
-    record {
-      re = subst (λ (z : Complex). Within (z .re) (2 ^ 61) 1) (sym same) (p .re .small);
-      im = subst (λ (z : Complex). Within (z .im) (2 ^ 61) 1) (sym same) (p .im .small);
-    }
+    subst (PartsWithin partMost) (sym (sample-of-word y (record { re = p .re .single; im = p .im .single }))) (p .re .small, p .im .small)
 
 -- after samples, from any steady level
 pub record Run (a : Float) (l : Level) (xs : List ℕ) : Type 0 where
   pub steady : Steady (levelAfter a l xs)
   pub count : levelAfter a l xs .updates ≤ l .updates + length xs
-  pub outputs : All Written (blockedAll a l xs)
+  pub outputs : All (WordWithin partMost) (blockedAll a l xs)
 
 pub run-steady : (a : Float) (l : Level) (xs : List ℕ) → Within a 32 1 → Steady l → All Given xs → l .updates + length xs ≤ 2 ^ 48 → Run a l xs
 unfolding levelAfter blockedAll stepped
-run-steady a l [] w s none h = record { steady = s; count = omega arith; outputs = none }
-run-steady a l (x ∷ xs) w s (more g gs) h =
+run-steady a l [] w s g h = record { steady = s; count = omega arith; outputs = tt }
+run-steady a l (x ∷ xs) w s g h =
     let y = blocked (l .level) (sampleOf x) in
-    let p = blocked-parts l x (le-trans (le-add-right (l .updates) (length (x ∷ xs))) h) s g in
+    let p = blocked-parts l x (le-trans (le-add-right (l .updates) (length (x ∷ xs))) h) s (g .0) in
     let t = advanced-steady a l y (omega arith) w s p in
     let c = t .count in
-    let r = run-steady a (advanced a l y) xs w (t .steady) gs (omega arith) in
+    let r = run-steady a (advanced a l y) xs w (t .steady) (g .1) (omega arith) in
     let n = r .count in
-    record { steady = r .steady; count = omega arith; outputs = more (written y p) (r .outputs) }
+    record { steady = r .steady; count = omega arith; outputs = (written y p, r .outputs) }
 
 -- ---- as number 5 asks of a level's part: within 1e18
 limited-of : (x : Float) → Within x (2 ^ 54) 1 → limited x ≡ true
-unfolding ieee.neg ofBits
-limited-of x w =
-    limited-is x
-    ∙ both (le x (fin false 3814697265625 (pos 18))) (le (fin true 3814697265625 (pos 18)) x)
-    (within-between x 3814697265625 (pos 18) (within-mono x (2 ^ 54) 1 (10 ^ 18) 1 (lit< tt) (lit≤ tt) w))
-  where
-    both : (a b : Bool) → T (a && b) → (b && a) ≡ true
-    both true true t = refl
-    both true false t = absurd t
-    both false b t = absurd t
+unfolding limited
+limited-of x w = is-true (le (magnitude x) partLimit) (part-limited x (2 ^ 54) (lit≤ tt) w)
 
 -- THE BOUND: from fresh, at a rate that document 01 takes
 pub record Bounded (fs : Float) (xs : List ℕ) : Type 0 where
@@ -199,7 +179,7 @@ pub record Bounded (fs : Float) (xs : List ℕ) : Type 0 where
   pub im : Within (levelAfter (corner fs) firstLevel xs .level .im) (levelAfter (corner fs) firstLevel xs .updates * 64) 1
   pub re-limited : limited (levelAfter (corner fs) firstLevel xs .level .re) ≡ true
   pub im-limited : limited (levelAfter (corner fs) firstLevel xs .level .im) ≡ true
-  pub outputs : All Written (blockedAll (corner fs) firstLevel xs)
+  pub outputs : All (WordWithin partMost) (blockedAll (corner fs) firstLevel xs)
 
 first-steady : Steady firstLevel
 first-steady = unfold ofBits in record { re = lit≤ tt; im = lit≤ tt }

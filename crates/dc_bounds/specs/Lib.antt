@@ -1,0 +1,4 @@
+-- definitions
+pub mod Undone
+-- what is proved of them
+pub mod laws
