@@ -51,12 +51,12 @@ enum {
 
 /* ---- sizes, in words of 8 bytes */
 
-#define VG_STATE_WORDS 170
+#define VG_STATE_WORDS 171
 #define VG_CONFIG_WORDS 12
 #define VG_CONDITION_WORDS 2
 #define VG_HOP_WORDS 9
 #define VG_SPAN_WORDS 2
-#define VG_LOG_WORDS 62
+#define VG_LOG_WORDS 63
 
 /* The stores: so many words for each span that a ring may hold (there are twelve rings), for each repair, and for each
  * channel of a hop (these are doubles). */
@@ -175,6 +175,7 @@ struct vg_log_out {
     uint64_t long_runs;  /* clicks that were too long to mend */
     uint64_t dc_runs;    /* 0: the DC stage is off, and there is no level */
     double dc_re, dc_im; /* the level, or 0 */
+    uint64_t dc_clamped; /* samples whose update of the level was held to full scale */
     uint64_t iq;         /* VG_IQ_OFF, .. */
     double iq_re, iq_im; /* the coefficient of VG_IQ_CORRECTING, or 0 */
     struct vg_ring rings[12];

@@ -9,7 +9,7 @@
 
 /* ---- the two libraries */
 
-#define FUNCTIONS(NAME) NAME(make) NAME(condition) NAME(hop) NAME(undo_dc) NAME(undo_iq) NAME(guard)
+#define FUNCTIONS(NAME) NAME(make) NAME(condition) NAME(hop) NAME(log) NAME(undo_dc) NAME(undo_iq) NAME(guard)
 #define BEFORE(f) extern __typeof__(vg_##f) before_vg_##f;
 FUNCTIONS(BEFORE)
 
@@ -22,11 +22,11 @@ static const struct library before = {FUNCTIONS(BEFORE_FIELD)};
 #define AFTER_FIELD(f) vg_##f,
 static const struct library after = {FUNCTIONS(AFTER_FIELD)};
 
-/* ---- the input: noise about an offset, with a click in 2,000 samples */
+/* ---- the input: noise about an offset, with a click in 2,000 samples; and the same 64 times as loud */
 
 enum { MILLION = 1000000, SPANS = 256, REPAIRS = 4096, CHANNELS = 2048, MOST_ROUNDS = 1001 };
 
-static uint64_t input[MILLION], samples[MILLION], restored[MILLION];
+static uint64_t input[MILLION], loud[MILLION], samples[MILLION], restored[MILLION];
 static uint64_t spans[VG_SPAN_STORE_WORDS(SPANS)], repairs[VG_REPAIR_STORE_WORDS(REPAIRS)];
 static double monitor[VG_MONITOR_STORE_WORDS(CHANNELS)];
 
@@ -49,6 +49,18 @@ static uint64_t word(float re, float im) {
     return w;
 }
 
+static uint64_t bits(double x) {
+    uint64_t w;
+    memcpy(&w, &x, sizeof w);
+    return w;
+}
+
+static uint64_t scaled(uint64_t w, float by) {
+    float parts[2];
+    memcpy(parts, &w, sizeof w);
+    return word(by * parts[0], by * parts[1]);
+}
+
 static uint64_t drawn_sample(void) {
     if (draw() % 2000 == 0) return word(6.0f + unit(), -6.0f + unit());
     return word(0.1f * unit() + 0.05f, 0.1f * unit() - 0.03f);
@@ -61,6 +73,7 @@ struct row {
     void (*run)(const struct library *, const struct row *);
     size_t n, block; /* n samples in calls of block, which divides n in the undos and the guard; or n hops of block channels */
     uint64_t impulse, dc, iq;
+    int is_loud;
 };
 
 static void taken(uint64_t number) {
@@ -86,6 +99,11 @@ static void stages(const struct library *l, const struct row *r) {
         taken(l->condition(&state, samples + at, end - at, spans, sizeof spans / 8, repairs, sizeof repairs / 8, &out));
         at += out.ready;
     }
+    /* an observing stage writes nothing else */
+    struct vg_log_out log;
+    l->log(&state, &log);
+    samples[MILLION - 2] = bits(log.dc_re);
+    samples[MILLION - 1] = bits(log.dc_im);
 }
 
 static void hops(const struct library *l, const struct row *r) {
@@ -113,22 +131,25 @@ static void guard(const struct library *l, const struct row *r) {
 }
 
 static const struct row rows[] = {
-    {"impulse", stages, 131072, 1024, VG_APPLY, VG_OFF, VG_OFF},
-    {"dc", stages, 131072, 1024, VG_OFF, VG_APPLY, VG_OFF},
-    {"iq", stages, 131072, 1024, VG_OFF, VG_OFF, VG_APPLY},
-    {"all", stages, 131072, 1024, VG_APPLY, VG_APPLY, VG_APPLY},
-    {"dc undo", undo_dc, 131072, 1024, 0, 0, 0},
-    {"iq undo", undo_iq, 131072, 1024, 0, 0, 0},
-    {"guard", guard, 131072, 1024, 0, 0, 0},
-    {"impulse", stages, 20000, 1, VG_APPLY, VG_OFF, VG_OFF},
-    {"dc", stages, 20000, 1, VG_OFF, VG_APPLY, VG_OFF},
-    {"iq", stages, 20000, 1, VG_OFF, VG_OFF, VG_APPLY},
-    {"all", stages, 20000, 1, VG_APPLY, VG_APPLY, VG_APPLY},
-    {"hop", hops, 400, 512, VG_OFF, VG_OFF, VG_OBSERVE},
-    {"hop", hops, 100, 2048, VG_OFF, VG_OFF, VG_OBSERVE},
-    {"dc undo", undo_dc, MILLION, MILLION, 0, 0, 0},
-    {"iq undo", undo_iq, MILLION, MILLION, 0, 0, 0},
-    {"guard", guard, MILLION, MILLION, 0, 0, 0},
+    {"impulse", stages, 131072, 1024, VG_APPLY, VG_OFF, VG_OFF, 0},
+    {"dc", stages, 131072, 1024, VG_OFF, VG_APPLY, VG_OFF, 0},
+    {"iq", stages, 131072, 1024, VG_OFF, VG_OFF, VG_APPLY, 0},
+    {"all", stages, 131072, 1024, VG_APPLY, VG_APPLY, VG_APPLY, 0},
+    {"dc observe", stages, 131072, 1024, VG_OFF, VG_OBSERVE, VG_OFF, 0},
+    {"dc, loud", stages, 131072, 1024, VG_OFF, VG_APPLY, VG_OFF, 1},
+    {"all, loud", stages, 131072, 1024, VG_APPLY, VG_APPLY, VG_APPLY, 1},
+    {"dc undo", undo_dc, 131072, 1024, 0, 0, 0, 0},
+    {"iq undo", undo_iq, 131072, 1024, 0, 0, 0, 0},
+    {"guard", guard, 131072, 1024, 0, 0, 0, 0},
+    {"impulse", stages, 20000, 1, VG_APPLY, VG_OFF, VG_OFF, 0},
+    {"dc", stages, 20000, 1, VG_OFF, VG_APPLY, VG_OFF, 0},
+    {"iq", stages, 20000, 1, VG_OFF, VG_OFF, VG_APPLY, 0},
+    {"all", stages, 20000, 1, VG_APPLY, VG_APPLY, VG_APPLY, 0},
+    {"hop", hops, 400, 512, VG_OFF, VG_OFF, VG_OBSERVE, 0},
+    {"hop", hops, 100, 2048, VG_OFF, VG_OFF, VG_OBSERVE, 0},
+    {"dc undo", undo_dc, MILLION, MILLION, 0, 0, 0, 0},
+    {"iq undo", undo_iq, MILLION, MILLION, 0, 0, 0, 0},
+    {"guard", guard, MILLION, MILLION, 0, 0, 0, 0},
 };
 
 /* ---- times */
@@ -141,7 +162,7 @@ static double now(void) {
 }
 
 static double timed(const struct row *r, const struct library *l) {
-    memcpy(samples, input, 8 * (r->run == hops ? 0 : r->n));
+    memcpy(samples, r->is_loud ? loud : input, 8 * (r->run == hops ? 0 : r->n));
     double start = now();
     r->run(l, r);
     return (now() - start) / (double)r->n;
@@ -179,7 +200,10 @@ static int show(const struct row *r, int rounds) {
 int main(int count, char **arguments) {
     int rounds = count > 1 ? atoi(arguments[1]) : 61, same = 1;
     if (rounds < 1 || rounds > MOST_ROUNDS) return 2;
-    for (size_t k = 0; k < MILLION; k++) input[k] = drawn_sample();
+    for (size_t k = 0; k < MILLION; k++) {
+        input[k] = drawn_sample();
+        loud[k] = scaled(input[k], 64.0f);
+    }
     printf("%-10s%9s %10s %10s %6s    nanoseconds a sample, or a hop\n", "", "a call", "before", "after", "ratio");
     for (size_t k = 0; k < sizeof rows / sizeof rows[0]; k++) same &= show(&rows[k], rounds);
     return same ? 0 : 1;

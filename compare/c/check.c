@@ -461,12 +461,26 @@ static void logs(void) {
     was.log.seen = was.log.released = 1;
     was.log.dc_runs = 1;
     was.log.dc_re = 1.0;
+    was.log.dc_clamped = 1;
     was.log.iq = VG_IQ_CORRECTING;
     was.log.iq_re = -3.0 / 9.0;
     was.log.rings[VG_RING(VG_DC, VG_CORRECTED)].count = was.log.counts[VG_RING(VG_DC, VG_CORRECTED)] = 1;
     was.log.rings[VG_RING(VG_IQ, VG_CORRECTED)].count = was.log.counts[VG_RING(VG_IQ, VG_CORRECTED)] = 1;
     vg_log(&lent.state, &lent.log);
     LEFT();
+    // clamped updates: of an observing stage too, and of all calls; by the norm, which is 1 where the power is just above it
+    fresh(VG_OFF, VG_OBSERVE, VG_OFF);
+    for (k = 0; k < 3; k++) {
+        lent.samples[0] = sample(k % 2 == 0 ? 4.0f : -4.0f, 0.0f);
+        SAME(condition(1, SPAN_WORDS, REPAIR_WORDS), VG_ACCEPTED);
+        vg_log(&lent.state, &lent.log);
+        SAME(lent.log.dc_clamped, k + 1);
+    }
+    fresh(VG_OFF, VG_APPLY, VG_OFF);
+    lent.samples[0] = sample(1.0f, 1.0f / 67108864.0f);
+    SAME(condition(1, SPAN_WORDS, REPAIR_WORDS), VG_ACCEPTED);
+    vg_log(&lent.state, &lent.log);
+    SAME(lent.log.dc_clamped, 0);
     // what else IQ settles
     fresh(VG_OFF, VG_OFF, VG_OBSERVE);
     vg_log(&lent.state, &lent.log);

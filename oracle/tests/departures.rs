@@ -371,6 +371,12 @@ mod platform {
             (level.im, 43.0 * scale),
             (0.6908577715463127, 0.6908577715463126)
         );
+
+        // One on which the clamp would act: the norm is 1.
+        let fine = 1.125 * 2f32.powi(-26);
+        let (chain, _) = run_whole(&dc_alone(48000.0), &[Sample::new(1.0, fine)]);
+        assert_eq!(chain.log().dc_clamped(), 0);
+        assert!(black_box(1f64).hypot(f64::from(fine)) > 1.0);
     }
 
     /// The coefficient with the platform's sine and cosine.

@@ -24,6 +24,7 @@ struct Reached {
     repaired_runs: u64,
     kept_runs: u64,
     long_runs: u64,
+    clamped: u64,
     uncertain: u64,
     dropped_spans: u64,
     dropped_repairs: u64,
@@ -47,6 +48,7 @@ impl Reached {
             (self.repaired_runs, "repaired runs"),
             (self.kept_runs, "kept spans"),
             (self.long_runs, "long runs"),
+            (self.clamped, "clamped DC updates"),
             (self.uncertain, "uncertain samples"),
             (self.dropped_spans, "dropped spans"),
             (self.dropped_repairs, "dropped repairs"),
@@ -146,6 +148,7 @@ fn case(rng: &mut Rng, s: &Setting, xs: &[Sample], hops_wanted: usize, at: &str,
     r.repaired_runs += record.repairs.held as u64 + record.repairs.dropped;
     r.kept_runs += runs(1);
     r.long_runs += record.long_runs;
+    r.clamped += record.clamped;
     r.uncertain += record.rings[3].count;
     r.dropped_spans += record.spans_dropped();
     r.dropped_repairs += record.repairs.dropped;
@@ -215,7 +218,7 @@ fn short_inputs() {
         case(rng, &s, &xs, hops, &format!("short {seed}"), &mut r);
     }
     r.say("short inputs");
-    assert!(r.repaired_runs > 1000 && r.kept_runs > 1000 && r.long_runs > 300);
+    assert!(r.repaired_runs > 1000 && r.kept_runs > 1000 && r.long_runs > 300 && r.clamped > 1000);
     assert!(r.uncertain > 1000 && r.dropped_spans > 1000 && r.dropped_repairs > 300);
     assert!(r.correcting > 300 && r.withheld > 300 && r.suspected > 30);
     assert!(r.inputs_undone > 300);

@@ -10,7 +10,7 @@ use oracle::trace::*;
 /// Operations, and the oracle's answers.
 pub type List = Vec<(Operation, Answer)>;
 
-/// What a case is of: a stage, and the number of the signal that it was given.
+/// What a case is of: a stage, and the number of the signal that it was given, or of the DC stage's mode.
 #[derive(Clone, Copy, PartialEq, Eq, PartialOrd, Ord)]
 pub enum Kind {
     Any,
@@ -18,6 +18,7 @@ pub enum Kind {
     Dc(usize),
     Iq(usize),
     Hops(usize),
+    Carrier(usize),
     OddUndos,
     Calibrations,
 }
@@ -533,13 +534,14 @@ pub fn case(seed: u64, machine: &mut Machine) -> Case {
         released: Vec::new(),
         near_ratio: 0,
     };
-    let kind = match d.rng.below(16) {
+    let kind = match d.rng.below(17) {
         0..=9 => Kind::Any,
         10 | 11 => Kind::Impulse(d.rng.below(hard::IMPULSE.len())),
         12 => Kind::Dc(d.rng.below(hard::LEVEL.len())),
         13 if d.rng.once_in(6) => d.rng.pick(&[Kind::OddUndos, Kind::Calibrations]),
-        13 => Kind::Iq(d.rng.below(hard::LEVEL.len())),
-        _ => Kind::Hops(d.rng.below(hard::HOPS.len())),
+        13 => Kind::Iq(d.rng.below(hard::AT_FULL_SCALE)),
+        14 | 15 => Kind::Hops(d.rng.below(hard::HOPS.len())),
+        _ => Kind::Carrier(d.rng.below(hard::CARRIER.len())),
     };
     match kind {
         Kind::Any => any(&mut d),
@@ -547,6 +549,7 @@ pub fn case(seed: u64, machine: &mut Machine) -> Case {
         Kind::Dc(k) => d.level_signals(1, k),
         Kind::Iq(k) => d.level_signals(2, k),
         Kind::Hops(k) => d.hop_signals(k),
+        Kind::Carrier(k) => d.carrier(k),
         Kind::OddUndos => d.odd_undos(),
         Kind::Calibrations => d.calibrations(),
     }

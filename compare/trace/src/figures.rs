@@ -148,16 +148,33 @@ impl Figures {
         });
         head(
             "DC alone",
-            &["cases", "samples", "calls", "loud", "corrected", "undone"],
+            &[
+                "cases",
+                "samples",
+                "calls",
+                "loud",
+                "clamped",
+                "corrected",
+                "undone",
+            ],
         );
         self.rows(&hard::LEVEL, Kind::Dc, |m| {
-            vec![m.cases, m.samples, m.calls, m.loud, m.marks[6], m.undone]
+            vec![
+                m.cases, m.samples, m.calls, m.loud, m.clamped, m.marks[6], m.undone,
+            ]
+        });
+        head(
+            "DC, loud half the time",
+            &["cases", "samples", "calls", "loud", "clamped"],
+        );
+        self.rows(&hard::CARRIER, Kind::Carrier, |m| {
+            vec![m.cases, m.samples, m.calls, m.loud, m.clamped]
         });
         head(
             "IQ alone",
             &["cases", "samples", "calls", "loud", "corrected", "undone"],
         );
-        self.rows(&hard::LEVEL, Kind::Iq, |m| {
+        self.rows(&hard::LEVEL[..hard::AT_FULL_SCALE], Kind::Iq, |m| {
             vec![m.cases, m.samples, m.calls, m.loud, m.marks[10], m.undone]
         });
         head(
@@ -223,9 +240,10 @@ struct Met {
     /// Samples with a power above 1.
     loud: u64,
     near_ratio: u64,
-    /// Counts of marks and long runs, of the chains' last logs.
+    /// Counts of marks, long runs and clamped DC updates, of the chains' last logs.
     marks: [u64; 12],
     long_runs: u64,
+    clamped: u64,
     hops: u64,
     odd: u64,
     reports: u64,
@@ -301,6 +319,7 @@ impl Met {
             *mark += ring[0];
         }
         self.long_runs += log.words[55];
-        self.settled[log.words[59] as usize] += 1;
+        self.clamped += log.words[59];
+        self.settled[log.words[60] as usize] += 1;
     }
 }

@@ -1,7 +1,7 @@
 //! The C library behind a trace's operations: the words of a state and the stores, as a caller holds them.
 
 use oracle::trace::machine::{
-    bits, first, plain, said, setting_words, whole_or_digest, with_slice,
+    bits, first, plain, said, setting_words, whole_or_digest, with_clamped, with_slice,
 };
 use oracle::trace::{
     MONITOR_WORDS as MONITOR_STORE, REPAIR_WORDS as REPAIR_STORE, SPAN_WORDS as SPAN_STORE, *,
@@ -16,8 +16,9 @@ const RUN: usize = 12;
 const SEEN: usize = 28;
 const RELEASED: usize = 29;
 const HELD_COUNT: usize = 30;
-const ARRAYS: usize = 35;
-const RINGS: usize = 122;
+const CLAMPED: usize = 31;
+const ARRAYS: usize = 36;
+const RINGS: usize = 123;
 
 /// What a lent word holds before an operation, and the number that is answered where one was written that should have stayed.
 const LENT: u64 = 0x5eed_5eed_5eed_5eed;
@@ -146,7 +147,8 @@ impl Library {
         if seen == 0 {
             self.state = state;
         }
-        with_slice(staying(answer, stayed), o.how, slice)
+        let answer = with_slice(staying(answer, stayed), o.how, slice);
+        with_clamped(answer, state[CLAMPED])
     }
 
     fn hop(&mut self, o: &Operation) -> Answer {
@@ -175,7 +177,7 @@ impl Library {
     fn log(&self) -> Answer {
         let mut out = [LENT; LOG_WORDS];
         vg_log(&self.state, &mut out);
-        let (numbers, rings) = out.split_at(14);
+        let (numbers, rings) = out.split_at(15);
         let (rings, counts) = rings.split_at(36);
         let mut answer = plain(0);
         answer.words.extend(&numbers[..3]);

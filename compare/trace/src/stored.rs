@@ -205,6 +205,14 @@ impl List {
                 self.op(STATE, &[], vec![]);
             }
         }
+        // DC: a power above 1 whose norm is 1, and a norm above 1.
+        for mode in [Mode::Observe, Mode::Apply] {
+            for im in [-26, -25].map(|e| 2f32.powi(e)) {
+                self.make(&setting([Mode::Off, mode, Mode::Off]));
+                self.call(&[Sample::new(0.0, 0.0), Sample::new(1.0, im)], false);
+                self.op(LOG, &[], vec![]);
+            }
+        }
         let rng = &mut Rng::new(7);
         for k in 0..6 {
             let mut s = setting([Mode::Apply, MODES[k % 3], MODES[k / 2]]);

@@ -17,7 +17,8 @@ use Rattle.impulse.specs.declared.ImpulseSuppressor.{ImpulseSuppressor}
 use Rattle.impulse.specs.Machine.{settingOf}
 use Rattle.impulse_slice.specs.Noted.{Noted, notedOf, noteAll, stateAfter, handed, told}
 use Rattle.dc.specs.declared.DcBlocker.{DcBlocker}
-use Rattle.dc.specs.Blocker.{blockerAfter, processedAll}
+use Rattle.dc.specs.declared.Blocked.{Blocked}
+use Rattle.dc.specs.Blocker.{afterSlice, processedAll}
 use Rattle.iq.specs.View.{settledOf}
 use Rattle.stage_mode.specs.View.{modeOf}
 use Rattle.chain_state.specs.declared.InputConditioner.{InputConditioner}
@@ -43,12 +44,13 @@ impulseOut c new = cond (c .settings .impulse) (handed (settingIn c) (c .suppres
 unfoldable pub impulseTold : InputConditioner → List ℕ → List Event
 impulseTold c new = cond (c .settings .impulse) (told (settingIn c) (c .suppressor) new) []
 
--- 'Applying writes y and marks Corrected; observing leaves the sample.'
-abbrev pub blockerAfterBy : Mode → DcBlocker → List ℕ → DcBlocker
-blockerAfterBy off b ys = b
-blockerAfterBy observe b ys = blockerAfter b ys
-blockerAfterBy apply b ys = blockerAfter b ys
+-- the blocker after samples, and on how many of them its limit acted
+abbrev pub dcAfter : Mode → DcBlocker → List ℕ → Blocked
+dcAfter off b ys = record { blocker = b; clamped = 0 }
+dcAfter observe b ys = afterSlice b ys
+dcAfter apply b ys = afterSlice b ys
 
+-- 'Applying writes y and marks Corrected; observing leaves the sample.'
 abbrev pub blockedBy : Mode → DcBlocker → List ℕ → List ℕ
 blockedBy off b ys = ys
 blockedBy observe b ys = ys
@@ -101,10 +103,15 @@ loggedAfter m new =
     let cap = c .settings .spans in
     notedIq cap (settledOf (c .settings .iq)) (notedDc cap (modeOf (c .settings .dc)) (notesAfter m new .logged) (releasedSpan c new)) (releasedSpan c new)
 
--- so many are new, and so many of all that wait are released
-abbrev pub countsAfter : InputConditioner → ℕ → ℕ → Counts
-countsAfter c new ready =
-    record { seen = c .counts .seen + new; released = c .counts .released + ready; held = c .counts .held + new - ready }
+-- so many are new, so many of all that wait are released, and on so many of these the DC limit acted
+abbrev pub countsAfter : InputConditioner → ℕ → ℕ → ℕ → Counts
+countsAfter c new ready clamped =
+    record {
+      seen = c .counts .seen + new;
+      released = c .counts .released + ready;
+      held = c .counts .held + new - ready;
+      clamped = c .counts .clamped + clamped;
+    }
 
 -- the rings of spans and the repair ring come with their stores
 abbrev pub machineAfter : InputConditioner → Counts → ImpulseSuppressor → DcBlocker → Logged → rules.Ring → ℕ → Machine
@@ -117,10 +124,11 @@ unfoldable pub process : Machine → List ℕ → Machine
 process m new =
     let c = m .state in
     let noted = notesAfter m new in
+    let after = dcAfter (modeOf (c .settings .dc)) (c .blocker) (impulseOut c new) in
     machineAfter c
-    (countsAfter c (length new) (length (impulseOut c new)))
+    (countsAfter c (length new) (length (impulseOut c new)) (after .clamped))
     (impulseAfter c new)
-    (blockerAfterBy (modeOf (c .settings .dc)) (c .blocker) (impulseOut c new))
+    (after .blocker)
     (loggedAfter m new)
     (noted .repairs)
     (noted .longruns)

@@ -16,12 +16,13 @@ ghost use Rattle.impulse.specs.View.{suppressorOf};
 ghost use Rattle.iq.specs.View.{settledOf};
 ghost use Rattle.stage_mode.specs.View.{modeOf};
 ghost use Rattle.impulse_slice.specs.Noted.{notedOf, noteAll, over};
-ghost use Rattle.chain.specs.Stages.{machineOf, notesIn, newPart, impulseAfter, impulseOut, impulseTold, blockerAfterBy, blockedBy, notedDc, notedIq, handsOn};
+ghost use Rattle.chain.specs.Stages.{machineOf, notesIn, newPart, impulseAfter, impulseOut, impulseTold, dcAfter, blockedBy, notedDc, notedIq, handsOn};
 ghost use Rattle.chain.specs.Stages.{process, Acceptable};
 ghost use Rattle.chain.specs.Calls.{unreadRefusal, toldUnread, toldRead, called};
 ghost use Rattle.chain_call.specs.Said.{said};
 use chain_state::Counts;
 use chain_state::InputConditioner;
+use dc::Blocked;
 use dc::DcBlocker;
 use impulse::ImpulseSuppressor;
 use impulse_slice::Ran;
@@ -100,14 +101,17 @@ fn suppress(
 }
 
 // The DC stage over the first `ready` samples.
-fn remove_dc(mode: StageMode, blocker: DcBlocker, samples: &mut [u64], ready: usize) -> DcBlocker
+fn remove_dc(mode: StageMode, blocker: DcBlocker, samples: &mut [u64], ready: usize) -> Blocked
     requires { ⌜ ready ≤ length (now samples) ⌝ }
     requires { ⌜ blocker .n + ready < 2 ^ 64 ⌝ }
-    ensures level { λ r. ⌜ r ≡ blockerAfterBy (modeOf mode) blocker (take ready (now (samples .entry))) ⌝ }
+    ensures after { λ r. ⌜ r ≡ dcAfter (modeOf mode) blocker (take ready (now (samples .entry))) ⌝ }
     ensures written { λ r. ⌜ now (samples .exit) ≡ blockedBy (modeOf mode) blocker (take ready (now (samples .entry))) ++ drop ready (now (samples .entry)) ⌝ }
 {
     match mode {
-        StageMode::Off => blocker,
+        StageMode::Off => Blocked {
+            blocker,
+            clamped: 0,
+        },
         StageMode::Observe => blocker.observe(&samples[..ready]),
         StageMode::Apply => blocker.process(&mut samples[..ready]),
     }
@@ -160,16 +164,10 @@ fn mark_iq(log: Log, iq: Iq, spans: &mut [u64], capacity: usize, start: u64, rea
 }
 
 // The DC and the IQ stage over the first `ready` samples.
-fn filter(
-    mode: StageMode,
-    blocker: DcBlocker,
-    iq: Iq,
-    samples: &mut [u64],
-    ready: usize,
-) -> DcBlocker
+fn filter(mode: StageMode, blocker: DcBlocker, iq: Iq, samples: &mut [u64], ready: usize) -> Blocked
     requires { ⌜ ready ≤ length (now samples) ⌝ }
     requires { ⌜ blocker .n + ready < 2 ^ 64 ⌝ }
-    ensures level { λ r. ⌜ r ≡ blockerAfterBy (modeOf mode) blocker (take ready (now (samples .entry))) ⌝ }
+    ensures after { λ r. ⌜ r ≡ dcAfter (modeOf mode) blocker (take ready (now (samples .entry))) ⌝ }
     ensures written { λ r. ⌜ now (samples .exit)
         ≡ map (correctedBy (settledOf iq)) (blockedBy (modeOf mode) blocker (take ready (now (samples .entry)))) ++ drop ready (now (samples .entry)) ⌝ }
 {
@@ -232,7 +230,8 @@ pub fn accept(
     let mode = set.dc;
     let iq = set.iq;
     let before = state.blocker;
-    let blocker = filter(mode, before, iq, samples, ready);
+    let blocked = filter(mode, before, iq, samples, ready);
+    let blocker = blocked.blocker;
     let mut notes = ran.notes;
     let log = notes.log;
     let marked = mark_released(
@@ -256,6 +255,7 @@ pub fn accept(
         seen: counts.seen + new as u64,
         released: counts.released + ready as u64,
         held: len - ready,
+        clamped: counts.clamped + blocked.clamped,
     };
     let mut after = state;
     after.counts = counts;

@@ -40,7 +40,7 @@ levelWhere m z = cond (runs m) (levelIs z) noLevel
 abbrev pub stateLevel : InputConditioner → rules.DcLevel
 stateLevel c = levelWhere (modeOf (c .settings .dc)) (view64 (c .blocker .dc))
 
--- ---- the log: 'these three, every count and ring head, .. DC level, what IQ settled'
+-- ---- the log: 'these three, every count and ring head, .. DC level, what IQ settled'; document 02, R-1: 'the log counts those steps'
 
 unfoldable pub logOf : InputConditioner → ConditioningLog
 logOf c =

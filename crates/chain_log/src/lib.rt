@@ -29,9 +29,10 @@ pub enum DcLevel {
     Level(Complex64),
 }
 
-// The log, as a state holds it: the samples seen, released and held; of each ring its count, head,
-// length and dropped spans, and the dropped spans of all; the repair ring; the runs that were too long;
-// the DC level, and what IQ settled. The spans and repairs themselves stand in the lent stores.
+// The log, as a state holds it: the samples seen, released and held, and on how many the DC update was
+// clamped; of each ring its count, head, length and dropped spans, and the dropped spans of all; the
+// repair ring; the runs that were too long; the DC level, and what IQ settled. The spans and repairs
+// themselves stand in the lent stores.
 pub struct ConditioningLog {
     pub counts: Counts,
     pub notes: Notes,

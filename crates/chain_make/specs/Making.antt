@@ -48,7 +48,7 @@ unfoldable pub freshState : ConditioningConfig → InputConditioner
 freshState g =
     record {
       settings = freshSettings g;
-      counts = record { seen = 0; released = 0; held = 0 };
+      counts = record { seen = 0; released = 0; held = 0; clamped = 0 };
       suppressor = impulse.fresh (settingOf (configOf g));
       blocker = blockerOf (corner (g .fs)) firstLevel;
       monitor = image.fresh;

@@ -89,6 +89,7 @@ fn fresh_state(config: ConditioningConfig) -> InputConditioner
         seen: 0,
         released: 0,
         held: 0,
+        clamped: 0,
     };
     InputConditioner {
         settings,

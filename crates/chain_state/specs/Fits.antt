@@ -41,7 +41,7 @@ counter k = leb k counterLimit
 unfoldable pub settingsFit : Settings → ℕ → Bool
 settingsFit s block = eqb (settingRefusal (s .fs) (s .n) (s .spans) (s .repairs)) 0 && eqb block (blockLength (s .fs))
 
--- ---- the samples seen, released and held
+-- ---- the counts
 
 abbrev pub applies : InputConditioner → Bool
 applies c = c .settings .impulse && c .suppressor .gate .settings .apply
@@ -53,7 +53,9 @@ heldBy applies seen = cond applies (min lookaheadSize seen) 0
 -- not: 'released + held ≠ received; held not min(21, received) if impulse applies, else not 0'
 unfoldable pub countsFit : Bool → Counts → Bool
 countsFit applies n =
-    counter (n .seen) && counter (n .released) && eqb (n .held) (heldBy applies (n .seen)) && eqb (n .released + n .held) (n .seen)
+    counter (n .seen) && counter (n .released) && counter (n .clamped)
+    && eqb (n .held) (heldBy applies (n .seen))
+    && eqb (n .released + n .held) (n .seen)
 
 -- ---- the impulse stage
 

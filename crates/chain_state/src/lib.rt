@@ -41,11 +41,13 @@ pub struct Settings {
     pub iq: Iq,
 }
 
-// How many samples came, how many were handed on, and how many are held back.
+// How many samples came, how many were handed on, and how many are held back; and on how many of
+// those handed on the DC stage's update was clamped.
 pub struct Counts {
     pub seen: u64,
     pub released: u64,
     pub held: usize,
+    pub clamped: u64,
 }
 
 pub struct InputConditioner {
@@ -69,7 +71,19 @@ fn settings_fit(s: Settings, blocklen: u64) -> bool
     blocklen == ieee::round_half_away(s.fs)
 }
 
-// ---- the samples seen, released and held
+// ---- the counts
+
+fn counters_fit(a: u64, b: u64, c: u64) -> bool
+    ensures { λ r. ⌜ r ≡ (counter a && counter b && counter c) ⌝ }
+{
+    if log::COUNTER_LIMIT < a {
+        return false;
+    }
+    if log::COUNTER_LIMIT < b {
+        return false;
+    }
+    c <= log::COUNTER_LIMIT
+}
 
 // How many of the newest samples a number of places holds, of so many that came.
 fn holds(places: usize, came: u64) -> usize
@@ -94,10 +108,7 @@ fn held_by(applies: bool, seen: u64) -> usize
 fn counts_fit(applies: bool, counts: Counts) -> bool
     ensures { λ r. ⌜ r ≡ countsFit applies counts ⌝ }
 {
-    if log::COUNTER_LIMIT < counts.seen {
-        return false;
-    }
-    if log::COUNTER_LIMIT < counts.released {
+    if !counters_fit(counts.seen, counts.released, counts.clamped) {
         return false;
     }
     if counts.held != held_by(applies, counts.seen) {
@@ -137,18 +148,6 @@ fn left_fits(left: Left) -> bool
         Left::Neighbour(x) => amplitude_limit::within(x),
         Left::Missing => true,
     }
-}
-
-fn counters_fit(received: u64, block: u64, flagged: u64) -> bool
-    ensures { λ r. ⌜ r ≡ (counter received && counter block && counter flagged) ⌝ }
-{
-    if log::COUNTER_LIMIT < received {
-        return false;
-    }
-    if log::COUNTER_LIMIT < block {
-        return false;
-    }
-    flagged <= log::COUNTER_LIMIT
 }
 
 fn gate_fits(g: Gate) -> bool

@@ -73,7 +73,7 @@ begun = level + 2
 abbrev pub end : ℕ
 end = begun + 2
 
--- ---- the counts of samples
+-- ---- the counts of samples, and the DC stage's
 
 abbrev pub seen : ℕ
 seen = end + 1
@@ -84,10 +84,13 @@ released = seen + 1
 abbrev pub held : ℕ
 held = released + 1
 
+abbrev pub clamped : ℕ
+clamped = held + 1
+
 -- ---- the notes' numbers: the repair ring's head, count and dropped, and the runs that were too long
 
 abbrev pub repairRing : ℕ
-repairRing = held + 1
+repairRing = clamped + 1
 
 abbrev pub longRuns : ℕ
 longRuns = repairRing + 3

@@ -113,7 +113,8 @@ abbrev pub monitorIn : List ℕ → ImageMonitor
 monitorIn ws = record { first = begunAt (word ws place.begun) (word ws (place.begun + 1)); end = word ws place.end }
 
 abbrev pub countsIn : List ℕ → Counts
-countsIn ws = record { seen = word ws place.seen; released = word ws place.released; held = word ws place.held }
+countsIn ws =
+    record { seen = word ws place.seen; released = word ws place.released; held = word ws place.held; clamped = word ws place.clamped }
 
 -- ---- the arrays and the log
 

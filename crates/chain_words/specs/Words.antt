@@ -97,7 +97,7 @@ abbrev pub monitorWords : ImageMonitor → List ℕ
 monitorWords m = begunWords (m .first) ++ (m .end ∷ [])
 
 abbrev pub countsWords : Counts → List ℕ
-countsWords c = c .seen ∷ c .released ∷ c .held ∷ []
+countsWords c = c .seen ∷ c .released ∷ c .held ∷ c .clamped ∷ []
 
 abbrev pub ringWords : Ring → List ℕ
 ringWords r = r .head ∷ r .count ∷ r .dropped ∷ []

@@ -80,14 +80,16 @@ const LEVEL: usize = UPDATES + 1;
 const BEGUN: usize = LEVEL + 2;
 
 pub const END: usize = BEGUN + 2;
-// The counts of samples.
+// The counts of samples, and the DC stage's.
 pub const SEEN: usize = END + 1;
 
 pub const RELEASED: usize = SEEN + 1;
 
 pub const HELD: usize = RELEASED + 1;
+
+pub const CLAMPED: usize = HELD + 1;
 // The notes' numbers: the repair ring, three words, and the runs that were too long.
-const REPAIR_RING: usize = HELD + 1;
+const REPAIR_RING: usize = CLAMPED + 1;
 
 const LONG_RUNS: usize = REPAIR_RING + 3;
 // The suppressor's arrays.
@@ -410,10 +412,10 @@ fn read_monitor(words: &[u64; STATE_WORDS]) -> ImageMonitor
     }
 }
 
-fn counts_words(c: Counts) -> [u64; 3]
+fn counts_words(c: Counts) -> [u64; 4]
     ensures { λ r. ⌜ r ≡ countsWords c ⌝ }
 {
-    [c.seen, c.released, c.held as u64]
+    [c.seen, c.released, c.held as u64, c.clamped]
 }
 
 fn read_counts(words: &[u64; STATE_WORDS]) -> Counts
@@ -423,6 +425,7 @@ fn read_counts(words: &[u64; STATE_WORDS]) -> Counts
         seen: words[SEEN],
         released: words[RELEASED],
         held: words[HELD] as usize,
+        clamped: words[CLAMPED],
     }
 }
 

@@ -8,11 +8,11 @@ ghost use lib.Dec.{eqb};
 ghost use lib.Ieee.{binary64, le};
 ghost use lib.ListN.{length};
 ghost use Rattle.complex.specs.Complex.{power};
-ghost use Rattle.complex.specs.View.{view64, make64};
+ghost use Rattle.complex.specs.View.{view64};
 ghost use Rattle.rules.specs.Constants.{one, rateLimit};
-ghost use Rattle.rules.specs.Dc.{corner, weight, clamped, isZero, firstLevel, advanced, restoredAll};
+ghost use Rattle.rules.specs.Dc.{corner, weight, isZero, firstLevel, restoredAll};
 ghost use Rattle.rules.specs.Iq.{ranged};
-ghost use Rattle.dc.specs.Blocker.{levelOf, blockerOf, pushed, processed, restored, blockerAfter, processedAll};
+ghost use Rattle.dc.specs.Blocker.{levelOf, blockerOf, pushOf, pushed, steppedBy, processed, observed, restored, afterSlice, processedAll};
 ghost use Rattle.rules.specs.Answers.{numberIn};
 ghost use Rattle.dc.specs.Undo.{said, undoReturned, undoWords};
 use complex::Complex64;
@@ -26,25 +26,59 @@ pub struct DcBlocker {
     pub dc: Complex64,
 }
 
-// A sample taken: the blocker after it, and the word to write.
+// What the level is moved by, and whether that was clamped.
+struct Push {
+    by: Complex64,
+    clamped: bool,
+}
+
+// A step: the blocker after it, and whether its update was clamped.
+struct Stepped {
+    blocker: DcBlocker,
+    clamped: bool,
+}
+
+// A sample taken: the blocker after it, the word to write, and whether the update was clamped.
 pub struct Taken {
     pub blocker: DcBlocker,
     pub word: u64,
+    pub clamped: bool,
+}
+
+// A sample undone: the blocker after it, and the word to write.
+struct Undone {
+    blocker: DcBlocker,
+    word: u64,
+}
+
+// A slice taken: the blocker after it, and on how many of its samples the update was clamped.
+pub struct Blocked {
+    pub blocker: DcBlocker,
+    pub clamped: u64,
 }
 
 // y times 1/norm(y), where norm(y) > 1. The norm of a power up to 1 is not above 1.
-fn clamped(y: Complex64) -> Complex64
-    ensures { λ r. ⌜ r ≡ make64 (clamped (view64 y)) ⌝ }
+fn clamp(y: Complex64) -> Push
+    ensures { λ r. ⌜ r ≡ pushOf (view64 y) ⌝ }
 {
     let p = y.norm_sqr();
     if p <= 1.0 {
-        return y;
+        return Push {
+            by: y,
+            clamped: false,
+        };
     }
     let m = ieee::root(p);
     if 1.0 < m {
-        return y.scale(1.0 / m);
+        return Push {
+            by: y.scale(1.0 / m),
+            clamped: true,
+        };
     }
-    y
+    Push {
+        by: y,
+        clamped: false,
+    }
 }
 
 impl DcBlocker {
@@ -102,14 +136,22 @@ impl DcBlocker {
     }
 
     // The level moved by y, which is a sample less the level.
-    fn advance(self, y: Complex64) -> DcBlocker
+    fn advance(self, y: Complex64) -> Stepped
         requires { ⌜ self .n + 1 < 2 ^ 64 ⌝ }
-        ensures { λ r. ⌜ r ≡ blockerOf (self .a) (advanced (self .a) (levelOf self) (view64 y)) ⌝ }
+        ensures { λ r. ⌜ r ≡ steppedBy self (view64 y) ⌝ }
     {
+        let push = clamp(y);
+        // Where nothing moves, y is zero and was not clamped.
         if self.rests(y) {
-            return self;
+            return Stepped {
+                blocker: self,
+                clamped: push.clamped,
+            };
         }
-        self.moved(clamped(y))
+        Stepped {
+            blocker: self.moved(push.by),
+            clamped: push.clamped,
+        }
     }
 
     // Whether y moves the level as it is: then `moved` is the short way to `advance`.
@@ -134,31 +176,42 @@ impl DcBlocker {
             return Taken {
                 blocker: self.moved(moving),
                 word: y.word,
+                clamped: false,
             };
         }
+        let next = self.advance(moving);
+        let blocker = next.blocker;
         Taken {
-            blocker: self.advance(moving),
+            blocker,
             word: y.word,
+            clamped: next.clamped,
         }
     }
 
     // The same, of which nothing is written.
-    fn observe_sample(self, x: u64) -> DcBlocker
+    fn observe_sample(self, x: u64) -> Stepped
         requires { ⌜ self .n + 1 < 2 ^ 64 ⌝ }
-        ensures { λ r. ⌜ r ≡ processed self x .blocker ⌝ }
+        ensures { λ r. ⌜ r ≡ observed self x ⌝ }
     {
         let level = self.dc;
         let y = Complex64::unpack(x).sub(level).rounded();
         let moving = y.value;
         if self.is_plain(moving) {
-            return self.moved(moving);
+            return Stepped {
+                blocker: self.moved(moving),
+                clamped: false,
+            };
         }
-        let next = self.advance(moving);
-        next
+        let step = self.advance(moving);
+        let blocker = step.blocker;
+        Stepped {
+            blocker,
+            clamped: step.clamped,
+        }
     }
 
     // Undo of one sample: y and the level.
-    fn restore_sample(self, y: u64) -> Taken
+    fn restore_sample(self, y: u64) -> Undone
         requires { ⌜ self .n + 1 < 2 ^ 64 ⌝ }
         ensures { λ r. ⌜ r ≡ restored self y ⌝ }
     {
@@ -166,46 +219,59 @@ impl DcBlocker {
         let z = Complex64::unpack(y);
         let x = z.add(level).rounded();
         if self.is_plain(z) {
-            return Taken {
+            return Undone {
                 blocker: self.moved(z),
                 word: x.word,
             };
         }
-        Taken {
-            blocker: self.advance(z),
+        let next = self.advance(z);
+        let blocker = next.blocker;
+        Undone {
+            blocker,
             word: x.word,
         }
     }
 
     // Applying: each sample less the level, in place.
-    pub fn process(self, samples: &mut [u64]) -> DcBlocker
+    pub fn process(self, samples: &mut [u64]) -> Blocked
         requires { ⌜ self .n + length (now samples) < 2 ^ 64 ⌝ }
-        ensures level { λ r. ⌜ r ≡ blockerAfter self (now (samples .entry)) ⌝ }
+        ensures after { λ r. ⌜ r ≡ afterSlice self (now (samples .entry)) ⌝ }
         ensures written { λ r. ⌜ now (samples .exit) ≡ processedAll self (now (samples .entry)) ⌝ }
     {
         let mut b = self;
+        let mut clamped: u64 = 0;
         let mut k: usize = 0;
         while k < samples.len() {
             let t = b.process_sample(samples[k]);
             b = t.blocker;
+            clamped += t.clamped as u64;
             samples[k] = t.word;
             k += 1;
         }
-        b
+        Blocked {
+            blocker: b,
+            clamped,
+        }
     }
 
-    // Observing: the same level, and the samples as they are.
-    pub fn observe(self, samples: &[u64]) -> DcBlocker
+    // Observing: the same level and count, and the samples as they are.
+    pub fn observe(self, samples: &[u64]) -> Blocked
         requires { ⌜ self .n + length (now samples) < 2 ^ 64 ⌝ }
-        ensures { λ r. ⌜ r ≡ blockerAfter self (now (samples .entry)) ⌝ }
+        ensures { λ r. ⌜ r ≡ afterSlice self (now (samples .entry)) ⌝ }
     {
         let mut b = self;
+        let mut clamped: u64 = 0;
         let mut k: usize = 0;
         while k < samples.len() {
-            b = b.observe_sample(samples[k]);
+            let t = b.observe_sample(samples[k]);
+            b = t.blocker;
+            clamped += t.clamped as u64;
             k += 1;
         }
-        b
+        Blocked {
+            blocker: b,
+            clamped,
+        }
     }
 }
 

@@ -3,7 +3,7 @@
 use mathlib.Core.Path.{_≡_}
 use mathlib.Core.Bool.{Bool, true, false}
 use mathlib.Core.List.{List, [], _∷_, _++_}
-use Prim.Native.Nat.{ℕ, _+_, _*_, _^_, _≤_}
+use Prim.Native.Nat.{ℕ, _+_, _*_, _≤_}
 use lib.ListN.{length, take, drop}
 use lib.Ieee.{Float}
 use Rattle.rules.specs.Constants.{zeroF, totalLimit}
@@ -11,7 +11,7 @@ use Rattle.rules.specs.Mode.{off, apply}
 use Rattle.rules.specs.Log.{Stage, Mark, ringNumber, repairsOf, repairWidth, storeWidth}
 use Rattle.rules.specs.Monitor.{Hop, Answer}
 use Rattle.rules.specs.Answers.{Said, accepted, nothing, refused, isAccepted}
-use Rattle.rules.specs.Chain.{released, heldOf, ringOf, impulseEvents, repairRing, longRunsOf, dcLevel, settledBy, evidence, lastWords}
+use Rattle.rules.specs.Chain.{released, heldOf, clampedOf, ringOf, impulseEvents, repairRing, longRunsOf, dcLevel, settledBy, evidence, lastWords}
 use Rattle.log.specs.View.{ringIn, marksAt}
 use Rattle.rules.specs.Guard.{Usable}
 use Rattle.rules.specs.Impulse.{lookaheadSize}
@@ -204,6 +204,8 @@ pub record ByRules (g : ConditioningConfig) (y : Chain) : Type 0 where
   pub seen : y .machine .state .counts .seen ≡ length (y .brought)
   pub count : y .machine .state .counts .released ≡ length (y .released)
   pub held : y .machine .state .counts .held ≡ heldOf (configOf g) (y .brought)
+  -- document 02, R-1: 'the log counts those steps'
+  pub clamped : y .machine .state .counts .clamped ≡ clampedOf (configOf g) (y .brought)
   -- 'every count and ring head, all span .. words': the twelve rings are the whole store
   pub span-words : length (y .machine .spans) ≡ storeWidth * g .spans
   pub rings : (st : Stage) (m : Mark)

@@ -1,4 +1,4 @@
--- Document 01, 'Chain' and 'Lists of calls': what the rules give for a whole input, all the samples and all the hops. Definitions only.
+-- Document 01, 'Chain' and 'Lists of calls', and document 02, R-1: what the rules give for a whole input, all the samples and all the hops. Definitions only.
 use mathlib.Core.Bool.{cond}
 use mathlib.Core.List.{List, [], _∷_, map}
 use Prim.Native.Nat.{ℕ}
@@ -6,7 +6,7 @@ use lib.ListN.{length}
 use lib.Ieee.{Float}
 use Rattle.complex.specs.Complex.{Complex}
 use Rattle.rules.specs.Impulse.{Setting, standard, blockLength, Event, happened, handedOn, held}
-use Rattle.rules.specs.Dc.{corner, firstLevel, levelAfter, blockedAll}
+use Rattle.rules.specs.Dc.{corner, firstLevel, levelAfter, blockedAll, clampedSteps}
 use Rattle.rules.specs.Iq.{Calibrated, Settled, Off, Observing, Withheld, Correcting, settled, correctedBy}
 use Rattle.rules.specs.Mode.{Mode, isApply, runs}
 use Rattle.rules.specs.Log.{Ring, Span, spanOf, Marks, marked, repaired, Stage, impulse, dc, iq, Mark, Repaired, Flagged, Corrected, Uncertain, marksOf}
@@ -58,6 +58,10 @@ pub data DcLevel : Type 0 where
 
 unfoldable pub dcLevel : Config → List ℕ → DcLevel
 dcLevel c xs = cond (runs (c .dcMode)) (levelIs (levelAfter (corner (c .fs)) firstLevel (afterImpulse c xs) .level)) noLevel
+
+-- 'the log counts those steps' (document 02, R-1), of an observing stage too
+unfoldable pub clampedOf : Config → List ℕ → ℕ
+clampedOf c xs = cond (runs (c .dcMode)) (clampedSteps (corner (c .fs)) firstLevel (afterImpulse c xs)) 0
 
 -- ---- the marks that each ring gets
 

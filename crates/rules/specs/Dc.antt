@@ -1,4 +1,4 @@
--- Document 01, 'DC', and its undo. Samples are words. Definitions only.
+-- Document 01, 'DC', and its undo; document 02, R-1. Samples are words. Definitions only.
 use Prim.Native.Nat.{ℕ, suc, _+_}
 use mathlib.Core.Bool.{Bool, _&&_, cond}
 use mathlib.Core.List.{List, [], _∷_}
@@ -7,6 +7,7 @@ use lib.Dec.{eqb}
 use lib.Ieee.{Float, binary64, mul, div, lt, eq, ofInt}
 use Rattle.complex.specs.Complex.{Complex, sum, difference, scaled, norm, narrowedParts, wordOf, sampleOf}
 use Rattle.rules.specs.Constants.{zeroF, one, five, tau}
+use Rattle.rules.specs.Lists.{indicator}
 
 -- 'a = 5 times the f64 6.283185307179586, then divided by fs.'
 unfoldable pub corner : Float → Float
@@ -34,9 +35,13 @@ larger a b = cond (lt a b) b a
 unfoldable pub weight : Float → ℕ → Float
 weight a n = larger a (div binary64 one (ofInt binary64 (pos (n + 1))))
 
+-- 'where norm(y) > 1': there, and only there, 'the limit acted' (document 02, R-1)
+unfoldable pub clamps : Complex → Bool
+clamps y = lt one (norm y)
+
 -- 'y first multiplied by 1/norm(y) where norm(y) > 1'
 unfoldable pub clamped : Complex → Complex
-clamped y = let m = norm y in cond (lt one m) (scaled binary64 y (div binary64 one m)) y
+clamped y = cond (clamps y) (scaled binary64 y (div binary64 one (norm y))) y
 
 abbrev pub isZero : Complex → Bool
 isZero y = eq (y .re) zeroF && eq (y .im) zeroF
@@ -62,6 +67,11 @@ levelAfter a l (x ∷ xs) = levelAfter a (stepped a l x) xs
 unfoldable pub blockedAll : Float → Level → List ℕ → List ℕ
 blockedAll a l [] = []
 blockedAll a l (x ∷ xs) = wordOf (blocked (l .level) (sampleOf x)) ∷ blockedAll a (stepped a l x) xs
+
+-- 'how often the update was held to full scale' (document 02, R-1)
+unfoldable pub clampedSteps : Float → Level → List ℕ → ℕ
+clampedSteps a l [] = 0
+clampedSteps a l (x ∷ xs) = indicator (clamps (blocked (l .level) (sampleOf x))) + clampedSteps a (stepped a l x) xs
 
 -- ---- 'DC undo writes y + level to a second slice, the level advancing from y.'
 unfoldable pub restored : Complex → Complex → Complex

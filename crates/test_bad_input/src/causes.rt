@@ -4,8 +4,8 @@
 //
 // Standard input has a line for each: the letter of a chain, the cause, and the words that the chain is given,
 // as `a|block length 1001 of rate 1000.5|0=408f440000000000 10=3e9`. A word is its place in decimal and its bits in
-// hexadecimal. `chain_words` has the places of a state; 170 to 217 is the span store, 218 to 249 the monitor's, 250 to
-// 261 the repair store.
+// hexadecimal. `chain_words` has the places of a state; 171 to 218 is the span store, 219 to 250 the monitor's, 251 to
+// 262 the repair store.
 
 use crate::bench::Bench;
 use crate::bench::Tried;
@@ -146,7 +146,7 @@ const LETTER: u64 = 0;
 const CAUSE: u64 = 1;
 
 // A place where no word stands.
-const NOWHERE: u64 = 262;
+const NOWHERE: u64 = 263;
 
 // The part of a line, and no word yet.
 fn in_part(part: u64, bench: Bench) -> Reading {
@@ -166,10 +166,10 @@ fn given(r: Reading) -> Bench {
     let word = r.hexadecimal;
     let mut out = r.bench;
     match place {
-        0..=169 => out.state[place] = word,
-        170..=217 => out.spans[place - 170] = word,
-        218..=249 => out.monitor[place - 218] = ieee::from_bits64(word),
-        250..=261 => out.repairs[place - 250] = word,
+        0..=170 => out.state[place] = word,
+        171..=218 => out.spans[place - 171] = word,
+        219..=250 => out.monitor[place - 219] = ieee::from_bits64(word),
+        251..=262 => out.repairs[place - 251] = word,
         _ => {}
     }
     out

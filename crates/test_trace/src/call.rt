@@ -9,6 +9,8 @@ use crate::words::show_first;
 use crate::words::shown;
 use crate::words::word;
 use crate::words::write_front;
+use crate::words::write_words;
+use chain_words::CLAMPED;
 use chain_words::HELD;
 use chain_words::RECEIVED;
 use chain_words::RELEASED;
@@ -62,7 +64,7 @@ fn hand(state: &mut [u64; STATE_WORDS], seen: u64) {
     state[RELEASED] = std::num::wrapping_sub_u64(seen, state[HELD]);
 }
 
-// The answer, how much was seen, released and held, and how long the slice is.
+// The answer, how much was seen, released and held, how long the slice is, and how many words are behind.
 fn front(told: Told, state: &[u64; STATE_WORDS], n: usize, how: u64) -> [u64; 8] {
     [
         3,
@@ -72,14 +74,16 @@ fn front(told: Told, state: &[u64; STATE_WORDS], n: usize, how: u64) -> [u64; 8]
         state[RELEASED],
         state[HELD],
         n as u64,
-        shown(n, how),
+        std::num::wrapping_add_u64(shown(n, how), 1),
     ]
 }
 
+// The slice, and behind it the count of clamped DC updates.
 fn write_call(told: Told, state: &[u64; STATE_WORDS], slice: &[u64], length: usize, how: u64) {
     let n = part(slice, length);
     write_front(front(told, state, n, how));
     show_first(slice, n, how);
+    write_words(&[state[CLAMPED]]);
 }
 
 // The state before stays where another one was handed over.

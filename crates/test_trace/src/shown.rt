@@ -76,11 +76,12 @@ fn write_log(log: ConditioningLog) {
     write_rings(log);
     write_counts(log);
     write_level(level);
+    write_words(&[counts.clamped]);
     write_words(&iq_words(iq));
 }
 
 pub fn log(state: &[u64; STATE_WORDS]) {
-    write_front([5, 0, 0, 0, 0, 0, 0, 62]);
+    write_front([5, 0, 0, 0, 0, 0, 0, 63]);
     write_log(chain_log::log(chain_words::read_state(state)));
 }
 

@@ -46,7 +46,7 @@ pub const HOP_WORDS: usize = 9;
 pub const SPAN_WORDS: usize = 2;
 
 // Of a log: its numbers, and all of its words.
-const LOG_NUMBERS: usize = 14;
+const LOG_NUMBERS: usize = 15;
 
 pub const LOG_WORDS: usize = LOG_NUMBERS + 48;
 
@@ -82,7 +82,7 @@ pub extern "C" fn vg_hop_words() -> u64
 
 #[no_mangle]
 pub extern "C" fn vg_log_words() -> u64
-    ensures { λ r. ⌜ r ≡ 62 ⌝ }
+    ensures { λ r. ⌜ r ≡ log.wordCount ⌝ }
 {
     LOG_WORDS as u64
 }
@@ -313,6 +313,7 @@ fn log_numbers(l: ConditioningLog) -> [u64; LOG_NUMBERS]
         level[0],
         level[1],
         level[2],
+        counts.clamped,
         settled[0],
         settled[1],
         settled[2],
@@ -321,12 +322,13 @@ fn log_numbers(l: ConditioningLog) -> [u64; LOG_NUMBERS]
 
 // How many words are lent, which their type says.
 fn sized(out: [u64; LOG_WORDS])
-    ensures { λ _. ⌜ length out ≡ 62 ⌝ }
+    ensures { λ _. ⌜ length out ≡ log.wordCount ⌝ }
 {}
 
 // The log of a state, in every word of `out`: the samples seen, released and held; the dropped spans;
 // the repair ring's head, count and dropped; the runs that were too long; the DC level, a tag and two
-// words; what IQ settled, likewise; of each of twelve rings its head, count and dropped; twelve counts.
+// words, and on how many samples its update was clamped; what IQ settled, a tag and two words; of each of
+// twelve rings its head, count and dropped; twelve counts.
 #[no_mangle]
 pub extern "C" fn vg_log(state: &[u64; chain_words::STATE_WORDS], out: &mut [u64; LOG_WORDS])
     ensures { λ _. ⌜ now (out .exit) ≡ log.after (now (state .entry)) ⌝ }

@@ -1,10 +1,10 @@
 //! Prints closed cases of the rules, whose answers are what the original gives, or the second reading
-//! for flags and ring words, which the original does not show: `crates/rules/specs/Cases.antt`, and
-//! with the word `impulse` the cases of the whole impulse stage, `crates/bench_marks/specs/ImpulseCases.antt`,
+//! for flags and ring words, which the original does not show: `crates/rules/specs/laws/Cases.antt`, and
+//! with the word `impulse` the cases of the whole impulse stage, `crates/bench_marks/specs/laws/ImpulseCases.antt`,
 //! which take longer to compute.
 //!
-//!     cd oracle && cargo run --release --bin closed_cases > ../crates/rules/specs/Cases.antt
-//!     cargo run --release --bin closed_cases impulse > ../crates/bench_marks/specs/ImpulseCases.antt && (cd .. && rt fmt)
+//!     cd oracle && cargo run --release --bin closed_cases > ../crates/rules/specs/laws/Cases.antt
+//!     cargo run --release --bin closed_cases impulse > ../crates/bench_marks/specs/laws/ImpulseCases.antt && (cd .. && rt fmt)
 
 use oracle::condition::dc::{revert_dc, DcBlocker};
 use oracle::condition::iq::{revert_iq, ImageMonitor, ImageResult, IqCalibration, IqCorrector};
@@ -63,7 +63,11 @@ fn ring(r: &Ring) -> String {
 }
 
 fn marks(r: &SpanRing) -> String {
-    format!("record {{ samples = {}; ring = {} }}", r.count, ring(&r.ring))
+    format!(
+        "record {{ samples = {}; ring = {} }}",
+        r.count,
+        ring(&r.ring)
+    )
 }
 
 fn evidence(r: &Option<ImageResult>) -> String {
@@ -326,6 +330,23 @@ fn order() {
     );
 }
 
+/// On how many of the samples, which `text` names, the original's clamp acted.
+fn clamped(name: &str, fs: f64, samples: &[Complex32], text: &str) {
+    let mut b = DcBlocker::new(fs);
+    for &x in samples {
+        b.process_sample(x);
+    }
+    case(
+        &format!("{name}-clamped"),
+        &format!(
+            "clampedSteps (corner ({})) firstLevel {text} ≡ {}",
+            float(fs),
+            b.clamped
+        ),
+        "floats dcRules",
+    );
+}
+
 fn dc() {
     // a zero after the first update counts as one
     let mut b = DcBlocker::new(48000.0);
@@ -343,6 +364,18 @@ fn dc() {
         ),
         "floats dcRules",
     );
+    // the limit acts by the norm, not by the power, and on what is left of a sample, not on the sample
+    let fine = 2f32.powi(-26);
+    let pairs = [
+        ("norm-one", [(0.0, 0.0), (1.0, fine)]),
+        ("above-one", [(0.0, 0.0), (1.0, 2.0 * fine)]),
+        ("loud-sample", [(0.75, 0.0), (1.5, 0.0)]),
+        ("loud-difference", [(0.75, 0.0), (-0.75, 0.0)]),
+    ];
+    for (name, pair) in pairs {
+        let xs = pair.map(|(re, im)| Complex32::new(re, im));
+        clamped(name, 48000.0, &xs, &format!("({})", words(&xs.map(word))));
+    }
     let mut random = Random(77);
     let mut samples = vec![Complex32::new(0.0, -0.0)];
     samples.extend((0..4).map(|_| Complex32::new(random.part() / 3.0, random.part())));
@@ -381,6 +414,7 @@ fn dc() {
             ),
             "floats dcRules",
         );
+        clamped(name, fs, &samples, &format!("{name}Input"));
         let back: Vec<u64> = revert_dc(&ys, fs).into_iter().map(word).collect();
         case(
             &format!("{name}-restored"),
@@ -528,7 +562,7 @@ fn main() {
     println!("-- ---- impulse: what is handed on by known flags, and a flag that depends on the order of a sum\n");
     beside();
     order();
-    println!("-- ---- DC: levels on the way, outputs, undo\n");
+    println!("-- ---- DC: levels on the way, outputs, how often the limit acted, undo\n");
     dc();
     println!("-- ---- IQ: coefficients, correction, undo\n");
     iq();
@@ -547,11 +581,11 @@ use lib.Ieee.{binary64, ofBits}
 use Rattle.rules.specs.Lists.{upTo}
 use Rattle.rules.specs.Guard.{usable, guarded, unusable}
 use Rattle.rules.specs.Impulse.{standard, flagged, value}
-use Rattle.rules.specs.Dc.{corner, firstLevel, levelAfter, blockedAll, restoredAll}
+use Rattle.rules.specs.Dc.{corner, firstLevel, levelAfter, blockedAll, clampedSteps, restoredAll}
 use Rattle.rules.specs.Iq.{Calibration, coefficient, corrected, uncorrected}
 use Rattle.rules.specs.Monitor.{Hop, noReport, report, windowLength, answers, openWindow, monitorWords}
-use Rattle.rules.specs.ByFlags.{look}
-use Rattle.rules.specs.Computing.{floats, guardRules, impulseRules, dcRules, iqRules, monitorRules}
+use Rattle.rules.specs.laws.ByFlags.{look}
+use Rattle.rules.specs.laws.Computing.{floats, guardRules, impulseRules, dcRules, iqRules, monitorRules}
 ";
 
 const IMPULSE_HEADER: &str = "-- Closed cases of the impulse stage's rules, computed: flags, and by the flags what is handed on, repairs, rings of spans and of repairs,
@@ -564,6 +598,6 @@ use Prim.Native.Nat.{ℕ}
 use Rattle.rules.specs.Lists.{upTo}
 use Rattle.rules.specs.Impulse.{Setting, standard, Event, value, events, happened, handedOn}
 use Rattle.rules.specs.Log.{marked, repaired, Repaired, Flagged, Uncertain, marksOf, repairsOf, longRuns}
-use Rattle.rules.specs.ByFlags.{from, flagsOf, look, happened-by, handed-by}
-use Rattle.rules.specs.Computing.{floats, impulseRules, logRules}
+use Rattle.rules.specs.laws.ByFlags.{from, flagsOf, look, happened-by, handed-by}
+use Rattle.rules.specs.laws.Computing.{floats, impulseRules, logRules}
 ";

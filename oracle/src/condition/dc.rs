@@ -34,6 +34,8 @@ pub struct DcBlocker {
     pub a: f64,
     pub n: u64,
     pub dc: Complex64,
+    // CHANGED: on how many updates the clamp acted (document 02, R-1).
+    pub clamped: u64,
 }
 
 impl DcBlocker {
@@ -43,6 +45,8 @@ impl DcBlocker {
             a: std::f64::consts::TAU * DC_CORNER_HZ / fs,
             n: 0,
             dc: Complex64::new(0.0, 0.0),
+            // CHANGED: none yet.
+            clamped: 0,
         }
     }
 
@@ -74,6 +78,8 @@ impl DcBlocker {
         let mag = innov.norm();
         if mag > DC_UPDATE_CLAMP {
             innov *= DC_UPDATE_CLAMP / mag;
+            // CHANGED: counts it.
+            self.clamped += 1;
         }
         self.dc += innov * a;
         self.n += 1;

@@ -175,6 +175,8 @@ pub struct ConditioningLog {
     counts: [[u64; Mark::ALL.len()]; Stage::ALL.len()],
     samples_seen: u64,
     dc_level: Option<Complex64>,
+    // CHANGED: the DC stage's count of clamped updates.
+    dc_clamped: u64,
     impulse_long_runs: u64,
     repairs: VecDeque<impulse::Repair>,
     repairs_dropped: u64,
@@ -204,6 +206,8 @@ impl ConditioningLog {
             counts: [[0; Mark::ALL.len()]; Stage::ALL.len()],
             samples_seen: 0,
             dc_level: None,
+            // CHANGED: none yet.
+            dc_clamped: 0,
             impulse_long_runs: 0,
             repairs: VecDeque::new(),
             repairs_dropped: 0,
@@ -259,6 +263,12 @@ impl ConditioningLog {
     /// 1.0), or `None` when the DC stage is off.
     pub fn dc_level(&self) -> Option<Complex64> {
         self.dc_level
+    }
+
+    // CHANGED: read like the others.
+    /// DC updates that were clamped to full scale.
+    pub fn dc_clamped(&self) -> u64 {
+        self.dc_clamped
     }
 
     /// Flagged runs longer than [`impulse::IMPULSE_MAX_RUN`] samples, which
@@ -469,6 +479,8 @@ impl InputConditioner {
                 }
             }
             self.log.dc_level = Some(dc.level());
+            // CHANGED: the log has the count after each call.
+            self.log.dc_clamped = dc.clamped;
             if self.dc_apply {
                 self.log
                     .mark(Stage::Dc, Mark::Corrected, start, ready as u64);

@@ -19,6 +19,8 @@ pub struct Record {
     pub repairs: Ring,
     /// The level after the released samples; nothing if DC is off.
     pub dc: Option<dc::Level>,
+    /// DC steps on which the limit acted; 0 if DC is off.
+    pub clamped: u64,
     pub iq: Settled,
     pub monitor: Vec<f64>,
 }
@@ -107,6 +109,11 @@ pub fn whole(s: &Setting, xs: &[Sample], hops: &[Hop]) -> Record {
     } else {
         dc::levels(s.fs, &mended).pop()
     };
+    let clamped = if s.dc == Mode::Off {
+        0
+    } else {
+        dc::clamped(s.fs, &mended)
+    };
     let blocked = if s.dc == Mode::Apply {
         dc::outputs(s.fs, &mended)
     } else {
@@ -126,6 +133,7 @@ pub fn whole(s: &Setting, xs: &[Sample], hops: &[Hop]) -> Record {
         long_runs: impulse::long_runs(&flags),
         repairs: log::repair_ring(s.repairs, xs, &marks[log::place(0, 0)]),
         dc: level,
+        clamped,
         iq: settled,
         monitor: monitor::words(s.fs, s.n, hops),
     }

@@ -1,4 +1,4 @@
-//! **DC.**
+//! **DC**, and the count that document 02 adds to it (R-1).
 
 use super::Sample;
 
@@ -36,6 +36,11 @@ pub fn norm(re: f64, im: f64) -> f64 {
     (re * re + im * im).sqrt()
 }
 
+/// The limit acts on a step: "where norm(y) > 1".
+pub fn clamps(y: Sample) -> bool {
+    norm(f64::from(y.re), f64::from(y.im)) > 1.0
+}
+
 /// "If no update has happened and both parts of y are zero, nothing moves. Else level +=
 /// y·max(a, 1/(n+1)), with n earlier updates, y first multiplied by 1/norm(y) where norm(y) > 1."
 pub fn moved(a: f64, level: Level, y: Sample) -> Level {
@@ -43,9 +48,8 @@ pub fn moved(a: f64, level: Level, y: Sample) -> Level {
         return level;
     }
     let (mut re, mut im) = (f64::from(y.re), f64::from(y.im));
-    let size = norm(re, im);
-    if size > 1.0 {
-        let scale = 1.0 / size;
+    if clamps(y) {
+        let scale = 1.0 / norm(re, im);
         re *= scale;
         im *= scale;
     }
@@ -76,6 +80,13 @@ pub fn outputs(fs: f64, xs: &[Sample]) -> Vec<Sample> {
         .zip(levels(fs, xs))
         .map(|(&x, level)| blocked(level, x))
         .collect()
+}
+
+/// Document 02, R-1: "A DC step says beside its sample whether the limit acted, and the log counts
+/// those steps." Their number among the samples `xs` that enter the stage, applying or observing.
+/// Where nothing moves y is zero, so the limit does not act there.
+pub fn clamped(fs: f64, xs: &[Sample]) -> u64 {
+    outputs(fs, xs).into_iter().filter(|&y| clamps(y)).count() as u64
 }
 
 /// "DC undo writes y + level to a second slice, the level advancing from y."

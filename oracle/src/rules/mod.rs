@@ -4,7 +4,7 @@
 //! by the one before it (DC level, a ring), so do they. No code is shared with
 //! [`crate::condition`] or [`crate::num_complex`]: all arithmetic is written out here.
 //!
-//! A quoted sentence in a comment is document 01's.
+//! A quoted sentence in a comment is document 01's, or document 02's where it is named.
 
 pub mod chain;
 pub mod dc;

@@ -165,6 +165,12 @@ pub fn with_slice(mut answer: Answer, how: u64, slice: Vec<u64>) -> Answer {
     answer
 }
 
+/// A call's, with the count of clamped DC updates behind its slice.
+pub fn with_clamped(mut answer: Answer, clamped: u64) -> Answer {
+    answer.words.push(clamped);
+    answer
+}
+
 /// The words themselves, or their digest.
 pub fn whole_or_digest(how: u64, words: Vec<u64>) -> Vec<u64> {
     if how == 1 {
@@ -228,6 +234,11 @@ impl Machine {
 
     pub fn held(&self) -> usize {
         self.chain.held
+    }
+
+    /// On how many DC steps the limit acted.
+    fn clamped(&self) -> u64 {
+        self.chain.log().dc_clamped()
     }
 
     pub fn setting(&self) -> &Setting {
@@ -427,7 +438,10 @@ impl Machine {
         if let Some(mut answer) = self.call_refusal(o, seen, &slice)? {
             let held = self.chain.held as u64;
             answer.front[3..6].copy_from_slice(&[seen, seen.wrapping_sub(held), held]);
-            return Ok(with_slice(answer, o.how, slice));
+            return Ok(with_clamped(
+                with_slice(answer, o.how, slice),
+                self.clamped(),
+            ));
         }
         if d != 0 {
             return Err(NoCase("a moved state that is taken"));
@@ -441,7 +455,8 @@ impl Machine {
             self.chain.released,
             self.chain.held as u64,
         ]);
-        Ok(with_slice(answer, o.how, words_c32(&conditioned)))
+        let answer = with_slice(answer, o.how, words_c32(&conditioned));
+        Ok(with_clamped(answer, self.clamped()))
     }
 
     // ---- a hop
@@ -538,7 +553,7 @@ impl Machine {
         words.push(log.impulse_long_runs());
         let level = log.dc_level().unwrap_or(Complex64::new(0.0, 0.0));
         words.push(u64::from(log.dc_level().is_some()));
-        words.extend([bits(level.re), bits(level.im)]);
+        words.extend([bits(level.re), bits(level.im), self.clamped()]);
         words.extend(self.iq_words());
         let mut answer = plain(0);
         answer.words = words;

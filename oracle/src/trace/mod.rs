@@ -8,7 +8,7 @@
 //! |---|---|---|---|
 //! | 1 make | lent spans, repairs, monitor words | configuration | 0 made, 100 nothing, 1 to 4 |
 //! | 2 config | | configuration | whether all is off; `observing` of it |
-//! | 3 call | lent spans, repairs; places in front; seen | new samples | 0, 4 to 8; ready or place; seen, released, held, length; slice |
+//! | 3 call | lent spans, repairs; places in front; seen | new samples | 0, 4 to 8; ready or place; seen, released, held, length; slice, clamped DC updates |
 //! | 4 hop | start; lent spans, monitor words | channels | 0 no report, 101 report, 100 nothing, 4, 5, 7, 9; place; evidence |
 //! | 5 log | | | the log |
 //! | 6 state | | | the state |

@@ -151,6 +151,7 @@ fn word_name(op: u64, front: &[u64; FRONT], i: usize) -> String {
             "DC level there",
             "DC level re",
             "DC level im",
+            "clamped",
             "iq",
             "coefficient re",
             "coefficient im",
@@ -212,6 +213,7 @@ fn word_name(op: u64, front: &[u64; FRONT], i: usize) -> String {
         STATE => state(i),
         STORES if front[7] != 3 => stores(i),
         STORES => "digest".to_string(),
+        CALL if i + 1 == front[7] as usize => "clamped".to_string(),
         _ => format!("place {i}"),
     }
 }

@@ -95,6 +95,7 @@ pub fn compare(chain: &InputConditioner, s: &Setting, record: &Record, hops: &[H
         "{at}: dropped spans"
     );
     assert_eq!(log.impulse_long_runs(), record.long_runs, "{at}: long runs");
+    assert_eq!(log.dc_clamped(), record.clamped, "{at}: clamped updates");
     let repairs: Vec<Vec<u64>> = log
         .repairs()
         .map(|r| {

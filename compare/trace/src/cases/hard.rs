@@ -1,9 +1,9 @@
 //! Hard cases: a stage by itself, the others off, on signals that stand at a limit of its rules, or that a faster form of it
-//! could get wrong.
+//! could get wrong; and any chain whose DC stage runs, on a carrier.
 
 use super::*;
 use oracle::rules::refusals::{within, TOTAL};
-use oracle::rules::{guard, impulse};
+use oracle::rules::{dc, guard, impulse};
 
 pub const IMPULSE: [&str; 14] = [
     "sparse clicks",
@@ -22,7 +22,7 @@ pub const IMPULSE: [&str; 14] = [
     "falling powers",
 ];
 
-pub const LEVEL: [&str; 8] = [
+pub const LEVEL: [&str; 9] = [
     "quiet",
     "loud, a carrier",
     "leading zeros",
@@ -31,7 +31,14 @@ pub const LEVEL: [&str; 8] = [
     "tiny",
     "zeros",
     "near full scale",
+    "at full scale",
 ];
+
+/// The last is for DC alone.
+pub const AT_FULL_SCALE: usize = LEVEL.len() - 1;
+
+/// The DC stage's mode.
+pub const CARRIER: [&str; 2] = ["observing", "applying"];
 
 pub const HOPS: [&str; 10] = [
     "noise",
@@ -166,6 +173,52 @@ fn near_ratio(xs: &[Sample]) -> u64 {
 }
 
 // ---- DC and IQ
+
+/// The sizes of two parts whose norm is 1 or next to it: a power just above 1 has the norm 1.
+fn full_scale(rng: &mut Rng) -> [f64; 2] {
+    let whole = f64::from(rng.pick(&[1.0, 1f32.next_up(), 1f32.next_down()]));
+    let small = f64::from(rng.pick(&[0.0, 2.0, 3.0, 4.0])) * 2f64.powi(-27);
+    let t = 1.6 * rng.unit();
+    rng.pick(&[[whole, small], [small, whole], [t.cos(), t.sin()]])
+}
+
+/// Samples that, less the level, are at full scale, and lead the level back to 0.
+fn at_full_scale(rng: &mut Rng, fs: f64, n: usize) -> Vec<Sample> {
+    let back = |size: f64, level: f64| {
+        if level > 0.0 {
+            level - size
+        } else {
+            level + size
+        }
+    };
+    let a = dc::weight(fs);
+    let mut level = dc::FRESH;
+    (0..n)
+        .map(|_| {
+            let [re, im] = full_scale(rng);
+            let x = clipped(back(re, level.re), back(im, level.im));
+            level = dc::moved(a, level, dc::blocked(level, x));
+            x
+        })
+        .collect()
+}
+
+/// A carrier far above full scale that comes and goes: on the average it is there half of the time.
+fn coming_and_going(rng: &mut Rng, n: usize) -> Vec<Sample> {
+    let (a, b) = (0.3 * rng.both(), 0.3 * rng.both());
+    let longest = rng.pick(&[1, 30, 2000]);
+    let mut there = rng.once_in(2);
+    let mut xs = Vec::new();
+    while xs.len() < n {
+        for _ in 0..rng.from(1, longest).min(n - xs.len()) {
+            let t = 0.37 * xs.len() as f64;
+            let r = if there { 4.0 + rng.unit() } else { 0.1 };
+            xs.push(clipped(r * t.cos() + a, r * t.sin() + b));
+        }
+        there = !there;
+    }
+    xs
+}
 
 fn level(rng: &mut Rng, kind: usize, n: usize) -> Vec<Sample> {
     let (a, b) = (0.3 * rng.both(), 0.3 * rng.both());
@@ -362,7 +415,11 @@ impl Drawing<'_> {
         (s.calibration, s.centre) = (Some(c), 7e6);
         self.make(&s, 1_000_000);
         let n = self.rng.from(1, 4000);
-        let xs = level(self.rng, kind, n);
+        let xs = if kind == AT_FULL_SCALE {
+            at_full_scale(self.rng, s.fs, n)
+        } else {
+            level(self.rng, kind, n)
+        };
         let longest = self.rng.pick(&[1, 2, 64, 1024, 4000]);
         self.fed(&xs, longest, 3);
         self.log();
@@ -374,6 +431,27 @@ impl Drawing<'_> {
             _ => Operation::new(DC_UNDO, &[s.fs.to_bits(), ys.len() as u64], ys),
         };
         self.add(o);
+    }
+
+    /// A chain of any kind whose DC stage runs, on a carrier that comes and goes; refused calls and hops between its calls, and no
+    /// other chain.
+    pub fn carrier(&mut self, kind: usize) {
+        self.digests = true;
+        let mut s = some_setting(self.rng);
+        s.dc = [Mode::Observe, Mode::Apply][kind];
+        self.make(&s, 1_000_000);
+        let n = self.rng.from(8_000, 24_000);
+        let xs = coming_and_going(self.rng, n);
+        let block = self.rng.pick(&[1, 7, 64, 1024, 4000]);
+        for part in xs.chunks(block) {
+            self.call(words(part), 200);
+            match self.rng.below(60) {
+                0 => self.odd_call(),
+                1 => self.hop(30),
+                2 => self.log(),
+                _ => (),
+            }
+        }
     }
 
     /// The undos of DC and IQ on odd parts, rates, lengths and coefficients.

@@ -19,15 +19,15 @@ use Rattle.impulse_slice.specs.declared.Ran.{Ran}
 use Rattle.impulse_slice.specs.Noted.{Noted, notedOf, noteAll, handed, over, Roomy}
 use Rattle.impulse_slice.specs.laws.NotesLaws.{note-none, bounded-up, roomy-up}
 use Rattle.impulse_slice.specs.laws.StageLaws.{handed-most, roomy-run}
-use Rattle.dc.specs.declared.DcBlocker.{DcBlocker}
+use Rattle.dc.specs.declared.Blocked.{Blocked}
 use Rattle.iq.specs.View.{settledOf}
 use Rattle.stage_mode.specs.View.{modeOf}
 use Rattle.chain_state.specs.declared.Counts.{Counts}
 use Rattle.chain_state.specs.declared.InputConditioner.{InputConditioner}
 use Rattle.chain_state.specs.Changed.{afterCall}
-use Rattle.chain.specs.Stages.{settingIn, newPart, machineOf, notesIn, impulseAfter, impulseOut, impulseTold, blockerAfterBy, blockedBy, notedDc, notedIq}
+use Rattle.chain.specs.Stages.{settingIn, newPart, machineOf, notesIn, impulseAfter, impulseOut, impulseTold, dcAfter, blockedBy, notedDc, notedIq}
 use Rattle.chain.specs.Stages.{handsOn, notesAfter, loggedAfter, countsAfter, machineAfter, process, Acceptable}
-use Rattle.chain.specs.laws.SliceLaws.{call-roomy, call-room, new-length, new-few, off-told, on-told, blocked-by-length}
+use Rattle.chain.specs.laws.SliceLaws.{call-roomy, call-room, new-length, new-few, off-told, on-told, blocked-by-length, dc-few}
 
 -- ---- how many samples are handed on
 
@@ -118,30 +118,46 @@ module _ (c : InputConditioner) (samples spans repairs : List ℕ) (a : Acceptab
         ∙ (λ i. map (correctedBy (settledOf (c .settings .iq))) (blockedBy (modeOf (c .settings .dc)) (c .blocker) (front i)) ++ rest i)
         ∙ ap (λ (n : ℕ). handsOn c (newPart c samples) ++ drop n samples) (sym (hands-length c (newPart c samples)))
 
-    -- the counts by the length of the slice and how many of it are released
-    abbrev countsBy : ℕ → ℕ → Counts
-    countsBy len ready =
-        record { seen = c .counts .seen + (len - c .counts .held); released = c .counts .released + ready; held = len - ready }
+    -- on no more than 2^48 of them the DC limit acted
+    pub ready-clamped : (dc : Blocked) → dc ≡ dcAfter (modeOf (c .settings .dc)) (c .blocker) (take (ran .ready) samples₁) → dc .clamped ≤ totalLimit
+    ready-clamped dc e =
+        let out = impulseOut c (newPart c samples) in
+        let d = dcAfter (modeOf (c .settings .dc)) (c .blocker) in
+        let k = ap (λ (b : Blocked). b .clamped) (e ∙ ap d front) in
+        omega (arith, k, dc-few (modeOf (c .settings .dc)) (c .blocker) out, ready-few (length out) refl)
+
+    -- the counts by the length of the slice, how many of it are released, and on how many of these the DC limit acted
+    abbrev countsBy : ℕ → ℕ → ℕ → Counts
+    countsBy len ready clamped =
+        record {
+          seen = c .counts .seen + (len - c .counts .held);
+          released = c .counts .released + ready;
+          held = len - ready;
+          clamped = c .counts .clamped + clamped;
+        }
 
     pub processed-chain : (suppressor : ImpulseSuppressor) → suppressor ≡ impulseAfter c (newPart c samples)
-        → (blocker : DcBlocker) → blocker ≡ blockerAfterBy (modeOf (c .settings .dc)) (c .blocker) (take (ran .ready) samples₁)
+        → (dc : Blocked) → dc ≡ dcAfter (modeOf (c .settings .dc)) (c .blocker) (take (ran .ready) samples₁)
         → (log : Log) (spans₂ : List ℕ)
         → _≡_ {A = Logged} (record { log = log; spans = spans₂ })
         (notedIq (c .settings .spans) (settledOf (c .settings .iq))
         (notedDc (c .settings .spans) (modeOf (c .settings .dc)) (record { log = ran .notes .log; spans = spans₁ }) (spanOf (c .counts .released) (ran .ready)))
         (spanOf (c .counts .released) (ran .ready)))
-        → machineOf (afterCall c (countsBy (length samples) (ran .ready)) suppressor blocker (withLog (ran .notes) log)) spans₂ repairs₁
+        → machineOf (afterCall c (countsBy (length samples) (ran .ready) (dc .clamped)) suppressor (dc .blocker) (withLog (ran .notes) log)) spans₂ repairs₁
         ≡ process (machineOf c spans repairs) (newPart c samples)
     unfolding process notesAfter loggedAfter
-    processed-chain suppressor after blocker level log spans₂ logged =
+    processed-chain suppressor after dc level log spans₂ logged =
         let cap = c .settings .spans in
         let marks : Logged → Span → Logged = λ x m. notedIq cap (settledOf (c .settings .iq)) (notedDc cap (modeOf (c .settings .dc)) x m) m in
         let n = new-length c samples spans repairs a in
         let h = a .held-in in
         let kept : length samples - ran .ready ≡ c .counts .held + length (newPart c samples) - length (impulseOut c (newPart c samples)) =
         omega (arith, count) in
-        let b = level ∙ ap (blockerAfterBy (modeOf (c .settings .dc)) (c .blocker)) front in
+        let d = level ∙ ap (dcAfter (modeOf (c .settings .dc)) (c .blocker)) front in
         let l = logged ∙ (λ i. marks (noted i .logged) (spanOf (c .counts .released) (count i))) in
-        let counts : countsBy (length samples) (ran .ready) ≡ countsAfter c (length (newPart c samples)) (length (impulseOut c (newPart c samples)))
-        = λ i. record { seen = c .counts .seen + sym n i; released = c .counts .released + count i; held = kept i } in
-        λ i. machineAfter c (counts i) (after i) (b i) (l i) (noted i .repairs) (noted i .longruns)
+        let out = impulseOut c (newPart c samples) in
+        let counts : countsBy (length samples) (ran .ready) (dc .clamped)
+        ≡ countsAfter c (length (newPart c samples)) (length out) (dcAfter (modeOf (c .settings .dc)) (c .blocker) out .clamped)
+        = λ i.
+        record { seen = c .counts .seen + sym n i; released = c .counts .released + count i; held = kept i; clamped = c .counts .clamped + d i .clamped } in
+        λ i. machineAfter c (counts i) (after i) (d i .blocker) (l i) (noted i .repairs) (noted i .longruns)

@@ -17,13 +17,13 @@ use Rattle.log.specs.laws.CheckLaws.{ring-range, log-range, log-sound, marked-b
 use Rattle.impulse.specs.Room.{Room}
 use Rattle.dc.specs.declared.DcBlocker.{DcBlocker}
 use Rattle.dc.specs.Blocker.{levelOf}
-use Rattle.dc.specs.laws.Cutting.{blocked-length}
+use Rattle.dc.specs.laws.Cutting.{blocked-length, clamped-few}
 use Rattle.impulse_slice.specs.laws.NotesLaws.{bounded-up}
 use Rattle.impulse_slice.specs.Noted.{stateAfter, handed, told, over, Roomy}
 use Rattle.chain_state.specs.declared.InputConditioner.{InputConditioner}
 use Rattle.chain_state.specs.Fits.{heldBy}
 use Rattle.chain_state.specs.laws.FitsLaws.{Fit, state-fit}
-use Rattle.chain.specs.Stages.{settingIn, newPart, machineOf, notesIn, impulseAfter, impulseOut, impulseTold, blockedBy, notedDc, Acceptable}
+use Rattle.chain.specs.Stages.{settingIn, newPart, machineOf, notesIn, impulseAfter, impulseOut, impulseTold, dcAfter, blockedBy, notedDc, Acceptable}
 
 -- ---- the log
 
@@ -120,6 +120,12 @@ pub blocked-by-length : (m : Mode) (b : DcBlocker) (ys : List ℕ) → length (b
 blocked-by-length off b ys = refl
 blocked-by-length observe b ys = refl
 blocked-by-length apply b ys = blocked-length (b .a) (levelOf b) ys
+
+-- and its limit acts on no more of them
+pub dc-few : (m : Mode) (b : DcBlocker) (ys : List ℕ) → dcAfter m b ys .clamped ≤ length ys
+dc-few off b ys = omega arith
+dc-few observe b ys = clamped-few (b .a) (levelOf b) ys
+dc-few apply b ys = clamped-few (b .a) (levelOf b) ys
 
 -- the IQ stage over the front of a slice that another stage wrote
 pub filtered : (f : ℕ → ℕ) (front rest xs : List ℕ) (k : ℕ) → xs ≡ front ++ rest → length front ≡ k → map f (take k xs) ++ drop k xs ≡ map f front ++ rest

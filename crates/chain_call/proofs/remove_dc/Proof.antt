@@ -8,7 +8,7 @@ use lib.Seq.{length-take-le}
 use Rattle.rules.specs.Mode.{Mode, observe}
 use Rattle.dc.specs.declared.DcBlocker.{DcBlocker}
 use Rattle.stage_mode.specs.View.{modeOf}
-use Rattle.chain.specs.Stages.{blockerAfterBy, blockedBy}
+use Rattle.chain.specs.Stages.{dcAfter, blockedBy}
 use borrow.Author.Needs.{needs}
 use Rattle.chain_call.proofs.remove_dc.Statement.{statement}
 use Rattle.chain_call.proofs.remove_dc.Tie as tie
@@ -55,7 +55,7 @@ returns : tie.Need-returns
 returns c =
     let a = c .before .before .before .args in
     let m = ap modeOf (c .enum-told .given .1) in (
-      sym (ap (λ (t : Mode). blockerAfterBy t (a .blocker) (take (a .ready) (a .samples .now))) m),
+      sym (ap (λ (t : Mode). dcAfter t (a .blocker) (take (a .ready) (a .samples .now))) m),
       written (a .blocker) (a .samples .now) (a .ready) (sym m) (sym (take-append-drop (a .ready) (a .samples .now))),
     )
 
@@ -67,7 +67,7 @@ returns-2 c =
     let a = c .before .before .before .before .before .args in
     let m = ap modeOf (c .before .before .enum-told2 .given .1) in (
       c .observe .ensures
-          ∙ sym (ap (λ (t : Mode). blockerAfterBy t (a .blocker) (take (a .ready) (a .samples .now))) m),
+          ∙ sym (ap (λ (t : Mode). dcAfter t (a .blocker) (take (a .ready) (a .samples .now))) m),
       written (a .blocker) (a .samples .now) (a .ready) (sym m) (sym (take-append-drop (a .ready) (a .samples .now))),
     )
 
@@ -79,7 +79,7 @@ returns-3 c =
     let a = c .before .before .before .before .before .before .before .args in
     let m = ap modeOf (c .before .before .before .before .enum-told3 .given .1) in (
       c .before .before .process .ensures .0
-          ∙ sym (ap (λ (t : Mode). blockerAfterBy t (a .blocker) (take (a .ready) (a .samples .now))) m),
+          ∙ sym (ap (λ (t : Mode). dcAfter t (a .blocker) (take (a .ready) (a .samples .now))) m),
       written (a .blocker) (a .samples .now) (a .ready) (sym m)
           (ap (λ (l : List ℕ). l ++ drop (a .ready) (a .samples .now)) (c .before .before .process .ensures .1)),
     )

@@ -53,14 +53,23 @@ settings-fit s block e =
 pub record CountsFit (a : Bool) (n : Counts) : Type 0 where
   pub seen : n .seen ≤ 2 ^ 52
   pub released : n .released ≤ 2 ^ 52
+  pub clamped : n .clamped ≤ 2 ^ 52
   pub held : n .held ≡ heldBy a (n .seen)
   pub sum : n .released + n .held ≡ n .seen
 
 pub counts-fit : (a : Bool) (n : Counts) → countsFit a n ≡ true → CountsFit a n
 unfolding countsFit
 counts-fit a n e =
-    let p = four (counter (n .seen)) (counter (n .released)) (eqb (n .held) (heldBy a (n .seen))) (eqb (n .released + n .held) (n .seen)) e in
-    record { seen = leb-true _ _ (p .0); released = leb-true _ _ (p .1); held = eqb-true _ _ (p .2); sum = eqb-true _ _ (p .3) }
+    let p = three (counter (n .seen) && counter (n .released) && counter (n .clamped)) (eqb (n .held) (heldBy a (n .seen)))
+    (eqb (n .released + n .held) (n .seen)) e in
+    let q = three (counter (n .seen)) (counter (n .released)) (counter (n .clamped)) (p .0) in
+    record {
+      seen = leb-true _ _ (q .0);
+      released = leb-true _ _ (q .1);
+      clamped = leb-true _ _ (q .2);
+      held = eqb-true _ _ (p .1);
+      sum = eqb-true _ _ (p .2);
+    }
 
 run-end : (run : Open) (j : ℕ) → runFits run j ≡ true → runEnd run ≤ j
 run-end Closed j e = omega arith
@@ -206,6 +215,7 @@ pub record Fit (c : InputConditioner) : Type 0 where
   pub blocks : 0 < c .suppressor .gate .settings .blocklen
   pub seen : c .counts .seen ≤ 2 ^ 52
   pub released : c .counts .released ≤ 2 ^ 52
+  pub clamped : c .counts .clamped ≤ 2 ^ 52
   pub held : c .counts .held ≡ heldBy (applies c) (c .counts .seen)
   pub sum : c .counts .released + c .counts .held ≡ c .counts .seen
   pub flags : c .suppressor .gate .block .flagged ≤ 2 ^ 52
@@ -226,6 +236,7 @@ groups-fit c g =
       blocks = g .settings .blocks;
       seen = g .counts .seen;
       released = g .counts .released;
+      clamped = g .counts .clamped;
       held = g .counts .held;
       sum = g .counts .sum;
       flags = g .gate .flagged;

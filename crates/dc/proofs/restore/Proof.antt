@@ -4,7 +4,7 @@ use Prim.Native.Nat.{_+_, _-_}
 use native.Mathlib.Omega.{arith}
 use lib.ListN.{length, set}
 use Rattle.dc.specs.declared.DcBlocker.{DcBlocker}
-use Rattle.dc.specs.declared.Taken.{Taken}
+use Rattle.dc.specs.declared.Undone.{Undone}
 use Rattle.rules.specs.Dc.{corner, firstLevel}
 use Rattle.dc.specs.Blocker.{blockerOf}
 use Rattle.dc.specs.laws.Runs.{Undoing, undoing-next, undoing-end}
@@ -26,7 +26,7 @@ loop-holds c =
     let a = c .before .before .before .args in
     let b = blockerOf (corner (a .fs)) firstLevel in
     subst (λ (z : DcBlocker). Undoing b (a .y .now) z (a .out .now) 0) (sym (c .fresh .ensures))
-    (record { same = c .before .before .before .pre; place = search needs; count = search needs; written = refl })
+    (record { same = c .before .before .before .pre; place = search needs; updates = search needs; written = refl })
 
 mul-restore-sample : tie.Need-mul-restore-sample Inv-loop μ-loop
 mul-restore-sample c = search needs
@@ -35,7 +35,7 @@ shared-slice-read-restore-sample : tie.Need-shared-slice-read-restore-sample Inv
 shared-slice-read-restore-sample c = search needs
 
 restore-sample-requires : tie.Need-restore-sample-requires Inv-loop μ-loop
-restore-sample-requires c κs = omega (arith, c .before .before .loop .inv .count)
+restore-sample-requires c κs = omega (arith, c .before .before .loop .inv .updates)
 
 mul-out : tie.Need-mul-out Inv-loop μ-loop
 mul-out c = search needs
@@ -54,7 +54,7 @@ loop-again c =
     let l = c .before .before .before .before .loop in
     let a = c .before .before .before .before .before .before .before .before .args in
     let b = blockerOf (corner (a .fs)) firstLevel in
-    subst (λ (t : Taken). Undoing b (a .y .now) (t .blocker) (set (l .out) (l .k) (t .word)) (l .k + 1)) (sym (c .before .restore-sample .ensures))
+    subst (λ (t : Undone). Undoing b (a .y .now) (t .blocker) (set (l .out) (l .k) (t .word)) (l .k + 1)) (sym (c .before .restore-sample .ensures))
     (undoing-next b (a .y .now) (l .b) (l .out) (l .k) (c .before .before .before .loop-test .taken) (l .inv))
 
 same-length : tie.Need-same-length Inv-loop μ-loop

@@ -12,9 +12,13 @@ use Rattle.ieee.specs.Bound.{Within}
 use Rattle.ieee.specs.Root.{rooted}
 use Rattle.ieee.specs.laws.Bounds.{or-le, whole-value}
 use Rattle.ieee.specs.laws.LowerBounds.{fits-value, rooted-bound}
+use Rattle.complex.specs.declared.Complex64.{Complex64}
 use Rattle.complex.specs.Complex.{Complex, power, norm, scaled}
+use Rattle.complex.specs.View.{view64, make64}
 use Rattle.rules.specs.Constants.{one}
-use Rattle.rules.specs.Dc.{clamped}
+use Rattle.rules.specs.Dc.{clamps, clamped}
+use Rattle.dc.specs.declared.Push.{Push}
+use Rattle.dc.specs.Blocker.{pushOf}
 
 -- what is within 1 is not above 1
 not-above : (x : Float) → Within x 1 1 → lt one x ≡ false
@@ -53,17 +57,29 @@ power-fits : (y : Complex) → T (fits binary64 (power binary64 y))
 unfolding power
 power-fits y = add-fits binary64 (mul binary64 (y .re) (y .re)) (mul binary64 (y .im) (y .im))
 
--- a power up to 1: nothing is clamped
+-- a power up to 1: the limit does not act
+pub unclamped : (y : Complex) → le (power binary64 y) one ≡ true → clamps y ≡ false
+unfolding clamps norm
+unclamped y e = root-up-to-one (power binary64 y) (power-fits y) (subst T (sym e) tt)
+
+-- ---- y by whether the limit acts
+
+abbrev clampedIf : Bool → Complex → Float → Complex
+clampedIf t y m = cond t (scaled binary64 y (div binary64 one m)) y
+
 pub clamp-none : (y : Complex) → le (power binary64 y) one ≡ true → clamped y ≡ y
-unfolding clamped norm
-clamp-none y e =
-    let m = norm y in
-    ap (λ (t : Bool). cond t (scaled binary64 y (div binary64 one m)) y) (root-up-to-one (power binary64 y) (power-fits y) (subst T (sym e) tt))
+unfolding clamped
+clamp-none y e = ap (λ (t : Bool). clampedIf t y (norm y)) (unclamped y e)
+
+-- up to 1
+pub clamp-plain : (y : Complex64) → le (power binary64 (view64 y)) one ≡ true → _≡_ {A = Push} (record { by = y; clamped = false }) (pushOf (view64 y))
+clamp-plain y e = λ i. record { by = make64 (sym (clamp-none (view64 y) e) i); clamped = sym (unclamped (view64 y) e) i }
 
 -- else the root decides
 pub clamp-by : (y : Complex) (p m : Float) (t : Bool) → p ≡ power binary64 y → m ≡ rooted p → lt one m ≡ t
-    → clamped y ≡ cond t (scaled binary64 y (div binary64 one m)) y
-unfolding clamped norm
+    → _≡_ {A = Push} (record { by = make64 (clampedIf t y m); clamped = t }) (pushOf y)
+unfolding clamped clamps norm
 clamp-by y p m t e f h =
-    let n : norm y ≡ m = ap rooted (sym e) ∙ sym f in
-    ap (λ (x : Float). cond (lt one x) (scaled binary64 y (div binary64 one x)) y) n ∙ ap (λ (s : Bool). cond s (scaled binary64 y (div binary64 one m)) y) h
+    let n : m ≡ norm y = f ∙ ap rooted e in
+    let acts : t ≡ clamps y = sym h ∙ ap (lt one) n in
+    λ i. record { by = make64 (clampedIf (acts i) y (n i)); clamped = acts i }

@@ -24,7 +24,7 @@ use Rattle.ieee.specs.laws.LowerBounds.{value-beyond, value-within, widened, sc
 use Rattle.ieee.specs.laws.RootNearest.{rescale}
 use Rattle.complex.specs.Complex.{Complex, power, norm, scaled}
 use Rattle.rules.specs.Constants.{one}
-use Rattle.rules.specs.Dc.{clamped}
+use Rattle.rules.specs.Dc.{clamps, clamped}
 use Rattle.dc_bounds.specs.Undone.{givenMost}
 
 -- ---- the power of a sample is one rounding of the exact one
@@ -232,7 +232,7 @@ part-of p true a b = refl
 part-of p false a b = refl
 
 pub clamped-within : (y : Complex) → Part (y .re) → Part (y .im) → Clamped y
-unfolding clamped scaled
+unfolding clamps clamped scaled
 clamped-within y p q =
     let n = normed y p q in
     let m = norm y in

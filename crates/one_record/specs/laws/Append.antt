@@ -24,11 +24,12 @@ use Rattle.impulse_slice.specs.Noted.{stateAfter, handed, told, marksFor, Rings
 use Rattle.impulse_slice.specs.laws.NotedRings.{noted-repairs, noted-long}
 use Rattle.impulse_slice.specs.laws.StageLaws.{setting-after}
 use Rattle.dc.specs.declared.DcBlocker.{DcBlocker}
-use Rattle.dc.specs.Blocker.{levelOf, blockerOf}
-use Rattle.dc.specs.laws.Cutting.{level-append, blocked-append}
+use Rattle.dc.specs.declared.Blocked.{Blocked}
+use Rattle.dc.specs.Blocker.{levelOf, blockerOf, blockerAfter, afterSlice}
+use Rattle.dc.specs.laws.Cutting.{level-append, blocked-append, clamped-append}
 use Rattle.iq.specs.View.{settledOf}
 use Rattle.stage_mode.specs.View.{modeOf}
-use Rattle.chain.specs.Stages.{settingIn, Machine, notesIn, impulseAfter, impulseOut, impulseTold, blockerAfterBy, blockedBy, handsOn, notesAfter, loggedAfter}
+use Rattle.chain.specs.Stages.{settingIn, Machine, notesIn, impulseAfter, impulseOut, impulseTold, dcAfter, blockedBy, handsOn, notesAfter, loggedAfter}
 use Rattle.chain.specs.Stages.{countsAfter, machineAfter, process}
 use Rattle.chain.specs.laws.Processing.{out-most}
 use Rattle.one_record.specs.Rings.{dcMarks, iqMarks, markIf, ringAfter}
@@ -63,12 +64,20 @@ told-by false s m xs ys = refl
 
 -- ---- the DC stage
 
-blocker-append : (d : Mode) (b : DcBlocker) (xs ys : List ℕ) → blockerAfterBy d b (xs ++ ys) ≡ blockerAfterBy d (blockerAfterBy d b xs) ys
-blocker-append off b xs ys = refl
-blocker-append observe b xs ys = ap (blockerOf (b .a)) (level-append (b .a) (levelOf b) xs ys)
-blocker-append apply b xs ys = ap (blockerOf (b .a)) (level-append (b .a) (levelOf b) xs ys)
+-- one slice after another
+abbrev joined : Blocked → Blocked → Blocked
+joined p q = record { blocker = q .blocker; clamped = p .clamped + q .clamped }
 
-blocked-by-append : (d : Mode) (b : DcBlocker) (xs ys : List ℕ) → blockedBy d b (xs ++ ys) ≡ blockedBy d b xs ++ blockedBy d (blockerAfterBy d b xs) ys
+running-append : (b : DcBlocker) (xs ys : List ℕ) → afterSlice b (xs ++ ys) ≡ joined (afterSlice b xs) (afterSlice (blockerAfter b xs) ys)
+running-append b xs ys =
+    λ i. record { blocker = blockerOf (b .a) (level-append (b .a) (levelOf b) xs ys i); clamped = clamped-append (b .a) (levelOf b) xs ys i }
+
+dc-append : (d : Mode) (b : DcBlocker) (xs ys : List ℕ) → dcAfter d b (xs ++ ys) ≡ joined (dcAfter d b xs) (dcAfter d (dcAfter d b xs .blocker) ys)
+dc-append off b xs ys = refl
+dc-append observe b xs ys = running-append b xs ys
+dc-append apply b xs ys = running-append b xs ys
+
+blocked-by-append : (d : Mode) (b : DcBlocker) (xs ys : List ℕ) → blockedBy d b (xs ++ ys) ≡ blockedBy d b xs ++ blockedBy d (dcAfter d b xs .blocker) ys
 blocked-by-append off b xs ys = refl
 blocked-by-append observe b xs ys = refl
 blocked-by-append apply b xs ys = blocked-append (b .a) (levelOf b) xs ys
@@ -165,13 +174,14 @@ module _ (m : Machine) (xs ys : List ℕ) where
       told-by b (settingIn c) (c .suppressor) xs ys
       ∙ ap (λ (s : Setting). toldBy b (settingIn c) (c .suppressor) xs ++ toldBy b s (afterBy b (settingIn c) (c .suppressor) xs) ys) (sym setting-same)
 
-  level-same : blockerAfterBy (modeOf (m .state .settings .dc)) (m .state .blocker) (impulseOut (m .state) (xs ++ ys))
-      ≡ blockerAfterBy (modeOf (m .state .settings .dc)) (process m xs .state .blocker) (impulseOut (process m xs .state) ys)
+  dc-same : let d = modeOf (m .state .settings .dc) in
+      dcAfter d (m .state .blocker) (impulseOut (m .state) (xs ++ ys))
+      ≡ joined (dcAfter d (m .state .blocker) (impulseOut (m .state) xs)) (dcAfter d (process m xs .state .blocker) (impulseOut (process m xs .state) ys))
   unfolding process
-  level-same =
+  dc-same =
       let c = m .state in
       let d = modeOf (c .settings .dc) in
-      ap (blockerAfterBy d (c .blocker)) out-append ∙ blocker-append d (c .blocker) (impulseOut c xs) (impulseOut (process m xs .state) ys)
+      ap (dcAfter d (c .blocker)) out-append ∙ dc-append d (c .blocker) (impulseOut c xs) (impulseOut (process m xs .state) ys)
 
   -- what is released
   pub hands-append : handsOn (m .state) (xs ++ ys) ≡ handsOn (m .state) xs ++ handsOn (process m xs .state) ys
@@ -184,7 +194,7 @@ module _ (m : Machine) (xs ys : List ℕ) where
       let vs = impulseOut (process m xs .state) ys in
       ap (λ (l : List ℕ). map f (blockedBy d (c .blocker) l)) out-append
       ∙ ap (map f) (blocked-by-append d (c .blocker) us vs)
-      ∙ map-append f (blockedBy d (c .blocker) us) (blockedBy d (blockerAfterBy d (c .blocker) us) vs)
+      ∙ map-append f (blockedBy d (c .blocker) us) (blockedBy d (dcAfter d (c .blocker) us .blocker) vs)
 
   out-length : length (impulseOut (m .state) (xs ++ ys)) ≡ length (impulseOut (m .state) xs) + length (impulseOut (process m xs .state) ys)
   out-length = ap length out-append ∙ length-append (impulseOut (m .state) xs) (impulseOut (process m xs .state) ys)
@@ -270,15 +280,20 @@ module _ (m : Machine) (xs ys : List ℕ) where
     process-append =
         let c = m .state in
         let n = length-append xs ys in
+        let next = process m xs .state in
+        let d = modeOf (c .settings .dc) in
         let a = out-most c xs in
         let o = out-length in
+        let k = ap (λ (b : Blocked). b .clamped) dc-same in
         let q : (c .counts .seen + length (xs ++ ys) ≡ c .counts .seen + length xs + length ys)
         × (c .counts .released + length (impulseOut c (xs ++ ys))
         ≡ c .counts .released + length (impulseOut c xs) + length (impulseOut (process m xs .state) ys))
         × (c .counts .held + length (xs ++ ys) - length (impulseOut c (xs ++ ys))
         ≡ c .counts .held + length xs - length (impulseOut c xs) + length ys - length (impulseOut (process m xs .state) ys))
-        = (omega arith, omega arith, omega arith) in
-        let next = process m xs .state in
-        let counts : countsAfter c (length (xs ++ ys)) (length (impulseOut c (xs ++ ys))) ≡ countsAfter next (length ys) (length (impulseOut next ys))
-        = λ i. record { seen = q .0 i; released = q .1 i; held = q .2 i } in
-        λ i. machineAfter c (counts i) (suppressor-append i) (level-same i) (logged-same i) (repairs-same i) (long-same i)
+        × (c .counts .clamped + dcAfter d (c .blocker) (impulseOut c (xs ++ ys)) .clamped
+        ≡ c .counts .clamped + dcAfter d (c .blocker) (impulseOut c xs) .clamped + dcAfter d (next .blocker) (impulseOut next ys) .clamped)
+        = (omega arith, omega arith, omega arith, omega arith) in
+        let counts : countsAfter c (length (xs ++ ys)) (length (impulseOut c (xs ++ ys))) (dcAfter d (c .blocker) (impulseOut c (xs ++ ys)) .clamped)
+        ≡ countsAfter next (length ys) (length (impulseOut next ys)) (dcAfter d (next .blocker) (impulseOut next ys) .clamped)
+        = λ i. record { seen = q .0 i; released = q .1 i; held = q .2 i; clamped = q .3 i } in
+        λ i. machineAfter c (counts i) (suppressor-append i) (dc-same i .blocker) (logged-same i) (repairs-same i) (long-same i)

@@ -7,13 +7,13 @@ use native.Mathlib.Omega.{arith}
 use lib.Dec.{lit<, lit≤}
 use lib.ListN.{length, replicate}
 use Rattle.rules.specs.Impulse.{Offered, blockLength, Event, uncertain, kept, mended}
-use Rattle.rules.specs.Dc.{corner, firstLevel, levelAfter, blockedAll}
+use Rattle.rules.specs.Dc.{corner, firstLevel, levelAfter, blockedAll, clampedSteps}
 use Rattle.rules.specs.Iq.{Settled, Off, Observing, Withheld, Correcting, correctedBy}
 use Rattle.rules.specs.Mode.{Mode, off, observe, apply, isApply, runs}
 use Rattle.rules.specs.Log as rules
 use Rattle.rules.specs.Log.{Stage, impulse, dc, iq, Mark, Repaired, Flagged, Corrected, Uncertain, ringNumber, Span, spanOf, mark, noMarks, marked, marksOf}
 use Rattle.rules.specs.Log.{repaired, repairsOf, longRuns, repairWidth, storeWidth}
-use Rattle.rules.specs.Chain.{settingOf, impulseEvents, afterImpulse, afterDc, settledBy, released, ringOf, repairRing, longRunsOf, evidence}
+use Rattle.rules.specs.Chain.{settingOf, impulseEvents, afterImpulse, afterDc, settledBy, released, clampedOf, ringOf, repairRing, longRunsOf, evidence}
 use Rattle.log.specs.View.{freshLog, marksAt}
 use Rattle.log.specs.laws.LogLaws.{fresh-marks}
 use Rattle.impulse.specs.declared.ImpulseSuppressor.{ImpulseSuppressor}
@@ -30,7 +30,7 @@ use Rattle.chain_config.specs.declared.ConditioningConfig.{ConditioningConfig}
 use Rattle.chain_config.specs.Config.{configOf}
 use Rattle.chain_make.specs.Making.{freshState, freshSettings}
 use Rattle.chain_make.specs.laws.MakingLaws.{settled-again}
-use Rattle.chain.specs.Stages.{notesIn, impulseAfter, impulseOut, impulseTold, blockerAfterBy, blockedBy, handsOn, notesAfter, releasedSpan, loggedAfter}
+use Rattle.chain.specs.Stages.{notesIn, impulseAfter, impulseOut, impulseTold, dcAfter, blockedBy, handsOn, notesAfter, releasedSpan, loggedAfter}
 use Rattle.chain.specs.Stages.{process}
 use Rattle.rules.specs.Monitor.{Hop, suspectedSpans}
 use Rattle.rules.specs.Chain as chain
@@ -86,14 +86,25 @@ module _ (g : ConditioningConfig) (blocks : 0 < blockLength (g .fs)) (xs : List 
   level = blockerOf (corner (g .fs)) (levelAfter (corner (g .fs)) firstLevel (afterImpulse (configOf g) xs))
 
   blocker-by : (d : Mode)
-      → blockerAfterBy d (blockerOf (corner (g .fs)) firstLevel) (afterImpulse (configOf g) xs) ≡ cond (runs d) level (blockerOf (corner (g .fs)) firstLevel)
+      → dcAfter d (blockerOf (corner (g .fs)) firstLevel) (afterImpulse (configOf g) xs) .blocker ≡ cond (runs d) level (blockerOf (corner (g .fs)) firstLevel)
   blocker-by off = refl
   blocker-by observe = refl
   blocker-by apply = refl
 
-  pub dc-state : blockerAfterBy (modeOf (g .dc)) (blockerOf (corner (g .fs)) firstLevel) (impulseOut (freshState g) xs)
+  pub dc-state : dcAfter (modeOf (g .dc)) (blockerOf (corner (g .fs)) firstLevel) (impulseOut (freshState g) xs) .blocker
       ≡ cond (runs (modeOf (g .dc))) level (blockerOf (corner (g .fs)) firstLevel)
-  dc-state = ap (blockerAfterBy (modeOf (g .dc)) (blockerOf (corner (g .fs)) firstLevel)) impulse-out ∙ blocker-by (modeOf (g .dc))
+  dc-state = ap (λ (l : List ℕ). dcAfter (modeOf (g .dc)) (blockerOf (corner (g .fs)) firstLevel) l .blocker) impulse-out ∙ blocker-by (modeOf (g .dc))
+
+  clamped-by : (d : Mode)
+      → dcAfter d (blockerOf (corner (g .fs)) firstLevel) (afterImpulse (configOf g) xs) .clamped
+      ≡ cond (runs d) (clampedSteps (corner (g .fs)) firstLevel (afterImpulse (configOf g) xs)) 0
+  clamped-by off = refl
+  clamped-by observe = refl
+  clamped-by apply = refl
+
+  pub dc-clamped : dcAfter (modeOf (g .dc)) (blockerOf (corner (g .fs)) firstLevel) (impulseOut (freshState g) xs) .clamped ≡ clampedOf (configOf g) xs
+  unfolding clampedOf
+  dc-clamped = ap (λ (l : List ℕ). dcAfter (modeOf (g .dc)) (blockerOf (corner (g .fs)) firstLevel) l .clamped) impulse-out ∙ clamped-by (modeOf (g .dc))
 
   blocked-is : (d : Mode)
       → blockedBy d (blockerOf (corner (g .fs)) firstLevel) (afterImpulse (configOf g) xs)

@@ -10,7 +10,7 @@ use lib.Ieee.{Float}
 use Rattle.rules.specs.Constants.{zeroF}
 use Rattle.rules.specs.Iq.{correctedBy}
 use Rattle.rules.specs.Mode.{Mode, off, observe, apply}
-use Rattle.rules.specs.Dc.{levelAfter, blockedAll}
+use Rattle.rules.specs.Dc.{levelAfter, blockedAll, clampedSteps}
 use Rattle.rules.specs.Log as rules
 use Rattle.rules.specs.Log.{Span, mark, spanOf, marksOf}
 use Rattle.rules.specs.Monitor.{answers, openWindow, suspectedSpans}
@@ -19,6 +19,7 @@ use Rattle.log.specs.View.{marksAt}
 use Rattle.impulse_slice.specs.Noted.{noteAll, told, marksFor, Rings}
 use Rattle.impulse_slice.specs.laws.NotesLaws.{note-none}
 use Rattle.dc.specs.declared.DcBlocker.{DcBlocker}
+use Rattle.dc.specs.declared.Blocked.{Blocked}
 use Rattle.iq_monitor.specs.Hops.{lastEnd, windowState}
 use Rattle.iq_monitor.specs.laws.WordsLaws.{no-words}
 use Rattle.iq.specs.View.{settledOf}
@@ -27,7 +28,7 @@ use Rattle.chain_config.specs.declared.ConditioningConfig.{ConditioningConfig}
 use Rattle.chain_config.specs.Config.{configOf}
 use Rattle.chain_state.specs.declared.InputConditioner.{InputConditioner}
 use Rattle.chain_make.specs.Making.{freshState, Said, made, makingSaid, madeWords}
-use Rattle.chain.specs.Stages.{settingIn, Machine, machineOf, notesIn, impulseAfter, impulseOut, impulseTold, blockerAfterBy, blockedBy, handsOn, notesAfter}
+use Rattle.chain.specs.Stages.{settingIn, Machine, machineOf, notesIn, impulseAfter, impulseOut, impulseTold, dcAfter, blockedBy, handsOn, notesAfter}
 use Rattle.chain.specs.Stages.{loggedAfter, countsAfter, machineAfter, process}
 use Rattle.chain_hop.specs.Hops.{isObserving}
 use Rattle.one_record.specs.Rings.{dcMarks, iqMarks, markIf, ringAfter}
@@ -64,11 +65,11 @@ module _ (c : InputConditioner) where
       go true = refl
       go false = refl
 
-  level-none : (d : Mode) (b : DcBlocker) → blockerAfterBy d b [] ≡ b
-  unfolding levelAfter
-  level-none off b = refl
-  level-none observe b = refl
-  level-none apply b = refl
+  dc-none : (d : Mode) (b : DcBlocker) → dcAfter d b [] ≡ record { blocker = b; clamped = 0 }
+  unfolding levelAfter clampedSteps
+  dc-none off b = refl
+  dc-none observe b = refl
+  dc-none apply b = refl
 
   blocked-none : (d : Mode) (b : DcBlocker) → blockedBy d b [] ≡ []
   unfolding blockedAll
@@ -129,12 +130,15 @@ module _ (m : Machine) (r : Rings (m .state .settings .spans) (notesIn m .logged
       let c = m .state in
       let o = ap length (out-none c) in
       let n = c .counts in
+      let d = modeOf (c .settings .dc) in
+      let b = ap (dcAfter d (c .blocker)) (out-none c) ∙ dc-none c d (c .blocker) in
+      let k = ap (λ (t : Blocked). t .clamped) b in
       let same : (n .seen + 0 ≡ n .seen) × (n .released + length (impulseOut c []) ≡ n .released) × (n .held + 0 - length (impulseOut c []) ≡ n .held)
-      = (omega arith, omega arith, omega arith) in
-      let counts : countsAfter c 0 (length (impulseOut c [])) ≡ c .counts
-      = λ i. record { seen = same .0 i; released = same .1 i; held = same .2 i } in
-      let b = ap (blockerAfterBy (modeOf (c .settings .dc)) (c .blocker)) (out-none c) ∙ level-none c (modeOf (c .settings .dc)) (c .blocker) in
-      λ i. machineAfter c (counts i) (after-none c i) (b i) (logged-none i) (notes-none i .repairs) (notes-none i .longruns)
+      × (n .clamped + dcAfter d (c .blocker) (impulseOut c []) .clamped ≡ n .clamped)
+      = (omega arith, omega arith, omega arith, omega arith) in
+      let counts : countsAfter c 0 (length (impulseOut c [])) (dcAfter d (c .blocker) (impulseOut c []) .clamped) ≡ c .counts
+      = λ i. record { seen = same .0 i; released = same .1 i; held = same .2 i; clamped = same .3 i } in
+      λ i. machineAfter c (counts i) (after-none c i) (b i .blocker) (logged-none i) (notes-none i .repairs) (notes-none i .longruns)
 
 -- ---- a fresh chain
 

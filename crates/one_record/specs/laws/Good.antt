@@ -14,7 +14,7 @@ use Rattle.rules.specs.Monitor.{Hop}
 use Rattle.rules.specs.laws.TestLaws.{and-so}
 use Rattle.rules.specs.Lists.{upTo}
 use Rattle.rules.specs.laws.ListLaws.{length-upTo}
-use Rattle.rules.specs.Chain.{Config, settingOf, afterImpulse, settledBy, repairRing, longRunsOf}
+use Rattle.rules.specs.Chain.{Config, settingOf, afterImpulse, settledBy, clampedOf, repairRing, longRunsOf}
 use Rattle.log.specs.View.{Logged, bare, ringIn, marksAt}
 use Rattle.log.specs.Check.{ringFits, ringOf, countOf, logFits, endFits, endsFit}
 use Rattle.log.specs.laws.CheckLaws.{all-of}
@@ -35,11 +35,11 @@ use Rattle.chain.specs.Stages.{impulseOut, process}
 use Rattle.one_record.specs.laws.Append.{setting-same}
 use Rattle.one_record.specs.laws.Hopping.{withHops, hopLogged}
 use Rattle.one_record.specs.laws.Reaching.{freshMachine, hopMarks, core, chainAt, Reached}
-use Rattle.one_record.specs.laws.ByRules.{impulse-out, impulse-state, dc-state, repairs-is, long-is, rings-are}
+use Rattle.one_record.specs.laws.ByRules.{impulse-out, impulse-state, dc-state, dc-clamped, repairs-is, long-is, rings-are}
 use Rattle.one_record.specs.laws.Made.{Fit}
 use Rattle.one_record.specs.laws.GoodImpulse.{gate-good, suppressor-good, fresh-gate-good, fresh-suppressor-good}
 use Rattle.one_record.specs.laws.GoodStages.{blocker-good, fresh-blocker-good, coefficient-good, monitor-good, words-good, counts-good, held-most}
-use Rattle.one_record.specs.laws.GoodStages.{settings-good}
+use Rattle.one_record.specs.laws.GoodStages.{clamped-most, settings-good}
 use Rattle.one_record.specs.laws.GoodRings.{ring-good}
 use Rattle.one_record.specs.laws.GoodRepairs.{repairs-good}
 
@@ -141,6 +141,10 @@ module _ (g : ConditioningConfig) (f : Fit g) (xs : List ℕ) (hs : List Hop) (r
   unfolding chainAt withHops core process freshState
   held-is = let o = out-is in let l = held-less in omega arith
 
+  pub clamped-count : chainAt g xs hs .machine .state .counts .clamped ≡ clampedOf (configOf g) xs
+  unfolding chainAt withHops core process freshState freshSettings
+  clamped-count = let e = dc-clamped g (f .blocks) xs (r .usable) in omega arith
+
   -- ---- the groups of tests
 
   settings-fit : settingsFit (chainAt g xs hs .machine .state .settings) (chainAt g xs hs .machine .state .suppressor .gate .settings .blocklen) ≡ true
@@ -151,8 +155,8 @@ module _ (g : ConditioningConfig) (f : Fit g) (xs : List ℕ) (hs : List Hop) (r
 
   counts-fit : let c = chainAt g xs hs .machine .state in countsFit (applies c) (c .counts) ≡ true
   counts-fit =
-      (λ i. countsFit (applies-is i) (record { seen = seen-is i; released = released-count i; held = held-is i }))
-      ∙ counts-good (isApply mode) (length xs) (let l = r .few in omega arith)
+      (λ i. countsFit (applies-is i) (record { seen = seen-is i; released = released-count i; held = held-is i; clamped = clamped-count i }))
+      ∙ counts-good (isApply mode) (length xs) (clampedOf (configOf g) xs) (clamped-most (configOf g) xs) (let l = r .few in omega arith)
 
   gate-by : (b : Bool) → gateFits (cond b (stateOf setting xs) (fresh setting) .gate) ≡ true
   gate-by true = gate-good (blockLength (g .fs)) (isApply mode) xs (r .usable) (r .few)

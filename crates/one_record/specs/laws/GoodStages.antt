@@ -17,15 +17,16 @@ use Rattle.rules.specs.laws.ListLaws.{length-upTo}
 use Rattle.rules.specs.Guard.{magnitude, usable, Usable}
 use Rattle.rules.specs.laws.SortLaws.{all-as, all-append, all-getD}
 use Rattle.rules.specs.Impulse.{Setting, lookahead, blockLength, flagged, judged, start, value, handedOn}
-use Rattle.rules.specs.Dc.{Level, firstLevel, corner, levelAfter}
+use Rattle.rules.specs.Dc.{Level, firstLevel, corner, levelAfter, clampedSteps}
 use Rattle.rules.specs.Iq.{Calibrated, none, with, Correcting, Withheld, ranged, coefficient, accepted, correctable, settled}
 use Rattle.rules.specs.Mode.{Mode, off, observe, apply, runs}
-use Rattle.rules.specs.Chain.{Config, settingOf, afterImpulse, settledBy}
+use Rattle.rules.specs.Chain.{Config, settingOf, afterImpulse, clampedOf, settledBy}
 use Rattle.rules.specs.Monitor.{Hop, windowStart, windowLength, openWindow}
 use Rattle.amplitude_limit.specs.Limit.{limited}
 use Rattle.impulse.specs.laws.PartBounds.{usable-within, within-more, mended-within}
 use Rattle.impulse.specs.laws.StateBounds.{value-keeps}
 use Rattle.dc.specs.Blocker.{blockerOf}
+use Rattle.dc.specs.laws.Cutting.{clamped-few}
 use Rattle.dc_bounds.specs.Undone.{givenMost, Given}
 use Rattle.dc_bounds.specs.laws.LevelBounds.{level-bounded}
 use Rattle.iq_monitor.specs.Words.{wordsFit}
@@ -118,6 +119,16 @@ zero-limited = (refl, refl)
 pub fresh-blocker-good : (fs : Float) → blockerFits (blockerOf (corner fs) firstLevel) ≡ true
 fresh-blocker-good fs = level-good (corner fs) firstLevel (lit≤ tt) (zero-limited .0) (zero-limited .1)
 
+-- ---- how often its limit acted
+
+pub clamped-most : (c : Config) (xs : List ℕ) → clampedOf c xs ≤ length xs
+unfolding clampedOf
+clamped-most c xs = go (runs (c .dcMode))
+  where
+    go : (b : Bool) → cond b (clampedSteps (corner (c .fs)) firstLevel (afterImpulse c xs)) 0 ≤ length xs
+    go true = omega (arith, clamped-few (corner (c .fs)) firstLevel (afterImpulse c xs), after-most c xs)
+    go false = omega arith
+
 -- ---- the coefficient
 
 settled-good : (m : Mode) (k : Calibrated) (centre : Float) → coefficientFits (settled m k centre) ≡ true
@@ -154,15 +165,17 @@ pub held-most : (a : Bool) (n : ℕ) → heldBy a n ≤ n
 held-most true n = omega arith
 held-most false n = omega arith
 
-pub counts-good : (a : Bool) (n : ℕ) → n ≤ 2 ^ 52 → countsFit a (record { seen = n; released = n - heldBy a n; held = heldBy a n }) ≡ true
+pub counts-good : (a : Bool) (n k : ℕ) → k ≤ n → n ≤ 2 ^ 52
+    → countsFit a (record { seen = n; released = n - heldBy a n; held = heldBy a n; clamped = k }) ≡ true
 unfolding countsFit
-counts-good a n h =
+counts-good a n k l h =
     let m = held-most a n in
     let seen : counter n ≡ true = le-leb n (2 ^ 52) h in
     let released : counter (n - heldBy a n) ≡ true = le-leb (n - heldBy a n) (2 ^ 52) (few n (heldBy a n) h) in
+    let clamped : counter k ≡ true = le-leb k (2 ^ 52) (omega arith) in
     let held : eqb (heldBy a n) (heldBy a n) ≡ true = eq-eqb (heldBy a n) (heldBy a n) refl in
     let total : eqb (n - heldBy a n + heldBy a n) n ≡ true = eq-eqb (n - heldBy a n + heldBy a n) n (back n (heldBy a n) m) in
-    λ i. seen i && released i && held i && total i
+    λ i. seen i && released i && clamped i && held i && total i
   where
     few : (n k : ℕ) → n ≤ 2 ^ 52 → n - k ≤ 2 ^ 52
     few n k h = omega arith

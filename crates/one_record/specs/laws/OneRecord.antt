@@ -60,8 +60,8 @@ use Rattle.one_record.specs.laws.Reaching.{end-next, monitor-end}
 use Rattle.one_record.specs.laws.Merging.{Ends, Hops, Brings, merging}
 use Rattle.one_record.specs.laws.ByRules.{released-is, rings-are}
 use Rattle.one_record.specs.laws.Made.{Fit, made-fit}
-use Rattle.one_record.specs.laws.Good.{seen-is, released-count, held-is, repair-ring, long-runs, blocker-is, settled-is, state-good, spans-good}
-use Rattle.one_record.specs.laws.Good.{words-fit}
+use Rattle.one_record.specs.laws.Good.{seen-is, released-count, held-is, clamped-count, repair-ring, long-runs, blocker-is, settled-is, state-good}
+use Rattle.one_record.specs.laws.Good.{spans-good, words-fit}
 use Rattle.one_record.specs.laws.GoodStages.{held-most}
 use Rattle.one_record.specs.laws.Fresh.{fresh-is, made-is}
 
@@ -174,6 +174,7 @@ module _ (g : ConditioningConfig) (f : Fit g) (xs : List ℕ) (hs : List Hop) (r
         seen = seen-is g f xs hs r;
         count = count-is;
         held = held-is g f xs hs r;
+        clamped = clamped-count g f xs hs r;
         span-words = spans-long ∙ ap (λ (n : ℕ). storeWidth * n) same-spans;
         rings = rings-are g (f .blocks) xs (r .usable) (f .limits .some-spans) hs;
         repair-words = repairs-long ∙ ap (λ (n : ℕ). 6 * n) same-repairs;

@@ -9,7 +9,7 @@ use lib.Ieee.{binary64, ofBits}
 use Rattle.rules.specs.Lists.{upTo}
 use Rattle.rules.specs.Guard.{usable, guarded, unusable}
 use Rattle.rules.specs.Impulse.{standard, flagged, value}
-use Rattle.rules.specs.Dc.{corner, firstLevel, levelAfter, blockedAll, restoredAll}
+use Rattle.rules.specs.Dc.{corner, firstLevel, levelAfter, blockedAll, clampedSteps, restoredAll}
 use Rattle.rules.specs.Iq.{Calibration, coefficient, corrected, uncorrected}
 use Rattle.rules.specs.Monitor.{Hop, noReport, report, windowLength, answers, openWindow, monitorWords}
 use Rattle.rules.specs.laws.ByFlags.{look}
@@ -73,12 +73,28 @@ pub order-flag : flagged (standard 48000 true) orderInput 16 ≡ false
 unfolding floats impulseRules
 order-flag = refl
 
--- ---- DC: levels on the way, outputs, undo
+-- ---- DC: levels on the way, outputs, how often the limit acted, undo
 
 pub zero-counts : levelAfter (corner (ofBits binary64 0x40e7700000000000)) firstLevel (0x3f000000 ∷ 0x3f000000 ∷ 0x3f800000 ∷ []) .level
     ≡ record { re = ofBits binary64 0x3fe5555555555555; im = ofBits binary64 0x0 }
 unfolding floats dcRules
 zero-counts = refl
+
+pub norm-one-clamped : clampedSteps (corner (ofBits binary64 0x40e7700000000000)) firstLevel (0x0 ∷ 0x328000003f800000 ∷ []) ≡ 0
+unfolding floats dcRules
+norm-one-clamped = refl
+
+pub above-one-clamped : clampedSteps (corner (ofBits binary64 0x40e7700000000000)) firstLevel (0x0 ∷ 0x330000003f800000 ∷ []) ≡ 1
+unfolding floats dcRules
+above-one-clamped = refl
+
+pub loud-sample-clamped : clampedSteps (corner (ofBits binary64 0x40e7700000000000)) firstLevel (0x3f400000 ∷ 0x3fc00000 ∷ []) ≡ 0
+unfolding floats dcRules
+loud-sample-clamped = refl
+
+pub loud-difference-clamped : clampedSteps (corner (ofBits binary64 0x40e7700000000000)) firstLevel (0x3f400000 ∷ 0xbf400000 ∷ []) ≡ 1
+unfolding floats dcRules
+loud-difference-clamped = refl
 
 abbrev slowInput : List ℕ
 slowInput = 0x8000000000000000 ∷ 0xbde000003e9aaaab ∷ 0x3da00000be2aaaab ∷ 0x3ec800003baaaaab ∷ 0x3f0c0000be0aaaab ∷ 0x0 ∷ 0x42340000c2700000 ∷ 0x25bb1a2bc ∷ []
@@ -113,6 +129,10 @@ pub slow-blocked : blockedAll (corner (ofBits binary64 0x3ff0000000000000)) firs
     0xc166bf175bb1a2bc ∷ []
 unfolding floats dcRules
 slow-blocked = refl
+
+pub slow-clamped : clampedSteps (corner (ofBits binary64 0x3ff0000000000000)) firstLevel slowInput ≡ 6
+unfolding floats dcRules
+slow-clamped = refl
 
 pub slow-restored : restoredAll (corner (ofBits binary64 0x3ff0000000000000)) firstLevel
     (0x8000000000000000 ∷ 0xbde000003e9aaaab ∷ 0x4060e957c11a82a4 ∷ 0xc0dd548d41a04b80 ∷ 0x405f66ebc11ccd93 ∷ 0xc0f31d53419f7076 ∷ 0x42425f3cc28ad9d4 ∷
@@ -156,6 +176,10 @@ pub usual-blocked : blockedAll (corner (ofBits binary64 0x40e5889000000000)) fir
     0xbe8fddfe5bb1a2bc ∷ []
 unfolding floats dcRules
 usual-blocked = refl
+
+pub usual-clamped : clampedSteps (corner (ofBits binary64 0x40e5889000000000)) firstLevel usualInput ≡ 2
+unfolding floats dcRules
+usual-clamped = refl
 
 pub usual-restored : restoredAll (corner (ofBits binary64 0x40e5889000000000)) firstLevel
     (0x8000000000000000 ∷ 0xbde000003e9aaaab ∷ 0x3e400000bef00000 ∷ 0x3ed00000bd800001 ∷ 0x3edaaaabbe3aaaac ∷ 0xbe680000baaaaac0 ∷ 0x42334666c2700111 ∷

@@ -10,7 +10,7 @@ use Rattle.rules.specs.Sort.{insert, sort}
 use Rattle.rules.specs.Guard.{magnitude, usablePart, usable, firstUnusableFrom, guarded, unusable}
 use Rattle.rules.specs.Impulse.{powerOf, reference, standsOut, flagged, before, pauses, paused, touches, mends, between, mendedAt, value, eventsAt}
 use Rattle.rules.specs.Impulse.{events, happened, handedOn}
-use Rattle.rules.specs.Dc.{corner, blocked, weight, clamped, advanced, stepped, levelAfter, blockedAll, restored, restoredAll}
+use Rattle.rules.specs.Dc.{corner, blocked, weight, clamps, clamped, advanced, stepped, levelAfter, blockedAll, clampedSteps, restored, restoredAll}
 use Rattle.rules.specs.Iq.{sineSeries, sine, cosineSeries, cosine, turned, coefficient, accepted, centresAgree, settled, corrected, uncorrected}
 use Rattle.rules.specs.Log.{write, roomed, append, joins, lengthened, mark, marked, repairWords, repaired, marksOf, repairsOf, longRuns}
 use Rattle.rules.specs.Monitor.{channelPower, channelProduct, total, powerSum, realSum, imagSum, strongest, floorOf, coherenceOf, suspicious, reported}
@@ -31,7 +31,7 @@ unfolding upTo count insert sort powerOf reference standsOut flagged before paus
 impulseRules = tt
 
 unfoldable pub dcRules : Unit {0}
-unfolding corner blocked weight clamped advanced stepped levelAfter blockedAll restored restoredAll
+unfolding corner blocked weight clamps clamped advanced stepped levelAfter blockedAll clampedSteps restored restoredAll
 dcRules = tt
 
 unfoldable pub iqRules : Unit {0}

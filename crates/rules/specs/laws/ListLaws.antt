@@ -11,7 +11,7 @@ use borrow.Author.Tests.{ne-eqb}
 use mir.Val.{boolByte}
 use lib.ListN.{length, getD, drop, length-append, drop-of-length-le, List·getD-append}
 use lib.Seq.{getD-at, drop-cons}
-use Rattle.rules.specs.Lists.{upTo, allOf}
+use Rattle.rules.specs.Lists.{upTo, indicator, allOf}
 
 pub length-upTo : {A : Type 0} (f : ℕ → A) (n : ℕ) → length (upTo f n) ≡ n
 unfolding upTo
@@ -35,6 +35,10 @@ pub upTo-same : {A : Type 0} (f g : ℕ → A) (n : ℕ) → ((i : ℕ) → i < 
 unfolding upTo
 upTo-same f g zero h = refl
 upTo-same f g (suc n) h = λ k. upTo-same f g n (λ i l. h i (omega arith)) k ++ (h n (omega arith) k ∷ [])
+
+pub indicator-few : (b : Bool) → indicator b ≤ 1
+indicator-few true = omega arith
+indicator-few false = omega arith
 
 -- a read within the list does not turn on what stands for a place past its end
 pub read-any : {A : Type 0} (l : List A) (k : ℕ) (d e : A) → k < length l → getD l k d ≡ getD l k e
@@ -79,6 +83,9 @@ none-next p d l k others here h e i = ap (λ (b : Bool). b && allOf p (drop (k +
     one true = ap (λ (m : ℕ). eqb m 0) (let z : others + 0 ≡ others = omega arith in z)
     one false = ne-eqb (others + 1) 0 (λ q. omega arith)
 
+pub byte-is : (b : Bool) → boolByte b ≡ indicator b
+byte-is true = refl
+byte-is false = refl
+
 pub bit : (b : Bool) → boolByte b ≤ 1
-bit true = omega arith
-bit false = omega arith
+bit b = omega (arith, byte-is b, indicator-few b)

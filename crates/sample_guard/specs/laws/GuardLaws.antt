@@ -17,6 +17,7 @@ use Rattle.complex.specs.Complex.{sampleOf}
 use Rattle.rules.specs.Constants.{usableLimit}
 use Rattle.rules.specs.Guard.{magnitude, usablePart, usable, firstUnusableFrom, guarded, unusable}
 use Rattle.rules.specs.Lists.{at, indicator, allOf}
+use Rattle.rules.specs.laws.ListLaws.{indicator-few}
 use Rattle.amplitude_limit.specs.Limit.{under}
 use Rattle.sample_guard.specs.declared.Found.the-variants.{At, Nothing}
 use Rattle.sample_guard.specs.Found.{found, placeIn, guardedWord}
@@ -116,10 +117,6 @@ guarded-here xs k h = ap (map (λ w. cond (usable w) w 0)) (drop-cons xs k 0 h)
 unusable-here : (xs : List ℕ) (k : ℕ) → k < length xs → unusable (drop k xs) ≡ indicator (not (usable (at xs k))) + unusable (drop (suc k) xs)
 unfolding unusable
 unusable-here xs k h = ap unusable (drop-cons xs k 0 h)
-
-indicator-few : (b : Bool) → indicator b ≤ 1
-indicator-few true = omega arith
-indicator-few false = omega arith
 
 pub guarding-next : (xs₀ xs : List ℕ) (n k r : ℕ) → Guarding xs₀ xs n k → k < length xs → r ≡ indicator (not (usable (at xs k)))
     → Guarding xs₀ (set xs k (guardedWord (at xs k))) (n + r) (k + 1)

@@ -9,7 +9,7 @@ use borrow.Author.Needs.{needs}
 use Rattle.chain_words.proofs.Filling.{behind}
 use Rattle.chain_words.specs.Words as words
 use Rattle.chain_log.specs.Reading.{logOf}
-use Rattle.vatgorge.specs.Log.{numberWords, logWords}
+use Rattle.vatgorge.specs.Log.{numberCount, wordCount, numberWords, logWords}
 use Rattle.vatgorge.proofs.vg_log.Statement.{statement}
 use Rattle.vatgorge.proofs.vg_log.Tie as tie
 
@@ -45,9 +45,9 @@ returns c =
     let rest = c .put-log in
     let end = rest .last .1 .0 in
     let log = words.logWords (l .notes .log) in
-    let front = behind 0 14 [] (numbers .result) (numberWords l) out (put .last .1 .0) refl (numbers .ensures) refl (put .ensures .0) in
-    let long : length end ≤ 62 = omega (arith, rest .ensures .1, put .ensures .1, reading .before .sized .ensures) in
-    let all : end ≡ logWords l = sym (take-all 62 end long) ∙ rest .ensures .0 ∙ ap (λ (x : List ℕ). x ++ log) front in
+    let front = behind 0 numberCount [] (numbers .result) (numberWords l) out (put .last .1 .0) refl (numbers .ensures) refl (put .ensures .0) in
+    let long : length end ≤ wordCount = omega (arith, rest .ensures .1, put .ensures .1, reading .before .sized .ensures) in
+    let all : end ≡ logWords l = sym (take-all wordCount end long) ∙ rest .ensures .0 ∙ ap (λ (x : List ℕ). x ++ log) front in
     all ∙ ap logWords (logging .log .ensures .0 ∙ ap logOf (reading .read-state .ensures))
 
 pub vg-log-spec : {M : Type 1} → statement M

@@ -1,17 +1,17 @@
--- `dc::DcBlocker::advance` is `advanced`. Assumes nothing.
+-- `dc::DcBlocker::advance` is `steppedBy`. Assumes nothing.
 use Rattle.dc.specs.laws.Steps.{rested-by, moved-by}
 use borrow.Author.Needs.{needs}
 use Rattle.dc.proofs.DcBlocker.advance.Statement.{statement}
 use Rattle.dc.proofs.DcBlocker.advance.Tie as tie
+
+clamp-requires : tie.Need-clamp-requires
+clamp-requires c κs = search needs
 
 rests-requires : tie.Need-rests-requires
 rests-requires c κs = search needs
 
 returns : tie.Need-returns
 returns c = search (needs, rested-by)
-
-clamped-requires : tie.Need-clamped-requires
-clamped-requires c κs = search needs
 
 moved-requires : tie.Need-moved-requires
 moved-requires c κs = search needs
@@ -21,4 +21,4 @@ returns-2 c = search (needs, moved-by)
 
 pub advance-spec : {M : Type 1} → statement M
 advance-spec =
-    tie.close (tie.spec rests-requires returns clamped-requires moved-requires returns-2)
+    tie.close (tie.spec clamp-requires rests-requires returns moved-requires returns-2)

@@ -1,4 +1,4 @@
--- `dc::DcBlocker::observe_sample` is the blocker of `processed`. Assumes nothing.
+-- `dc::DcBlocker::observe_sample` is `observed`. Assumes nothing.
 use Rattle.dc.specs.laws.Steps.{plainly, observed-by}
 use borrow.Author.Needs.{needs}
 use Rattle.dc.proofs.DcBlocker.observe_sample.Statement.{statement}
