@@ -99,7 +99,7 @@ static void stages(const struct library *l, const struct row *r) {
         taken(l->condition(&state, samples + at, end - at, spans, sizeof spans / 8, repairs, sizeof repairs / 8, &out));
         at += out.ready;
     }
-    /* an observing stage writes nothing else */
+    /* the level too, which is all that an observing stage works out */
     struct vg_log_out log;
     l->log(&state, &log);
     samples[MILLION - 2] = bits(log.dc_re);

@@ -177,7 +177,7 @@ fn near_ratio(xs: &[Sample]) -> u64 {
 /// The sizes of two parts whose norm is 1 or next to it: a power just above 1 has the norm 1.
 fn full_scale(rng: &mut Rng) -> [f64; 2] {
     let whole = f64::from(rng.pick(&[1.0, 1f32.next_up(), 1f32.next_down()]));
-    let small = f64::from(rng.pick(&[0.0, 2.0, 3.0, 4.0])) * 2f64.powi(-27);
+    let small = rng.pick(&[0.0, 2.0, 3.0, 4.0]) * 2f64.powi(-27);
     let t = 1.6 * rng.unit();
     rng.pick(&[[whole, small], [small, whole], [t.cos(), t.sin()]])
 }
