@@ -1,19 +1,13 @@
 -- Document 01's number 5, as far as it speaks of a state: its causes in groups, each as a test that a fit state passes. Definitions only.
 use mathlib.Core.Bool.{Bool, true, cond, _&&_}
-use mathlib.Core.List.{List}
 use Prim.Native.Nat.{ℕ, _+_, min}
 use lib.Dec.{ltb, leb, eqb}
-use lib.ListN.{getD, take}
-use lib.Ieee.{Float, binary64, le, lt, toBits}
-use Rattle.ieee.specs.Plain.{signClear}
-use Rattle.rules.specs.Constants.{zeroF, powerLimit, counterLimit}
-use Rattle.rules.specs.Sort.{sort}
-use Rattle.rules.specs.Guard.{magnitude}
+use Rattle.rules.specs.Constants.{counterLimit}
 use Rattle.rules.specs.Refusals.{withinLimit}
 use Rattle.rules.specs.Iq.{Settled, Off, Observing, Withheld, Correcting, accepted}
-use Rattle.rules.specs.Impulse.{windowSize, lookaheadSize, nextJudged, blockLength}
+use Rattle.rules.specs.Impulse.{lookaheadSize, nextJudged, blockLength}
 use Rattle.amplitude_limit.specs.Limit.{limited}
-use Rattle.log.specs.Check.{allTo, ringFits, logFits}
+use Rattle.log.specs.Check.{ringFits, logFits}
 use Rattle.impulse.specs.declared.Run.{Run}
 use Rattle.impulse.specs.declared.Open.{Open}
 use Rattle.impulse.specs.declared.Open.the-variants.{Running, Closed}
@@ -21,6 +15,7 @@ use Rattle.impulse.specs.declared.Left.{Left}
 use Rattle.impulse.specs.declared.Left.the-variants.{Neighbour, Missing}
 use Rattle.impulse.specs.declared.Gate.{Gate}
 use Rattle.impulse.specs.declared.ImpulseSuppressor.{ImpulseSuppressor}
+use Rattle.impulse_arrays.specs.Fits.{windowHeld, arraysFit, sortedFits}
 use Rattle.dc.specs.declared.DcBlocker.{DcBlocker}
 use Rattle.iq.specs.View.{settledOf}
 use Rattle.iq_monitor.specs.declared.Begun.{Begun}
@@ -77,33 +72,6 @@ gateFits g =
     counter (g .received) && counter (g .block .number) && counter (g .block .flagged)
     && runFits (g .mending .run) (nextJudged (g .received))
     && leftFits (g .mending .left)
-
--- not: 'a window power not within 1e36; a window .. power with its sign bit set'
-unfoldable pub powerFits : Float → Bool
-powerFits p = signClear p && le (magnitude p) powerLimit
-
--- 'pending .. min(21, received), window .. min(33, received)': both hold the newest of so many as the stage has received, none where it never ran.
--- The arrays are circular by sample number, so these stand in their first places. No other place is tested.
-abbrev pub windowHeld : ℕ → ℕ
-windowHeld received = min windowSize received
-
-abbrev pub pendingHeld : ℕ → ℕ
-pendingHeld received = min lookaheadSize received
-
--- the first n powers of a window
-abbrev pub powersFit : ℕ → List Float → Bool
-powersFit n window = allTo (λ k. powerFits (getD window k zeroF)) n
-
--- the first n pending samples; not: 'a .. pending .. part not within 1e18'
-abbrev pub samplesFit : ℕ → List ℕ → Bool
-samplesFit n pending = allTo (λ k. withinLimit (getD pending k 0)) n
-
-unfoldable pub arraysFit : ℕ → List Float → List ℕ → Bool
-arraysFit received window pending = powersFit (windowHeld received) window && samplesFit (pendingHeld received) pending
-
--- not: 'its sorted list not that window sorted', of n powers, bit by bit
-unfoldable pub sortedFits : ℕ → List Float → List Float → Bool
-sortedFits n window sorted = allTo (λ k. eqb (toBits binary64 (getD sorted k zeroF)) (toBits binary64 (getD (sort lt (take n window)) k zeroF))) n
 
 -- not: 'when impulse runs, pending ≠ min(21, received), window ≠ min(33, received) or its sorted list not that window sorted'. The stage's own count
 -- says what the arrays hold, so it has to be that of the samples seen.

@@ -1,6 +1,5 @@
 -- definitions
 pub mod Fits
-pub mod Occurs
 pub mod Causes
 pub mod Changed
 -- what is proved of them

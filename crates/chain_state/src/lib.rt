@@ -2,22 +2,9 @@
 
 ghost use mathlib.Core.Path.{_≡_};
 ghost use mathlib.Core.Bool.{true, false, _&&_};
-ghost use mathlib.Core.List.{_++_};
-ghost use Prim.Native.Nat.{_≤_, min};
-ghost use lib.Dec.{eqb};
-ghost use lib.ListN.{length, getD, take, drop};
-ghost use lib.Ieee.{binary64, lt, eq, toBits};
-ghost use Rattle.rules.specs.Constants.{zeroF};
-ghost use Rattle.rules.specs.Sort.{sort};
-ghost use Rattle.rules.specs.Lists.{All};
-ghost use Rattle.rules.specs.Impulse.{windowSize, lookaheadSize};
-ghost use Rattle.log.specs.Check.{allTo};
-ghost use Rattle.impulse_window.specs.Rising.{climbs, Held};
 ghost use Rattle.iq.specs.View.{settledOf};
-ghost use Rattle.chain_state.specs.Occurs.{occurs};
-ghost use Rattle.chain_state.specs.Fits.{counter, settingsFit, applies, heldBy, countsFit, endsAt, runFits, leftFits, gateFits, powerFits, powersFit};
-ghost use Rattle.chain_state.specs.Fits.{samplesFit, arraysFit, sortedFits, suppressorFits, blockerFits, coefficientFits, begunFits, monitorFits};
-ghost use Rattle.chain_state.specs.Fits.{logsFit, stagesFit, frontFits, stateFits};
+ghost use Rattle.chain_state.specs.Fits.{counter, settingsFit, applies, heldBy, countsFit, endsAt, runFits, leftFits, gateFits, suppressorFits};
+ghost use Rattle.chain_state.specs.Fits.{blockerFits, coefficientFits, begunFits, monitorFits, logsFit, stagesFit, frontFits, stateFits};
 use dc::DcBlocker;
 use impulse::Gate;
 use impulse::ImpulseSuppressor;
@@ -85,16 +72,6 @@ fn counters_fit(a: u64, b: u64, c: u64) -> bool
     c <= log::COUNTER_LIMIT
 }
 
-// How many of the newest samples a number of places holds, of so many that came.
-fn holds(places: usize, came: u64) -> usize
-    ensures { λ r. ⌜ r ≡ min places came ⌝ }
-{
-    if came < places as u64 {
-        return came as usize;
-    }
-    places
-}
-
 // How many samples are held of so many seen.
 fn held_by(applies: bool, seen: u64) -> usize
     ensures { λ r. ⌜ r ≡ heldBy applies seen ⌝ }
@@ -102,7 +79,7 @@ fn held_by(applies: bool, seen: u64) -> usize
     if !applies {
         return 0;
     }
-    holds(ImpulseSuppressor::LOOKAHEAD, seen)
+    impulse_arrays::holds(ImpulseSuppressor::LOOKAHEAD, seen)
 }
 
 fn counts_fit(applies: bool, counts: Counts) -> bool
@@ -165,209 +142,6 @@ fn gate_fits(g: Gate) -> bool
     left_fits(left)
 }
 
-fn power_fits(p: f32) -> bool
-    ensures { λ r. ⌜ r ≡ powerFits p ⌝ }
-{
-    if 0x8000_0000 <= ieee::to_bits32(p) {
-        return false;
-    }
-    ieee::widen(p) <= 1.0e36
-}
-
-// Whether the first n powers fit, with no branch between them.
-fn first_powers_fit(window: &[f32; ImpulseSuppressor::WINDOW], n: usize) -> bool
-    requires { ⌜ n ≤ windowSize ⌝ ∗ ⌜ length (now window) ≡ windowSize ⌝ }
-    ensures { λ r. ⌜ r ≡ powersFit n (now (window .entry)) ⌝ }
-{
-    let mut fit = true;
-    let mut k: usize = 0;
-    while k < n {
-        fit = fit & power_fits(window[k]);
-        k += 1;
-    }
-    fit
-}
-
-// The same: nearly always all of them fit, and a loop of a fixed length is the faster one.
-fn powers_fit(window: &[f32; ImpulseSuppressor::WINDOW], n: usize) -> bool
-    requires { ⌜ n ≤ windowSize ⌝ ∗ ⌜ length (now window) ≡ windowSize ⌝ }
-    ensures { λ r. ⌜ r ≡ powersFit n (now (window .entry)) ⌝ }
-{
-    if first_powers_fit(window, ImpulseSuppressor::WINDOW) {
-        return true;
-    }
-    first_powers_fit(window, n)
-}
-
-// Whether the first n samples are within the limit.
-fn samples_fit(pending: &[u64; ImpulseSuppressor::LOOKAHEAD], n: usize) -> bool
-    requires { ⌜ n ≤ lookaheadSize ⌝ ∗ ⌜ length (now pending) ≡ lookaheadSize ⌝ }
-    ensures { λ r. ⌜ r ≡ samplesFit n (now (pending .entry)) ⌝ }
-{
-    n <= amplitude_limit::first_beyond(pending)
-}
-
-// What the window and the pending samples hold, when so many samples have come.
-fn arrays_fit(
-    received: u64,
-    window: &[f32; ImpulseSuppressor::WINDOW],
-    pending: &[u64; ImpulseSuppressor::LOOKAHEAD],
-) -> bool
-    requires { ⌜ length (now window) ≡ windowSize ⌝ ∗ ⌜ length (now pending) ≡ lookaheadSize ⌝ }
-    ensures { λ r. ⌜ r ≡ arraysFit received (now (window .entry)) (now (pending .entry)) ⌝ }
-{
-    if !powers_fit(window, holds(ImpulseSuppressor::WINDOW, received)) {
-        return false;
-    }
-    samples_fit(pending, holds(ImpulseSuppressor::LOOKAHEAD, received))
-}
-
-// The first n powers of the window, widened, over the first of these words.
-fn copy_powers(
-    window: &[f32; ImpulseSuppressor::WINDOW],
-    n: usize,
-    wide: &mut [f64; ImpulseSuppressor::WINDOW],
-)
-    requires { ⌜ n ≤ windowSize ⌝ ∗ ⌜ length (now window) ≡ windowSize ⌝ ∗ ⌜ length (now wide) ≡ windowSize ⌝ }
-    ensures { λ _. ⌜ now (wide .exit) ≡ take n (now (window .entry)) ++ drop n (now (wide .entry)) ⌝ }
-{
-    let mut k: usize = 0;
-    while k < n {
-        wide[k] = ieee::widen(window[k]);
-        k += 1;
-    }
-}
-
-// Whether the first n powers are those, bit by bit.
-fn same_powers(
-    n: usize,
-    sorted: &[f32; ImpulseSuppressor::WINDOW],
-    wide: &[f64; ImpulseSuppressor::WINDOW],
-) -> bool
-    requires { ⌜ n ≤ windowSize ⌝ ∗ ⌜ length (now sorted) ≡ windowSize ⌝ ∗ ⌜ length (now wide) ≡ windowSize ⌝ }
-    ensures { λ r. ⌜ r ≡ allTo (λ k. eqb (toBits binary64 (getD (now (sorted .entry)) k zeroF)) (toBits binary64 (getD (now (wide .entry)) k zeroF))) n ⌝ }
-{
-    for k in 0..n {
-        let given = ieee::to_bits64(ieee::widen(sorted[k]));
-        if given != ieee::to_bits64(wide[k]) {
-            return false;
-        }
-    }
-    true
-}
-
-// By sorting the window.
-fn sorts_to(
-    n: usize,
-    window: &[f32; ImpulseSuppressor::WINDOW],
-    sorted: &[f32; ImpulseSuppressor::WINDOW],
-) -> bool
-    requires { ⌜ n ≤ windowSize ⌝ ∗ ⌜ length (now window) ≡ windowSize ⌝ ∗ ⌜ length (now sorted) ≡ windowSize ⌝ }
-    ensures { λ r. ⌜ r ≡ sortedFits n (now (window .entry)) (now (sorted .entry)) ⌝ }
-{
-    let mut wide = [0.0f64; ImpulseSuppressor::WINDOW];
-    copy_powers(window, n, &mut wide);
-    iq_median::sort_words(&mut wide[..n]);
-    same_powers(n, sorted, &wide)
-}
-
-// ---- a full window, without sorting it
-
-fn below(a: f32, b: f32) -> bool
-    ensures result { λ r. ⌜ r ≡ lt a b ⌝ }
-    ensures values { λ r. ⌜ Held a × Held b ⌝ }
-{
-    a < b
-}
-
-fn equal(a: f32, b: f32) -> bool
-    ensures result { λ r. ⌜ r ≡ eq a b ⌝ }
-    ensures values { λ r. ⌜ Held a × Held b ⌝ }
-{
-    a == b
-}
-
-// Whether the powers are above 0, and each above the one before.
-fn strictly_ascends(sorted: &[f32; ImpulseSuppressor::WINDOW]) -> bool
-    requires { ⌜ length (now sorted) ≡ windowSize ⌝ }
-    ensures result { λ r. ⌜ r ≡ climbs lt zeroF (now (sorted .entry)) ⌝ }
-    ensures values { λ r. ⌜ All Held (now (sorted .entry)) ⌝ }
-{
-    let mut rising = below(0.0, sorted[0]);
-    let mut k: usize = 0;
-    while k < ImpulseSuppressor::WINDOW - 1 {
-        rising = rising & below(sorted[k], sorted[k + 1]);
-        k += 1;
-    }
-    rising
-}
-
-fn occurs(window: &[f32; ImpulseSuppressor::WINDOW], x: f32) -> bool
-    requires { ⌜ length (now window) ≡ windowSize ⌝ }
-    ensures result { λ r. ⌜ r ≡ occurs x (now (window .entry)) ⌝ }
-    ensures values { λ r. ⌜ All Held (now (window .entry)) ⌝ }
-{
-    let mut found = false;
-    let mut k: usize = 0;
-    while k < ImpulseSuppressor::WINDOW {
-        found = found | equal(x, window[k]);
-        k += 1;
-    }
-    found
-}
-
-// Whether each power of the sorted list occurs in the window.
-fn all_occur(
-    window: &[f32; ImpulseSuppressor::WINDOW],
-    sorted: &[f32; ImpulseSuppressor::WINDOW],
-) -> bool
-    requires { ⌜ length (now window) ≡ windowSize ⌝ ∗ ⌜ length (now sorted) ≡ windowSize ⌝ }
-    ensures result { λ r. ⌜ r ≡ allTo (λ k. occurs (getD (now (sorted .entry)) k zeroF) (now (window .entry))) windowSize ⌝ }
-    ensures values { λ r. ⌜ All Held (now (window .entry)) ⌝ }
-{
-    let mut all = true;
-    let mut k: usize = 0;
-    while k < ImpulseSuppressor::WINDOW {
-        all = all & occurs(window, sorted[k]);
-        k += 1;
-    }
-    all
-}
-
-// Whether it is known without sorting that the sorted list is the window sorted: as many different
-// powers, in order, each of which occurs there.
-fn is_arranged(
-    window: &[f32; ImpulseSuppressor::WINDOW],
-    sorted: &[f32; ImpulseSuppressor::WINDOW],
-) -> bool
-    requires { ⌜ length (now window) ≡ windowSize ⌝ ∗ ⌜ length (now sorted) ≡ windowSize ⌝ }
-    ensures { λ r. ⌜ (r ≡ true → sort lt (now (window .entry)) ≡ now (sorted .entry)) ⌝ }
-{
-    if !strictly_ascends(sorted) {
-        return false;
-    }
-    all_occur(window, sorted)
-}
-
-fn sorted_fits(
-    n: usize,
-    window: &[f32; ImpulseSuppressor::WINDOW],
-    sorted: &[f32; ImpulseSuppressor::WINDOW],
-) -> bool
-    requires { ⌜ n ≤ windowSize ⌝ ∗ ⌜ length (now window) ≡ windowSize ⌝ ∗ ⌜ length (now sorted) ≡ windowSize ⌝ }
-    ensures { λ r. ⌜ r ≡ sortedFits n (now (window .entry)) (now (sorted .entry)) ⌝ }
-{
-    if n != ImpulseSuppressor::WINDOW {
-        return sorts_to(n, window, sorted);
-    }
-    if is_arranged(window, sorted) {
-        return true;
-    }
-    sorts_to(n, window, sorted)
-}
-
-// ---- the stage's state
-
 // The arrays, and where the stage runs how many samples it has received, and its sorted list.
 fn suppressor_fits(m: ImpulseSuppressor, running: bool, seen: u64) -> bool
     ensures { λ r. ⌜ r ≡ suppressorFits m running seen ⌝ }
@@ -376,7 +150,7 @@ fn suppressor_fits(m: ImpulseSuppressor, running: bool, seen: u64) -> bool
     let window = m.window;
     let sorted = m.sorted;
     let pending = m.pending;
-    if !arrays_fit(gate.received, &window, &pending) {
+    if !impulse_arrays::arrays_fit(gate.received, &window, &pending) {
         return false;
     }
     if !running {
@@ -385,8 +159,8 @@ fn suppressor_fits(m: ImpulseSuppressor, running: bool, seen: u64) -> bool
     if gate.received != seen {
         return false;
     }
-    sorted_fits(
-        holds(ImpulseSuppressor::WINDOW, gate.received),
+    impulse_arrays::sorted_fits(
+        impulse_arrays::holds(ImpulseSuppressor::WINDOW, gate.received),
         &window,
         &sorted,
     )

@@ -4,7 +4,8 @@ use mathlib.Core.Bool.{Bool, true, false, cond}
 use Prim.Native.Nat.{ℕ}
 use borrow.Author.Tests.{eq-eqb, ne-eqb, not-true, not-false}
 use Rattle.impulse.specs.declared.ImpulseSuppressor.{ImpulseSuppressor}
-use Rattle.chain_state.specs.Fits.{arraysFit, sortedFits, runningFits, suppressorFits}
+use Rattle.impulse_arrays.specs.Fits.{arraysFit, sortedFits}
+use Rattle.chain_state.specs.Fits.{runningFits, suppressorFits}
 use Rattle.chain_config.proofs.Answers.{two}
 use borrow.Author.Needs.{needs}
 use Rattle.chain_state.proofs.suppressor_fits.Statement.{statement}

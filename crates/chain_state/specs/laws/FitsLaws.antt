@@ -1,11 +1,9 @@
 -- What a state that fits keeps to. Assumes nothing.
 use mathlib.Core.Path.{_≡_, sym, ap, _∙_, subst}
 use mathlib.Core.Bool.{Bool, true, cond, _&&_}
-use mathlib.Core.List.{List}
 use Prim.Native.Nat.{ℕ, _+_, _^_, _≤_, _<_}
 use native.Mathlib.Omega.{arith}
 use lib.Dec.{ltb, eqb}
-use lib.Ieee.{Float}
 use borrow.Author.Tests.{leb-true, eqb-true}
 use Rattle.rules.specs.laws.TestLaws.{both}
 use Rattle.rules.specs.Impulse.{blockLength, nextJudged}
@@ -16,6 +14,8 @@ use Rattle.impulse.specs.declared.Open.the-variants.{Running, Closed}
 use Rattle.impulse.specs.declared.Gate.{Gate}
 use Rattle.impulse.specs.declared.ImpulseSuppressor.{ImpulseSuppressor}
 use Rattle.impulse.specs.Room.{runEnd}
+use Rattle.impulse_arrays.specs.Fits.{windowHeld, arraysFit, sortedFits}
+use Rattle.impulse_arrays.specs.laws.FitsLaws.{ArraysFit, arrays-fit}
 use Rattle.dc.specs.declared.DcBlocker.{DcBlocker}
 use Rattle.iq.specs.View.{settledOf}
 use Rattle.iq_monitor.specs.declared.ImageMonitor.{ImageMonitor}
@@ -24,9 +24,8 @@ use Rattle.chain_config.specs.laws.ConfigLaws.{Limits, setting-limits}
 use Rattle.chain_state.specs.declared.Settings.{Settings}
 use Rattle.chain_state.specs.declared.Counts.{Counts}
 use Rattle.chain_state.specs.declared.InputConditioner.{InputConditioner}
-use Rattle.chain_state.specs.Fits.{counter, settingsFit, applies, heldBy, countsFit, runFits, leftFits, gateFits, windowHeld, pendingHeld, powersFit}
-use Rattle.chain_state.specs.Fits.{samplesFit, arraysFit, sortedFits, runningFits, suppressorFits, blockerFits, coefficientFits, begunFits, monitorFits}
-use Rattle.chain_state.specs.Fits.{logsFit, stagesFit, frontFits, stateFits}
+use Rattle.chain_state.specs.Fits.{counter, settingsFit, applies, heldBy, countsFit, runFits, leftFits, gateFits, runningFits, suppressorFits}
+use Rattle.chain_state.specs.Fits.{blockerFits, coefficientFits, begunFits, monitorFits, logsFit, stagesFit, frontFits, stateFits}
 use Rattle.chain_state.specs.laws.Blocks.{block-some}
 
 pub three : (a b c : Bool) → (a && b && c) ≡ true → (a ≡ true) × (b ≡ true) × (c ≡ true)
@@ -100,16 +99,6 @@ gate-fits g e =
       run = omega arith;
       left = p .1;
     }
-
-pub record ArraysFit (received : ℕ) (window : List Float) (pending : List ℕ) : Type 0 where
-  pub powers : powersFit (windowHeld received) window ≡ true
-  pub samples : samplesFit (pendingHeld received) pending ≡ true
-
-pub arrays-fit : (received : ℕ) (window : List Float) (pending : List ℕ) → arraysFit received window pending ≡ true → ArraysFit received window pending
-unfolding arraysFit
-arrays-fit received window pending e =
-    let p = both (powersFit (windowHeld received) window) (samplesFit (pendingHeld received) pending) e in
-    record { powers = p .0; samples = p .1 }
 
 pub record RunningFits (m : ImpulseSuppressor) (seen : ℕ) : Type 0 where
   pub received : m .gate .received ≡ seen

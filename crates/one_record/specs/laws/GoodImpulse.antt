@@ -34,8 +34,8 @@ use Rattle.impulse.specs.Machine.{fresh}
 use Rattle.impulse.specs.Sound.{PowerWithin, Sound}
 use Rattle.impulse.specs.laws.StateBounds.{state-sound}
 use Rattle.impulse.specs.laws.Theorem.{stateOf}
-use Rattle.chain_state.specs.Fits.{counter, runFits, leftFits, gateFits, windowHeld, pendingHeld, powerFits, powersFit, samplesFit, arraysFit, sortedFits}
-use Rattle.chain_state.specs.Fits.{runningFits, suppressorFits}
+use Rattle.impulse_arrays.specs.Fits.{windowHeld, pendingHeld, powerFits, powersFit, samplesFit, arraysFit, sortedFits}
+use Rattle.chain_state.specs.Fits.{counter, runFits, leftFits, gateFits, runningFits, suppressorFits}
 
 -- ---- a sample and a power
 

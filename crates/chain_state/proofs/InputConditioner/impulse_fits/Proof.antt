@@ -4,7 +4,8 @@ use mathlib.Core.Bool.{Bool, true, false}
 use Prim.Native.Nat.{ℕ}
 use Rattle.log.specs.Check.{allTo}
 use Rattle.impulse.specs.declared.ImpulseSuppressor.{ImpulseSuppressor}
-use Rattle.chain_state.specs.Fits.{arraysFit, suppressorFits}
+use Rattle.impulse_arrays.specs.Fits.{arraysFit}
+use Rattle.chain_state.specs.Fits.{suppressorFits}
 use borrow.Author.Needs.{needs}
 use Rattle.chain_state.proofs.InputConditioner.impulse_fits.Statement.{statement}
 use Rattle.chain_state.proofs.InputConditioner.impulse_fits.Tie as tie

@@ -1,0 +1,5 @@
+-- definitions
+pub mod Fits
+pub mod Occurs
+-- what is proved of them
+pub mod laws
