@@ -45,7 +45,8 @@ enum {
     VG_BAD_PHASE = 12,       /* its phase is not from -45 to 45 degrees */
     VG_BAD_CENTRE = 13,      /* its centre is not finite and above 0 */
     VG_BAD_HEADER = 14,      /* under 49 bytes, or a mark, version, mode or calibration byte that is none */
-    VG_NO_SAMPLE = 15,       /* no whole sample behind a recording's header */
+    VG_NO_SAMPLE = 15,       /* no sample behind a recording's header */
+    VG_BROKEN_TAIL = 17,     /* a recording ends in the middle of a sample */
     VG_NOTHING = 100         /* nothing to do; at its function is said when */
 };
 
@@ -229,12 +230,19 @@ uint64_t vg_guard(uint64_t *samples, size_t length);
 uint64_t vg_header(const uint8_t *bytes, size_t length, struct vg_config *config);
 
 /* Makes the chain of a recording, from its header and its first block of samples, which is not taken: it is for vg_guard and
- * vg_condition. The stores are those of n = 8, 256 spans and 1,024 repairs.
- * Answers 0, 14, 15 (the block has under 8 bytes), VG_NOTHING (all stages are off), 1, 4.
+ * vg_condition. The block has whole samples, of 8 bytes, unless it is the last. The stores are those of n = 8, 256 spans and
+ * 1,024 repairs.
+ * Answers 0, 14, 17 (behind the block's whole samples there are 1 to 7 bytes), 15 (the block is empty), VG_NOTHING (all stages
+ * are off), 1, 4.
  * Accepted: the state is written, and every word of the stores becomes 0. */
 uint64_t vg_start(const uint8_t *header, size_t header_length, const uint8_t *block, size_t block_length,
                   struct vg_state *state, uint64_t *spans, size_t span_words, uint64_t *repairs, size_t repair_words,
                   double *monitor, size_t monitor_words);
+
+/* Whether a recording was cut off in the middle of a sample, by its last block; every block before it has whole samples. 17
+ * comes before all that the start and the calls answered, except 14. A recording that was cut between two samples answers 0.
+ * Answers 0, 17 (behind the block's whole samples there are 1 to 7 bytes). */
+uint64_t vg_end(const uint8_t *block, size_t length);
 
 #ifdef __cplusplus
 }

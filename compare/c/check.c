@@ -687,8 +687,13 @@ static void starts(void) {
     double rate = 0.5;
     size_t k;
     head();
-    for (k = 0; k < HEADER; k++) REFUSES(VG_BAD_HEADER, start(k, 16, REPLAY_SPAN_WORDS, REPLAY_REPAIR_WORDS, REPLAY_MONITOR_WORDS));
-    for (k = 0; k < 8; k++) REFUSES(VG_NO_SAMPLE, start(HEADER, k, REPLAY_SPAN_WORDS, REPLAY_REPAIR_WORDS, REPLAY_MONITOR_WORDS));
+    for (k = 0; k < HEADER; k++) {
+        REFUSES(VG_BAD_HEADER, start(k, 16, REPLAY_SPAN_WORDS, REPLAY_REPAIR_WORDS, REPLAY_MONITOR_WORDS));
+        REFUSES(VG_BAD_HEADER, start(k, 15, REPLAY_SPAN_WORDS, REPLAY_REPAIR_WORDS, REPLAY_MONITOR_WORDS));
+    }
+    REFUSES(VG_NO_SAMPLE, start(HEADER, 0, REPLAY_SPAN_WORDS, REPLAY_REPAIR_WORDS, REPLAY_MONITOR_WORDS));
+    for (k = 1; k < 16; k++)
+        if (k != 8) REFUSES(VG_BROKEN_TAIL, start(HEADER, k, REPLAY_SPAN_WORDS, REPLAY_REPAIR_WORDS, REPLAY_MONITOR_WORDS));
     for (k = 0; k <= REPLAY_SPAN_WORDS + 8; k += k < REPLAY_SPAN_WORDS - 8 ? 97 : 1)
         if (k != REPLAY_SPAN_WORDS) REFUSES(VG_BAD_LENGTH, start(HEADER, 8, k, REPLAY_REPAIR_WORDS, REPLAY_MONITOR_WORDS));
     for (k = 0; k <= REPLAY_REPAIR_WORDS + 8; k += k < REPLAY_REPAIR_WORDS - 8 ? 97 : 1)
@@ -707,9 +712,20 @@ static void starts(void) {
     TRUE(memcmp(&started, &lent.state, sizeof started) == 0);
     memcpy(lent.header + 9, &rate, sizeof rate);
     REFUSES(VG_BAD_RATE, start(HEADER, 8, 0, 0, 0));
+    for (k = 9; k < 16; k++) REFUSES(VG_BROKEN_TAIL, start(HEADER, k, 0, 0, 0));
     memset(lent.header + 5, VG_OFF, 3);
     REFUSES(VG_NOTHING, start(HEADER, 8, 0, 0, 0));
-    REFUSES(VG_NO_SAMPLE, start(HEADER, 7, 0, 0, 0));
+    for (k = 9; k < 16; k++) REFUSES(VG_BROKEN_TAIL, start(HEADER, k, 0, 0, 0));
+    REFUSES(VG_NO_SAMPLE, start(HEADER, 0, 0, 0, 0));
+}
+
+static void ends(void) {
+    size_t k;
+    head();
+    for (k = 0; k <= 16; k++) {
+        ANSWERS(k % 8 == 0 ? VG_ACCEPTED : VG_BROKEN_TAIL, vg_end(lent.block, k));
+        LEFT();
+    }
 }
 
 // Any words at all as a state: an operation is accepted, or answers a number of its own and leaves every word.
@@ -801,6 +817,7 @@ int main(void) {
     guarding();
     headers();
     starts();
+    ends();
     states();
     printf("%ld checks, %ld failed\n", checks, failures);
     return failures != 0;

@@ -5,7 +5,7 @@ mod common;
 
 use common::*;
 use oracle::condition::{IqStatus, Mark, Stage};
-use oracle::rules::replay::{header, printed, samples};
+use oracle::rules::replay::{broken, header, printed, refusal, samples};
 use oracle::rules::{Calibration, Mode, Sample, Setting};
 use oracle::sample_guard::replace_unusable;
 
@@ -106,16 +106,12 @@ fn the_sample_of_document_01() {
         dropped 0 0\n\
         dc none\n\
         iq off\n";
-    let mut bytes = input(&s, &xs);
-    assert_eq!(printed(&bytes), expected);
+    assert_eq!(printed(&input(&s, &xs)), expected);
     assert_eq!(printed_by_original(&s, &xs), expected);
-    // "A tail under 8 bytes is ignored."
-    bytes.extend([0xff; 7]);
-    assert_eq!(printed(&bytes), expected);
 }
 
 #[test]
-fn refusals_14_15_then_making() {
+fn refusals_14_17_15_then_making() {
     let s = replayed(48000.0, Mode::Apply, Mode::Off, Mode::Off);
     let whole = input(&s, &[Sample::new(1.0, 0.0)]);
     assert_eq!(whole.len(), 57);
@@ -123,8 +119,9 @@ fn refusals_14_15_then_making() {
     for len in 0..49 {
         assert_eq!(printed(&whole[..len]), "refused 14\n");
     }
-    for len in 49..57 {
-        assert_eq!(printed(&whole[..len]), "refused 15\n");
+    assert_eq!(printed(&whole[..49]), "refused 15\n");
+    for len in 50..57 {
+        assert_eq!(printed(&whole[..len]), "refused 17\n");
     }
     // Mark, version, modes and the present byte.
     for (place, good) in [
@@ -142,10 +139,12 @@ fn refusals_14_15_then_making() {
         for value in 0..=255 {
             let mut bytes = whole.clone();
             bytes[place] = value;
-            taken += usize::from(printed(&bytes) != "refused 14\n");
-            // 14 comes before 15 and before all off.
-            let short = printed(&bytes[..49]);
-            assert!(short == "refused 14\n" || short == "refused 15\n");
+            let bad = printed(&bytes) == "refused 14\n";
+            taken += usize::from(!bad);
+            // 14 comes before 17, 15 and all off.
+            let or = |later| if bad { "refused 14\n" } else { later };
+            assert_eq!(printed(&bytes[..50]), or("refused 17\n"));
+            assert_eq!(printed(&bytes[..49]), or("refused 15\n"));
         }
         assert_eq!(taken, good, "byte {place}");
     }
@@ -156,6 +155,55 @@ fn refusals_14_15_then_making() {
     let slow = replayed(0.5, Mode::Off, Mode::Observe, Mode::Off);
     assert_eq!(printed(&input(&slow, &[])), "refused 15\n");
     assert_eq!(printed(&input(&slow, &[Sample::ZERO])), "refused 1\n");
+}
+
+/// Document 02, R-4: "A tail of 1 to 7 bytes, ignored so far, is therefore refused with 17, after 14
+/// and before 15."
+#[test]
+fn a_tail_is_refused() {
+    let good = replayed(48000.0, Mode::Apply, Mode::Off, Mode::Off);
+    let off = replayed(48000.0, Mode::Off, Mode::Off, Mode::Off);
+    let slow = replayed(0.5, Mode::Off, Mode::Observe, Mode::Off);
+    for (s, made) in [
+        (good, "replaced 0\n"),
+        (off, "off\n"),
+        (slow, "refused 1\n"),
+    ] {
+        for count in [0, 1, 2, 60] {
+            let mut bytes = input(&s, &vec![Sample::new(1.0, 0.0); count]);
+            let untailed = if count == 0 { "refused 15\n" } else { made };
+            assert!(printed(&bytes).starts_with(untailed));
+            for tail in 1..=7 {
+                bytes.push(0xff);
+                assert_eq!(printed(&bytes), "refused 17\n", "{count} and {tail}");
+                let mut bad = bytes.clone();
+                bad[0] = b'c';
+                assert_eq!(printed(&bad), "refused 14\n", "{count} and {tail}");
+            }
+        }
+    }
+}
+
+#[test]
+fn the_form_of_a_header_and_the_bytes_behind() {
+    let s = replayed(48000.0, Mode::Apply, Mode::Off, Mode::Off);
+    let whole = input(&s, &[Sample::new(1.0, 0.0); 3]);
+    let (head, rest) = whole.split_at(49);
+    for len in 0..=rest.len() {
+        let behind = &rest[..len];
+        let number = match len {
+            0 => Some(15),
+            8 | 16 | 24 => None,
+            _ => Some(17),
+        };
+        assert_eq!(broken(behind), number == Some(17));
+        assert_eq!(refusal(head, behind), number);
+        // Of a longer head only the header counts; a shorter one is none.
+        assert_eq!(refusal(&whole, behind), number);
+        assert_eq!(refusal(&whole[..50], behind), number);
+        assert_eq!(refusal(&head[..48], behind), Some(14));
+        assert_eq!(refusal(&[], behind), Some(14));
+    }
 }
 
 #[test]

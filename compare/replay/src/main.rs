@@ -33,7 +33,6 @@ fn replayed(input: &[u8], rng: &mut Random) -> String {
     while !rest.is_empty() {
         let most = pick(rng, &[60, 5000, 70_000, 70_000]);
         let size = (1 + below(rng, most)).min(rest.len());
-        // A recording that is refused is not read to its end.
         if pipe.write_all(&rest[..size]).is_err() {
             break;
         }
@@ -42,7 +41,10 @@ fn replayed(input: &[u8], rng: &mut Random) -> String {
     drop(pipe);
     let out = child.wait_with_output().expect("the program ends");
     assert!(out.status.success(), "{}", out.status);
-    String::from_utf8(out.stdout).expect("text")
+    let text = String::from_utf8(out.stdout).expect("text");
+    // A recording is read to its end, unless its header is refused.
+    assert!(rest.is_empty() || text == "refused 14\n", "{text}");
+    text
 }
 
 // ---- the Rust original
@@ -145,6 +147,13 @@ fn by_original(mut input: impl Read) -> String {
 
 // ---- recordings
 
+fn seeded(seed: u64) -> Random {
+    let mut rng = Random(seed);
+    for _ in 0..8 {
+        rng.next();
+    }
+    rng
+}
 fn below(rng: &mut Random, n: usize) -> usize {
     (rng.next() >> 11) as usize % n
 }
@@ -198,6 +207,17 @@ fn head(rng: &mut Random) -> Vec<u8> {
     bytes
 }
 
+/// A header with a calibration that fits.
+fn known_head(modes: [u8; 3], fs: f64) -> Vec<u8> {
+    let mut bytes = b"CND\x01\x00".to_vec();
+    bytes.extend(modes);
+    bytes.push(1);
+    for number in [fs, 7e6, 1.1, 3.0, 7e6] {
+        bytes.extend(number.to_le_bytes());
+    }
+    bytes
+}
+
 /// A part: mostly noise about an offset, at times a click, now and then any bits at all.
 fn part(rng: &mut Random, loud: bool, clicks: usize, any: usize) -> f32 {
     if any > 0 && once_in(rng, any) {
@@ -243,9 +263,11 @@ fn samples(rng: &mut Random, n: usize, to: &mut Vec<u8>) {
 fn recording(rng: &mut Random, n: usize) -> Vec<u8> {
     let mut bytes = head(rng);
     samples(rng, n, &mut bytes);
-    // A tail.
-    for _ in 0..below(rng, 8) {
-        bytes.push(rng.next() as u8);
+    // One in five ends in a broken sample.
+    if once_in(rng, 5) {
+        for _ in 0..1 + below(rng, 7) {
+            bytes.push(rng.next() as u8);
+        }
     }
     match below(rng, 20) {
         // Cut short, in the header or just behind it.
@@ -318,13 +340,33 @@ fn compare(name: &str, input: &[u8], by_rules: bool, rng: &mut Random, reached: 
     reached.note(&got);
 }
 
+/// Every tail behind no sample, one, a full first block and several, under a header that is good, bad, all off
+/// or with a bad rate.
+fn compare_tails(reached: &mut Reached) {
+    let good = known_head([2, 2, 2], 48000.0);
+    let mut bad = good.clone();
+    bad[0] = b'X';
+    let off = known_head([0, 0, 0], 48000.0);
+    let slow = known_head([2, 2, 2], 0.5);
+    for (name, head) in [("good", good), ("bad", bad), ("off", off), ("slow", slow)] {
+        for n in [0, 1, BLOCK, 3 * BLOCK] {
+            let rng = &mut seeded(1 + n as u64);
+            let mut input = head.clone();
+            samples(rng, n, &mut input);
+            for tail in 0..8 {
+                let name = format!("{name} header, {n} samples, a tail of {tail}");
+                compare(&name, &input, true, rng, reached);
+                input.push(rng.next() as u8);
+            }
+        }
+    }
+}
+
 fn compare_all(cases: u64) {
     let mut reached = Reached::default();
+    compare_tails(&mut reached);
     for seed in 1..=cases {
-        let rng = &mut Random(seed.wrapping_mul(0x9e37_79b9_7f4a_7c15) | 1);
-        for _ in 0..8 {
-            rng.next();
-        }
+        let rng = &mut seeded(seed.wrapping_mul(0x9e37_79b9_7f4a_7c15) | 1);
         let n = 1 + below(rng, 400);
         let input = recording(rng, n);
         compare(
@@ -350,10 +392,7 @@ fn compare_all(cases: u64) {
     .enumerate()
     {
         for seed in 0..12 {
-            let rng = &mut Random(1 + seed + 1000 * k as u64);
-            for _ in 0..8 {
-                rng.next();
-            }
+            let rng = &mut seeded(1 + seed + 1000 * k as u64);
             let input = recording(rng, n);
             let name = format!("long recording {n} {seed}");
             compare(&name, &input, n <= 100_003, rng, &mut reached);
@@ -381,13 +420,7 @@ fn compare_all(cases: u64) {
 /// A tone, an offset, noise, and a click in 2,000 samples.
 fn write_recording(path: &str, modes: [u8; 3], n: usize) {
     let mut out = BufWriter::new(File::create(path).expect("a file to write"));
-    let mut bytes = b"CND\x01\x00".to_vec();
-    bytes.extend(modes);
-    bytes.push(1);
-    for number in [48000.0, 7e6, 1.1, 3.0, 7e6f64] {
-        bytes.extend(number.to_le_bytes());
-    }
-    out.write_all(&bytes).expect("written");
+    out.write_all(&known_head(modes, 48000.0)).expect("written");
     let rng = &mut Random(88172645463325252);
     for k in 0..n {
         let turn = (k % 8) as f64 * std::f64::consts::FRAC_PI_4;

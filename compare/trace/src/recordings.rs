@@ -1,17 +1,21 @@
-//! A recording's header and start, through the library and by the second reading.
+//! A recording's header, start and end, through the library and by the second reading.
 
 use oracle::draw::*;
 use oracle::rules::refusals::{self, Answer};
-use oracle::rules::replay::{header, HEADER, N, REPAIRS, SPANS};
+use oracle::rules::replay::{broken, header, refusal, HEADER, N, REPAIRS, SAMPLE, SPANS};
 use oracle::trace::machine::setting_words;
 use vatgorge::*;
 
 const LENT: u64 = 0x5eed_5eed_5eed_5eed;
 
+/// The numbers of recordings end below this.
+const NUMBERS: usize = 18;
+
 /// How often what was answered, by its number.
 pub struct Recordings {
-    headers: [u64; 16],
-    starts: [u64; 16],
+    headers: [u64; NUMBERS],
+    starts: [u64; NUMBERS],
+    ends: [u64; NUMBERS],
     nothing: u64,
 }
 
@@ -56,15 +60,13 @@ fn one_header(head: &[u8]) -> Result<u64, String> {
     }
 }
 
-/// The number of a start, by the second reading: 14, 15, then making.
+/// The number of a start, by the second reading: 14, 17, 15, then making.
 fn start_number(head: &[u8], block: &[u8], lent: [usize; 3]) -> u64 {
     let [spans, repairs, monitor] = lent;
-    let Some(s) = header(head) else {
-        return 14;
-    };
-    if block.len() < 8 {
-        return 15;
+    if let Some(number) = refusal(head, block) {
+        return u64::from(number);
     }
+    let s = header(head).expect("it is not refused");
     match refusals::making(&s, repairs, spans, monitor) {
         Answer::Nothing => NOTHING,
         Answer::Refused(r) => u64::from(r.number),
@@ -103,18 +105,42 @@ fn one_start(head: &[u8], block: &[u8], lent: [usize; 3]) -> Result<u64, String>
     }
 }
 
-/// So many of both; the first difference, if there is one.
+fn one_end(block: &[u8]) -> Result<u64, String> {
+    let number = vg_end(block);
+    let wanted = if broken(block) { 17 } else { 0 };
+    if number == wanted {
+        Ok(number)
+    } else {
+        Err(format!("end {block:x?}: proved {number}, rules {wanted}"))
+    }
+}
+
+/// Up to two samples, and behind them a broken one as often as not.
+fn block(rng: &mut Rng) -> Vec<u8> {
+    let tail = if rng.once_in(2) {
+        rng.from(1, SAMPLE - 1)
+    } else {
+        0
+    };
+    (0..SAMPLE * rng.below(3) + tail)
+        .map(|_| rng.next() as u8)
+        .collect()
+}
+
+/// So many of each; the first difference, if there is one.
 pub fn compare(seed: u64, many: u64) -> Result<Recordings, String> {
     let rng = &mut Rng::new(seed);
     let mut met = Recordings {
-        headers: [0; 16],
-        starts: [0; 16],
+        headers: [0; NUMBERS],
+        starts: [0; NUMBERS],
+        ends: [0; NUMBERS],
         nothing: 0,
     };
     for _ in 0..many {
         let head = head(rng);
         met.headers[one_header(&head)? as usize] += 1;
-        let block: Vec<u8> = (0..rng.below(20)).map(|_| rng.next() as u8).collect();
+        let block = block(rng);
+        met.ends[one_end(&block)? as usize] += 1;
         let mut lent = [24 * SPANS, 6 * REPAIRS, 4 * N];
         if rng.once_in(6) {
             let store = rng.below(3);
@@ -130,11 +156,12 @@ pub fn compare(seed: u64, many: u64) -> Result<Recordings, String> {
 
 impl Recordings {
     pub fn say(&self) {
-        let [h, s] = [&self.headers, &self.starts];
+        let [h, s, e] = [&self.headers, &self.starts, &self.ends];
         println!("{} headers read, 14: {}", h[0], h[14]);
         println!(
-            "{} starts made, {} by nothing, refused by 1: {}, 4: {}, 14: {}, 15: {}",
-            s[0], self.nothing, s[1], s[4], s[14], s[15]
+            "{} starts made, {} by nothing, refused by 1: {}, 4: {}, 14: {}, 17: {}, 15: {}",
+            s[0], self.nothing, s[1], s[4], s[14], s[17], s[15]
         );
+        println!("{} whole ends, 17: {}", e[0], e[17]);
     }
 }

@@ -1,6 +1,7 @@
-// The replay program: a recording on standard input, its report on standard output. Where a read fails,
-// nothing is printed there; that, and a report that could not be written whole, is a line on standard
-// error.
+// The replay program: a recording on standard input, its report on standard output. A bad header is
+// answered at once; else the recording is read to its end before anything is printed, because a broken
+// last sample shows only there. Where a read fails, nothing is printed; that, and a report that could not be
+// written whole, is a line on standard error.
 
 ghost use mathlib.Core.Path.{_≡_};
 ghost use Prim.Native.Nat.{_+_, _*_, _≤_};
@@ -18,8 +19,8 @@ use libc::STDOUT_FILENO;
 use replay_start::StartAnswer;
 use replay_start::Started;
 
-// Blocks to feed at most. Each full one has 2^13 samples, and the chain refuses what comes after 2^48.
-const BLOCKS: u64 = 0x10_0000_0000;
+// Blocks to read at most, 2^64 - 1 of 65,536 bytes: more than any recording has.
+const BLOCKS: u64 = 0xffff_ffff_ffff_ffff;
 
 // What was read of a block, or that a read failed: then nothing counts as read.
 struct Block {
@@ -27,12 +28,14 @@ struct Block {
     failed: bool,
 }
 
-// What the blocks so far have left: the state, the samples replaced, the number of the last block's
-// refusal or 0, the size of the block that was read and waits, or 0, and whether a read failed.
+// What the start and the blocks so far have left: the state, the samples replaced, the number of a
+// refusal or 0, whether all stages are off, the size of the block that was read and waits, or 0, and
+// whether a read failed.
 struct Played {
     state: InputConditioner,
     replaced: u64,
     number: u64,
+    off: bool,
     size: usize,
     failed: bool,
 }
@@ -125,6 +128,16 @@ fn read_block(bytes: &mut [u8]) -> Block
 
 // ---- playing
 
+// Passes over a block: it is not fed, and the number is this one. None waits then.
+fn pass(played: Played, number: u64) -> Played
+    ensures { λ r. ⌜ r .size ≡ 0 ⌝ }
+{
+    let mut out = played;
+    out.number = number;
+    out.size = 0;
+    out
+}
+
 // A block of bytes, fed. None waits then.
 fn feed(
     played: Played,
@@ -143,9 +156,32 @@ fn feed(
         state,
         replaced: std::num::wrapping_add_u64(played.replaced, fed.replaced),
         number: chain_call::number(answer),
+        off: false,
         size: 0,
         failed: false,
     }
+}
+
+// Takes a block of bytes. One that ends in a broken sample is refused, whatever was answered before it.
+// Else it is fed, unless something was refused or all is off.
+fn take(
+    played: Played,
+    bytes: &[u8],
+    samples: &mut [u64],
+    spans: &mut [u64],
+    repairs: &mut [u64],
+) -> Played
+    ensures { λ r. ⌜ r .size ≡ 0 ⌝ }
+{
+    let tail = replay_format::words::tail_number(bytes);
+    if tail != 0 {
+        return pass(played, tail);
+    }
+    let number = played.number;
+    if number != 0 || played.off {
+        return pass(played, number);
+    }
+    feed(played, bytes, samples, spans, repairs)
 }
 
 // Reads another block.
@@ -159,7 +195,7 @@ fn read(played: Played, bytes: &mut [u8]) -> Played
     out
 }
 
-// Feeds the block that waits, and reads another, unless this one was refused or not full.
+// Takes the block that waits, and reads another, unless this one was not full.
 fn turn(
     played: Played,
     bytes: &mut [u8],
@@ -171,14 +207,11 @@ fn turn(
     ensures { λ r. ⌜ Counts (r .size) (now (bytes .exit)) ⌝ }
 {
     let size = played.size;
-    let fed = feed(played, &bytes[..size], samples, spans, repairs);
-    if fed.number != 0 {
-        return fed;
-    }
+    let taken = take(played, &bytes[..size], samples, spans, repairs);
     if size < bytes.len() {
-        return fed;
+        return taken;
     }
-    read(fed, bytes)
+    read(taken, bytes)
 }
 
 // Every block, from the one that waits on.
@@ -202,19 +235,6 @@ fn play(
 
 // ---- the whole recording
 
-fn write_played(played: Played, spans: &[u64], text: &mut [u8]) -> usize
-    ensures { λ r. ⌜ r ≤ length (now (text .entry)) ⌝ }
-{
-    if played.failed {
-        return 0;
-    }
-    if played.number != 0 {
-        return replay_text::notices::write_refusal(played.number, text);
-    }
-    let state = played.state;
-    replay_report::write_report(state, spans, played.replaced, text)
-}
-
 fn is_off(answer: StartAnswer) -> bool {
     let StartAnswer::Making(made) = answer else {
         return false;
@@ -225,8 +245,25 @@ fn is_off(answer: StartAnswer) -> bool {
     false
 }
 
-// Plays the recording that was started, puts what is to be printed into the text, and answers how long it
-// is: 0 where a read failed.
+// Puts what is to be printed into the text, and answers how long it is: 0 where a read failed.
+fn write_played(played: Played, spans: &[u64], text: &mut [u8]) -> usize
+    ensures { λ r. ⌜ r ≤ length (now (text .entry)) ⌝ }
+{
+    if played.failed {
+        return 0;
+    }
+    if played.number != 0 {
+        return replay_text::notices::write_refusal(played.number, text);
+    }
+    if played.off {
+        return replay_text::notices::write_off(text);
+    }
+    let state = played.state;
+    replay_report::write_report(state, spans, played.replaced, text)
+}
+
+// Plays the recording that was started, from its first block on, and puts what is to be printed into the
+// text.
 fn play_recording(
     started: Started,
     size: usize,
@@ -240,23 +277,55 @@ fn play_recording(
     ensures { λ r. ⌜ r ≤ length (now (text .entry)) ⌝ }
 {
     let state = started.state;
-    let said = started.answer;
-    let number = replay_start::start_number(said);
-    if number != 0 {
-        return replay_text::notices::write_refusal(number, text);
-    }
-    if is_off(said) {
-        return replay_text::notices::write_off(text);
-    }
+    let answer = started.answer;
     let first = Played {
         state,
         replaced: 0,
-        number: 0,
+        number: replay_start::start_number(answer),
+        off: is_off(answer),
         size,
         failed: false,
     };
     let played = play(first, bytes, samples, spans, repairs);
     write_played(played, spans, text)
+}
+
+// Reads the first block behind a header that is not refused, starts the recording and plays it.
+fn start_recording(head: &[u8], text: &mut [u8]) -> usize
+    ensures { λ r. ⌜ r ≤ length (now (text .entry)) ⌝ }
+{
+    let mut bytes = io::large_buffer();
+    let first = read_block(&mut bytes);
+    if first.failed {
+        return 0;
+    }
+    let size = first.size;
+    let mut spans = span_store();
+    let mut repairs = repair_store();
+    let mut words = monitor_store();
+    let started = replay_start::start(head, &bytes[..size], &mut spans, &mut repairs, &mut words);
+    let mut samples = sample_store();
+    play_recording(
+        started,
+        size,
+        &mut bytes,
+        &mut samples,
+        &mut spans,
+        &mut repairs,
+        text,
+    )
+}
+
+// Puts what is to be printed of a recording with this header into the text.
+fn replay(head: &[u8], text: &mut [u8]) -> usize
+    ensures { λ r. ⌜ r ≤ length (now (text .entry)) ⌝ }
+{
+    let read = replay_format::header::header(head);
+    let number = replay_format::header::number(read);
+    if number != 0 {
+        return replay_text::notices::write_refusal(number, text);
+    }
+    start_recording(head, text)
 }
 
 fn print(text: &[u8], size: usize)
@@ -269,37 +338,12 @@ fn print(text: &[u8], size: usize)
 
 fn main() {
     let mut head = [0u8; 49];
-    let mut bytes = io::large_buffer();
-    let mut spans = span_store();
-    let mut repairs = repair_store();
-    let mut words = monitor_store();
     let header = read_block(&mut head);
     if header.failed {
         return;
     }
-    let first = read_block(&mut bytes);
-    if first.failed {
-        return;
-    }
     let known = header.size;
-    let size = first.size;
-    let started = replay_start::start(
-        &head[..known],
-        &bytes[..size],
-        &mut spans,
-        &mut repairs,
-        &mut words,
-    );
-    let mut samples = sample_store();
     let mut text = text_store();
-    let long = play_recording(
-        started,
-        size,
-        &mut bytes,
-        &mut samples,
-        &mut spans,
-        &mut repairs,
-        &mut text,
-    );
+    let long = replay(&head[..known], &mut text);
     print(&text, long);
 }

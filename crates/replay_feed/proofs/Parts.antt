@@ -8,7 +8,7 @@ use lib.Seq.{take-at, length-take-le}
 use borrow.Rule.Slice.PartMut.{midOf, postOf, putMid, mid-len, drop-put}
 use Rattle.rules.specs.Guard.{guarded}
 use Rattle.chain_state.specs.declared.InputConditioner.{InputConditioner}
-use Rattle.replay_format.specs.Format.{wordsIn}
+use Rattle.replay_format.specs.Format.{sampleSize, wordsIn}
 use Rattle.replay_feed.specs.Feeding.{heldIn, newWords, slice, behind}
 use Rattle.replay_feed.specs.laws.FeedingLaws.{inside, words-are, guarded-many, slice-is, behind-is}
 
@@ -18,7 +18,8 @@ put-front a k xs ys h many =
     ap (λ (l : List ℕ). take (a + k) l) (sym (append-assoc (take a xs) ys (postOf a (a + k - a) xs)))
     ∙ take-at (take a xs ++ ys) (postOf a (a + k - a) xs) (a + k) (let t = length-take-le a xs (omega arith) in omega (arith, length-append (take a xs) ys))
 
-module _ (c : InputConditioner) (bytes samples : List ℕ) (a k : ℕ) (held : a ≡ heldIn c samples) (new : k ≡ min (length bytes / 8) (length samples - a)) where
+module _ (c : InputConditioner) (bytes samples : List ℕ) (a k : ℕ) (held : a ≡ heldIn c samples)
+    (new : k ≡ min (length bytes / sampleSize) (length samples - a)) where
   pub part-words : take (length (midOf a (a + k - a) samples)) (wordsIn bytes) ≡ newWords c bytes samples
   part-words =
       ap (λ (n : ℕ). take n (wordsIn bytes)) (mid-len a (a + k) samples (inside c bytes samples a k held new) ∙ (let q : a + k - a ≡ k = omega arith in q))

@@ -9,7 +9,7 @@ use Rattle.rules.specs.Guard.{guarded, unusable}
 use Rattle.chain_state.specs.declared.InputConditioner.{InputConditioner}
 use Rattle.chain.specs.Stages.{Machine}
 use Rattle.chain.specs.Calls.{Outcome, called}
-use Rattle.replay_format.specs.Format.{wordsIn}
+use Rattle.replay_format.specs.Format.{sampleSize, wordsIn}
 
 -- the held places in a store of samples
 abbrev pub heldIn : InputConditioner → List ℕ → ℕ
@@ -17,7 +17,7 @@ heldIn c samples = min (c .counts .held) (length samples)
 
 -- as many samples as the block has, and as the store has room for behind the held places
 abbrev pub newMany : InputConditioner → List ℕ → List ℕ → ℕ
-newMany c bytes samples = min (length bytes / 8) (length samples - heldIn c samples)
+newMany c bytes samples = min (length bytes / sampleSize) (length samples - heldIn c samples)
 
 -- the new words, as they are read
 unfoldable pub newWords : InputConditioner → List ℕ → List ℕ → List ℕ
@@ -49,7 +49,7 @@ takenBlock m bytes samples o =
       machine = o .machine;
       samples = o .samples ++ behind (m .state) bytes samples;
       replaced = unusable (newWords (m .state) bytes samples);
-      taken = 8 * newMany (m .state) bytes samples;
+      taken = sampleSize * newMany (m .state) bytes samples;
     }
 
 -- one that is refused leaves all

@@ -6,10 +6,11 @@ ghost use lib.ListN.{length, take};
 ghost use Rattle.rules.specs.Guard.{guarded, unusable};
 ghost use Rattle.chain.specs.Stages.{machineOf};
 ghost use Rattle.chain_call.specs.Said.{said};
-ghost use Rattle.replay_format.specs.Format.{wordsIn};
+ghost use Rattle.replay_format.specs.Format.{sampleSize, wordsIn};
 ghost use Rattle.replay_feed.specs.Feeding.{fed};
 use chain_call::Conditioned;
 use chain_state::InputConditioner;
+use replay_format::words::SAMPLE_SIZE;
 
 // How a block is answered, how many of its samples were replaced by 0, and how many of its bytes were
 // taken.
@@ -28,7 +29,7 @@ fn least(a: usize, b: usize) -> usize
 
 // The first words of the bytes, guarded, and how many were replaced.
 fn read_guarded(bytes: &[u8], part: &mut [u64]) -> u64
-    requires { ⌜ 8 * length (now part) ≤ length (now bytes) ⌝ }
+    requires { ⌜ sampleSize * length (now part) ≤ length (now bytes) ⌝ }
     ensures words { λ r. ⌜ now (part .exit) ≡ guarded (take (length (now (part .entry))) (wordsIn (now (bytes .entry)))) ⌝ }
     ensures count { λ r. ⌜ r ≡ unusable (take (length (now (part .entry))) (wordsIn (now (bytes .entry)))) ⌝ }
 {
@@ -56,7 +57,7 @@ pub fn feed(
     ensures taken { λ r. ⌜ r .taken ≡ fed (machineOf state (now (spans .entry)) (now (repairs .entry))) (now (bytes .entry)) (now (samples .entry)) .taken ⌝ }
 {
     let held = least(state.counts.held, samples.len());
-    let new = least(bytes.len() / 8, samples.len() - held);
+    let new = least(bytes.len() / SAMPLE_SIZE, samples.len() - held);
     let end = held + new;
     let unread = chain_call::refusal(state, end, spans, repairs);
     if chain_call::number(unread) != 0 {
@@ -75,6 +76,6 @@ pub fn feed(
         state: after,
         answer,
         replaced,
-        taken: 8 * new,
+        taken: SAMPLE_SIZE * new,
     }
 }

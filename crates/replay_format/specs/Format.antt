@@ -1,7 +1,8 @@
--- Document 01, 'The replay program reads standard input': a recording's header and its samples. Bytes are numbers. Definitions only.
+-- Document 01, 'The replay program reads standard input', with document 02's R-4: a recording's header and its samples. Bytes are numbers.
+-- Definitions only.
 use mathlib.Core.Bool.{Bool, not, _&&_}
 use mathlib.Core.List.{List, [], _∷_}
-use Prim.Native.Nat.{ℕ, zero, suc, _+_, _*_, _/_}
+use Prim.Native.Nat.{ℕ, zero, suc, _+_, _*_, _/_, _%_}
 use lib.Dec.{leb, eqb}
 use lib.ListN.{length, take, drop}
 use lib.Ieee.{Float, binary64, ofBits}
@@ -73,24 +74,39 @@ configIn input =
       repairs = 1024;
     }
 
--- ---- 'then pairs of f32': each pair is a sample's word. 'A tail under 8 bytes is ignored.'
+-- ---- 'then pairs of f32': each pair is a sample's word
 
+-- the bytes of a sample
+abbrev pub sampleSize : ℕ
+sampleSize = 8
+
+-- the words of the whole samples
 unfoldable pub wordsIn : List ℕ → List ℕ
-wordsIn bytes = upTo (λ k. wordAt bytes (8 * k)) (length bytes / 8)
+wordsIn bytes = upTo (λ k. wordAt bytes (sampleSize * k)) (length bytes / sampleSize)
 
 abbrev pub samplesIn : List ℕ → List ℕ
 samplesIn input = wordsIn (drop headerSize input)
+
+-- ---- what is refused before a chain is made
+
+-- R-4: 'A tail of 1 to 7 bytes, ignored so far, is therefore refused with 17', by the size of a sample, of the bytes behind the header
+abbrev pub brokenTail : ℕ → List ℕ → Cause
+brokenTail size bytes = record { holds = not (eqb (length bytes % size) 0); number = 17 }
 
 -- 'no whole sample', of the bytes behind the header
 abbrev pub noSample : List ℕ → Cause
 noSample bytes = record { holds = eqb (length (wordsIn bytes)) 0; number = 15 }
 
--- 'Replay: 14, 15, then making', by the header and the bytes behind it
+-- 'Replay: 14, 15, then making', with 17 'after 14 and before 15', by the header and the bytes behind it
 unfoldable pub startRefusal : List ℕ → List ℕ → ℕ
-startRefusal head bytes = firstOf (badHeader head ∷ noSample bytes ∷ [])
+startRefusal head bytes = firstOf (badHeader head ∷ brokenTail sampleSize bytes ∷ noSample bytes ∷ [])
 
 abbrev pub inputRefusal : List ℕ → ℕ
 inputRefusal input = startRefusal input (drop headerSize input)
+
+-- of a recording's last block
+unfoldable pub tailRefusal : List ℕ → ℕ
+tailRefusal bytes = firstOf (brokenTail sampleSize bytes ∷ [])
 
 -- what is refused by a number, and what is not
 abbrev pub unlessRefused : {A : Type 0} → ℕ → A → (ℕ → A) → A

@@ -1,4 +1,4 @@
-// A recording: its header, and the words of its samples.
+// A recording: its header, the words of its samples, and its tail.
 
 use chain_config::ConditioningConfig;
 

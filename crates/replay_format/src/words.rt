@@ -1,9 +1,15 @@
-// Words of eight bytes, little-endian.
+// Words of eight bytes, little-endian: a recording's samples, and whether the last one is broken.
 
 ghost use mathlib.Core.Path.{_≡_};
 ghost use Prim.Native.Nat.{_+_, _*_, _^_, _<_, _≤_};
 ghost use lib.ListN.{length, take, drop};
-ghost use Rattle.replay_format.specs.Format.{littleEndian, wordAt, wordsIn};
+ghost use Rattle.replay_format.specs.Format.{littleEndian, wordAt, sampleSize, wordsIn, tailRefusal};
+
+// The bytes of a sample.
+pub const SAMPLE_SIZE: usize = 8;
+
+// Document 02's number of a recording whose last sample is broken.
+pub const BROKEN_TAIL: u64 = 17;
 
 fn wide(byte: u8) -> u64
     ensures { λ r. ⌜ (r ≡ byte) × (r < 256) ⌝ }
@@ -35,12 +41,23 @@ pub fn word_at(bytes: &[u8], k: usize) -> u64
 
 // The first words of the bytes, as many as there are places.
 pub fn read_words(bytes: &[u8], words: &mut [u64])
-    requires { ⌜ 8 * length (now words) ≤ length (now bytes) ⌝ }
+    requires { ⌜ sampleSize * length (now words) ≤ length (now bytes) ⌝ }
     ensures { λ r. ⌜ now (words .exit) ≡ take (length (now (words .entry))) (wordsIn (now (bytes .entry))) ⌝ }
 {
     let mut k: usize = 0;
     while k < words.len() {
-        words[k] = word_at(bytes, 8 * k);
+        words[k] = word_at(bytes, SAMPLE_SIZE * k);
         k += 1;
     }
+}
+
+// What refuses a recording that ends with these bytes, its last block or all behind its header: number 17
+// if its last sample is broken, or 0.
+pub fn tail_number(bytes: &[u8]) -> u64
+    ensures { λ r. ⌜ r ≡ tailRefusal (now (bytes .entry)) ⌝ }
+{
+    if bytes.len() % SAMPLE_SIZE == 0 {
+        return 0;
+    }
+    BROKEN_TAIL
 }

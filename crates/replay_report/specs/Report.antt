@@ -1,4 +1,4 @@
--- Document 01, what the replay program prints. Definitions only.
+-- Document 01, with document 02's R-4: what the replay program prints. Definitions only.
 use mathlib.Core.Bool.{cond}
 use mathlib.Core.List.{List, [], _∷_, _++_, map, sum}
 use Prim.Native.Nat.{ℕ, _+_}
@@ -95,6 +95,6 @@ abbrev pub playedText : Config → List ℕ → List ℕ
 playedText c raw =
     cond (allOff c) offText (textUnless (refusal c 6144 6144 32) (textUnless (firstOf (tooMany 0 (length raw) ∷ [])) (reportText (reportBy c raw))))
 
--- all that is printed
+-- all that is printed: 'Replay: 14, 15, then making', with R-4's 17 between the two
 unfoldable pub printed : List ℕ → List ℕ
 printed input = textUnless (inputRefusal input) (playedText (configIn input) (samplesIn input))

@@ -13,9 +13,10 @@ use Rattle.replay_start.specs.declared.StartAnswer.the-variants as start
 use Rattle.replay_format.specs.Format.{configIn, startRefusal, unlessRefused}
 use Rattle.replay_format.specs.Header.{configFrom}
 
--- the answer in document 01's words: nothing where all is off, a number, or a chain
+-- the answer in the documents' words: nothing where all is off, a number, or a chain
 abbrev pub saidStart : StartAnswer → making.Said
 saidStart start.BadHeader = making.refused 14
+saidStart start.BrokenTail = making.refused 17
 saidStart start.NoSample = making.refused 15
 saidStart (start.Making a) = saidMaking a
 
@@ -38,6 +39,6 @@ idle =
       repairs = 0;
     }
 
--- the fresh state of the header's configuration; beside 14 and 15 that of an idle one
+-- the fresh state of the header's configuration; beside 14, 17 and 15 that of an idle one
 unfoldable pub startState : List ℕ → List ℕ → InputConditioner
 startState head block = freshState (unlessRefused (startRefusal head block) (configFrom (configIn head)) (λ k. idle))

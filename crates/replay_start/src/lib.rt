@@ -16,6 +16,8 @@ use stage_mode::StageMode;
 pub enum StartAnswer {
     // Number 14: the header is short, or not as it has to be.
     BadHeader,
+    // Number 17: the last sample is broken.
+    BrokenTail,
     // Number 15.
     NoSample,
     // Nothing, numbers 1 to 4, or a chain.
@@ -56,8 +58,8 @@ fn idle_state() -> InputConditioner
     made.state
 }
 
-// Begins with the header's bytes and the first block behind them: 14, 15, and then making, with the
-// span store, the repair store and the monitor's words.
+// Begins with the header's bytes and the first block behind them, which has whole samples or is the last:
+// 14, 17, 15, and then making, with the span store, the repair store and the monitor's words.
 pub fn start(
     head: &[u8],
     block: &[u8],
@@ -88,7 +90,13 @@ pub fn start(
             state: idle_state(),
         };
     };
-    if block.len() < 8 {
+    if replay_format::words::tail_number(block) != 0 {
+        return Started {
+            answer: StartAnswer::BrokenTail,
+            state: idle_state(),
+        };
+    }
+    if block.len() == 0 {
         return Started {
             answer: StartAnswer::NoSample,
             state: idle_state(),
@@ -103,12 +111,13 @@ pub fn start(
     }
 }
 
-// Document 01's number of a start, and 0 where there is none.
+// The number of a start, and 0 where there is none.
 pub fn start_number(answer: StartAnswer) -> u64
     ensures { λ r. ⌜ r ≡ makingNumber (saidStart answer) ⌝ }
 {
     match answer {
         StartAnswer::BadHeader => 14,
+        StartAnswer::BrokenTail => replay_format::words::BROKEN_TAIL,
         StartAnswer::NoSample => 15,
         StartAnswer::Making(made) => chain_make::number(made),
     }

@@ -7,7 +7,7 @@ ghost use lib.ListN.{length};
 ghost use Rattle.replay_text.specs.Text.{put};
 ghost use Rattle.replay_text.specs.Notices.{refusedText, offText};
 
-// That something was refused, with document 01's number.
+// That something was refused, with its number.
 pub fn write_refusal(number: u64, text: &mut [u8]) -> usize
     ensures text { λ r. ⌜ now (text .exit) ≡ put (now (text .entry)) 0 (refusedText number) ⌝ }
     ensures length { λ r. ⌜ r ≡ min (length (now (text .entry))) (length (refusedText number)) ⌝ }

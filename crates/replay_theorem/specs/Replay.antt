@@ -1,4 +1,5 @@
--- A replay as the program runs it: the start, the blocks one after another up to one that is refused, and the report. Definitions only.
+-- A replay as the program runs it: the header, the start, the blocks one after another up to one that is refused, the last block's tail, and
+-- the report. Definitions only.
 use mathlib.Core.Path.{_≡_}
 use mathlib.Core.List.{List, [], _∷_, _++_}
 use Prim.Native.Nat.{ℕ, _+_, _≤_}
@@ -9,9 +10,11 @@ use Rattle.chain_make.specs.Making.{nothing, made, madeWords}
 use Rattle.chain.specs.Stages.{Machine, machineOf}
 use Rattle.rules.specs.Answers as answers
 use Rattle.rules.specs.Answers.{Said, accepted, refused, numberOf}
+use Rattle.replay_format.specs.Format.{tailRefusal}
+use Rattle.replay_format.specs.Header.{headerNumber, headerSaid}
 use Rattle.replay_feed.specs.Feeding.{fed}
 use Rattle.replay_start.specs.Starting.{startSaid, startState}
-use Rattle.replay_report.specs.Report.{reportText}
+use Rattle.replay_report.specs.Report.{reportText, textUnless}
 use Rattle.replay_text.specs.Notices.{refusedText, offText}
 use Rattle.replay_report.specs.Shown.{reportIn}
 
@@ -27,6 +30,11 @@ joined (b ∷ bs) = b .bytes ++ joined bs
 abbrev pub firstBytes : List Block → List ℕ
 firstBytes [] = []
 firstBytes (b ∷ bs) = b .bytes
+
+abbrev pub lastBytes : List Block → List ℕ
+lastBytes [] = []
+lastBytes (b ∷ []) = b .bytes
+lastBytes (b ∷ c ∷ bs) = lastBytes (c ∷ bs)
 
 -- ---- what is printed
 
@@ -46,11 +54,19 @@ answeredBy nothing text = offText
 answeredBy (making.refused k) text = refusedText k
 answeredBy made text = text
 
--- with a span store, a repair store and monitor words, whatever stands there
-unfoldable pub replayed : List ℕ → List Block → List ℕ → List ℕ → List Float → List ℕ
-replayed head blocks spans repairs words =
+-- by the start and the blocks, with a span store, a repair store and monitor words, whatever stands there
+abbrev pub startedText : List ℕ → List Block → List ℕ → List ℕ → List Float → List ℕ
+startedText head blocks spans repairs words =
     let said = startSaid head (firstBytes blocks) (length spans) (length repairs) (length words) in
     answeredBy said (played (machineOf (startState head (firstBytes blocks)) (madeWords 0 said spans) (madeWords 0 said repairs)) 0 blocks)
+
+-- a broken tail, seen at the end, comes before all that the start and the blocks have answered
+abbrev pub endedText : List ℕ → List Block → List ℕ → List ℕ → List Float → List ℕ
+endedText head blocks spans repairs words = textUnless (tailRefusal (lastBytes blocks)) (startedText head blocks spans repairs words)
+
+-- a bad header is answered at once
+unfoldable pub replayed : List ℕ → List Block → List ℕ → List ℕ → List Float → List ℕ
+replayed head blocks spans repairs words = textUnless (headerNumber (headerSaid head)) (endedText head blocks spans repairs words)
 
 -- ---- how a recording is read
 

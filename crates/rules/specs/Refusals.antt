@@ -8,7 +8,7 @@
 --   7               anyUnusable, with its place unusableAt; anyBeyond, with firstBeyondFrom
 --   8, 9, 10        tooMany, badStart, unfitCoefficient
 --   11, 12, 13      badGain, badPhase, badCentre
---   14, 15          replay_format/Format badHeader, noSample
+--   14, 17, 15      replay_format/Format badHeader, brokenTail, noSample
 -- Where each operation's order stands.
 --   making          makingRefusal; 'all off answers nothing' first: chain_make/Making makingSaid
 --   a call          chain/Calls callRefusal
@@ -17,7 +17,7 @@
 --   IQ undo         iqUndoRefusal
 --   DC undo         dcUndoRefusal
 --   validation      validation
---   replay          replay_format/Format startRefusal, then making: replay_start/Starting startSaid
+--   replay          replay_format/Format inputRefusal, then making, then a call's 8: replay_report/Report printed
 use mathlib.Core.Bool.{Bool, not, _&&_, _||_, cond}
 use mathlib.Core.List.{List, [], _∷_}
 use Prim.Native.Nat.{ℕ, suc, _+_, _*_}

@@ -8,7 +8,7 @@ use Rattle.chain_state.specs.declared.InputConditioner.{InputConditioner}
 use Rattle.chain_words.specs.Words.{wordsOf}
 use Rattle.chain_words.specs.States.{stateOf}
 
--- 'nothing'. Other answers are 0, accepted, and document 01's numbers
+-- 'nothing'. Other answers are 0, accepted, and the documents' numbers
 abbrev pub nothingCode : ℕ
 nothingCode = 100
 

@@ -35,7 +35,7 @@ mod making;
 mod recording;
 mod stages;
 
-// The answer 'nothing'. Others are 0, accepted, and document 01's numbers.
+// The answer 'nothing'. Others are 0, accepted, and the documents' numbers.
 pub const NOTHING: u64 = 100;
 
 // How many words are lent for the values of a call, a hop and a span.

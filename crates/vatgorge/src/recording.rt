@@ -1,7 +1,8 @@
-// A recording's header, and the chain that its start makes.
+// A recording's header, the chain that its start makes, and its end.
 
 ghost use mathlib.Core.Path.{_≡_};
 ghost use Rattle.chain_words.specs.States.{stateOf};
+ghost use Rattle.replay_format.specs.Format.{tailRefusal};
 ghost use Rattle.replay_format.specs.Header.{saidHeader, headerNumber, headerSaid};
 ghost use Rattle.replay_start.specs.Starting.{saidStart, startState};
 ghost use Rattle.vatgorge.specs.Codes.{stateAfter};
@@ -44,8 +45,9 @@ fn start_code(answer: StartAnswer) -> u64
     replay_start::start_number(answer)
 }
 
-// Begins with the header's bytes and the first block behind them: 14, 15, and then making, with stores
-// for 256 spans, 1,024 repairs and 8 channels; others are refused by 4. If a chain is made, the state is
+// Begins with the header's bytes and the first block behind them, which has whole samples or is the last:
+// 14, 17, 15, and then making, with stores for 256 spans, 1,024 repairs and 8 channels; others are refused
+// by 4. If a chain is made, the state is
 // written and every word of the stores becomes 0; else all words stay.
 #[no_mangle]
 pub extern "C" fn vg_start(
@@ -67,4 +69,12 @@ pub extern "C" fn vg_start(
     let code = start_code(answer);
     crate::keep(code, fresh, state);
     code
+}
+
+// Ends with the last block: 0, or 17 if its last sample is broken.
+#[no_mangle]
+pub extern "C" fn vg_end(block: &[u8]) -> u64
+    ensures { λ r. ⌜ r ≡ tailRefusal (now (block .entry)) ⌝ }
+{
+    replay_format::words::tail_number(block)
 }

@@ -16,7 +16,7 @@ pub type Hop = [u64; HOP_WORDS];
 pub type Span = [u64; SPAN_WORDS];
 pub type Log = [u64; LOG_WORDS];
 
-/// The answer 'nothing'. Others are 0, accepted, and document 01's numbers.
+/// The answer 'nothing'. Others are 0, accepted, and the documents' numbers.
 pub const NOTHING: u64 = 100;
 
 // A slice is a pointer and a length there.
@@ -49,6 +49,7 @@ mod c {
         pub fn vg_validate(gain: f64, phase: f64, centre: f64) -> u64;
         pub fn vg_header(bytes: Bytes, n: N, config: &mut Config) -> u64;
         pub fn vg_start(h: Bytes, hn: N, b: Bytes, bn: N, state: &mut State, s: Lent, sn: N, r: Lent, rn: N, m: Floats, mn: N) -> u64;
+        pub fn vg_end(block: Bytes, n: N) -> u64;
     }
 }
 
@@ -109,4 +110,7 @@ pub fn vg_start(head: &[u8], block: &[u8], state: &mut State, spans: &mut [u64],
     let (h, b) = (head.as_ptr(), block.as_ptr());
     let (s, r, m) = (spans.len(), repairs.len(), monitor.len());
     unsafe { c::vg_start(h, head.len(), b, block.len(), state, spans.as_mut_ptr(), s, repairs.as_mut_ptr(), r, monitor.as_mut_ptr(), m) }
+}
+pub fn vg_end(block: &[u8]) -> u64 {
+    unsafe { c::vg_end(block.as_ptr(), block.len()) }
 }

@@ -1,4 +1,5 @@
-//! The replay program's input and its printed report (**Afterwards**).
+//! The replay program's input and its printed report (**Afterwards**), and the refusal that document
+//! 02 adds to them (R-4).
 
 use super::chain::{self, Record};
 use super::iq::Settled;
@@ -9,6 +10,9 @@ use std::fmt::Write;
 
 /// "samples from byte 49"
 pub const HEADER: usize = 49;
+
+/// Bytes of a sample: "pairs of f32".
+pub const SAMPLE: usize = 8;
 
 /// "It [..] uses n = 8, 1,024 repairs, 256 spans."
 pub const N: usize = 8;
@@ -57,30 +61,58 @@ pub fn header(input: &[u8]) -> Option<Setting> {
     })
 }
 
-/// "then pairs of f32; little-endian [..]. A tail under 8 bytes is ignored."
+/// "samples from byte 49": the bytes behind the header, none where the input is no longer than it.
+fn behind(input: &[u8]) -> &[u8] {
+    input.get(HEADER..).unwrap_or_default()
+}
+
+/// Whether these bytes, which end a recording and begin where a sample does, end in the middle of
+/// a sample, that is in a "tail of 1 to 7 bytes" (document 02, R-4).
+pub fn broken(bytes: &[u8]) -> bool {
+    !bytes.len().is_multiple_of(SAMPLE)
+}
+
+/// The number that refuses a recording for its form, before making, given its header and the bytes
+/// behind the header. Of `head` the first 49 bytes count; fewer meet 14.
+///
+/// Document 01 says "A tail under 8 bytes is ignored." and "Replay: 14, 15, then making." Document
+/// 02, R-4, overrides both: "A tail of 1 to 7 bytes, ignored so far, is therefore refused with 17,
+/// after 14 and before 15." So the order is 14, 17, 15, then making, and 15, "no whole sample", is
+/// met only where nothing follows the header.
+pub fn refusal(head: &[u8], behind: &[u8]) -> Option<u8> {
+    if header(head).is_none() {
+        Some(14)
+    } else if broken(behind) {
+        Some(17)
+    } else if behind.len() < SAMPLE {
+        Some(15)
+    } else {
+        None
+    }
+}
+
+/// "then pairs of f32; little-endian": the whole samples. An input with a tail behind them is
+/// refused by [`refusal`].
 pub fn samples(input: &[u8]) -> Vec<Sample> {
-    input[HEADER..]
-        .chunks_exact(8)
+    behind(input)
+        .chunks_exact(SAMPLE)
         .map(|b| Sample::of_word(u64::from_le_bytes(b.try_into().expect("eight bytes"))))
         .collect()
 }
 
-/// What the program prints for its whole input. "Replay: 14, 15, then making."; "Refused:
-/// `refused` and its number only. All modes off: `off` only."
+/// What the program prints for its whole input: first what [`refusal`] says, "then making".
+/// "Refused: `refused` and its number only. All modes off: `off` only."
 pub fn printed(input: &[u8]) -> String {
     let refused = |number: u8| format!("refused {number}\n");
-    let Some(setting) = header(input) else {
-        return refused(14);
-    };
-    let raw = samples(input);
-    if raw.is_empty() {
-        return refused(15);
+    if let Some(number) = refusal(input, behind(input)) {
+        return refused(number);
     }
+    let setting = header(input).expect("a header, as 14 is not met");
     match refusals::making(&setting, 6 * REPAIRS, 24 * SPANS, 4 * N) {
         Answer::Nothing => "off\n".to_string(),
         Answer::Refused(r) => refused(r.number),
         Answer::Accepted => {
-            let (xs, replaced) = guard::guarded(&raw);
+            let (xs, replaced) = guard::guarded(&samples(input));
             report(replaced, &chain::whole(&setting, &xs, &[]))
         }
     }

@@ -12,14 +12,14 @@ use Rattle.replay.proofs.turn.Tie as tie
 none : (n : ℕ) (xs : List ℕ) → n ≡ 0 → Counts n xs
 none n xs e = rw e (omega arith, refl)
 
-slice-reshare-prefix-feed : tie.Need-slice-reshare-prefix-feed
-slice-reshare-prefix-feed c = search needs
+slice-reshare-prefix-take : tie.Need-slice-reshare-prefix-take
+slice-reshare-prefix-take c = search needs
 
-slice-aggregate-feed : tie.Need-slice-aggregate-feed
-slice-aggregate-feed c = search needs
+slice-aggregate-take : tie.Need-slice-aggregate-take
+slice-aggregate-take c = search needs
 
-feed-requires : tie.Need-feed-requires
-feed-requires c κs = search needs
+take-requires : tie.Need-take-requires
+take-requires c κs = search needs
 
 same-length : tie.Need-same-length
 same-length c = search needs
@@ -34,7 +34,10 @@ same-length-4 : tie.Need-same-length-4
 same-length-4 c = search needs
 
 returns : tie.Need-returns
-returns c = none _ _ (c .before .before .before .before .before .before .before .before .feed .ensures)
+returns c = none _ _ (c .before .before .before .before .before .before .before .take .ensures)
+
+read-requires : tie.Need-read-requires
+read-requires c κs = search needs
 
 same-length-5 : tie.Need-same-length-5
 same-length-5 c = search needs
@@ -49,46 +52,23 @@ same-length-8 : tie.Need-same-length-8
 same-length-8 c = search needs
 
 returns-2 : tie.Need-returns-2
-returns-2 c = none _ _ (c .before .before .before .before .before .before .before .before .before .feed .ensures)
-
-read-requires : tie.Need-read-requires
-read-requires c κs = search needs
-
-same-length-9 : tie.Need-same-length-9
-same-length-9 c = search needs
-
-same-length-10 : tie.Need-same-length-10
-same-length-10 c = search needs
-
-same-length-11 : tie.Need-same-length-11
-same-length-11 c = search needs
-
-same-length-12 : tie.Need-same-length-12
-same-length-12 c = search needs
-
-returns-3 : tie.Need-returns-3
-returns-3 c = search needs
+returns-2 c = search needs
 
 pub turn-spec : {M : Type 1} → statement M
 turn-spec =
     tie.close
     (tie.spec
-    slice-reshare-prefix-feed
-    slice-aggregate-feed
-    feed-requires
+    slice-reshare-prefix-take
+    slice-aggregate-take
+    take-requires
     same-length
     same-length-2
     same-length-3
     same-length-4
     returns
+    read-requires
     same-length-5
     same-length-6
     same-length-7
     same-length-8
-    returns-2
-    read-requires
-    same-length-9
-    same-length-10
-    same-length-11
-    same-length-12
-    returns-3)
+    returns-2)

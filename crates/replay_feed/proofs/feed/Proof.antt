@@ -11,6 +11,7 @@ use Rattle.rules.specs.Guard.{unusable}
 use Rattle.chain.specs.Stages.{machineOf}
 use Rattle.chain.specs.Calls.{unreadRefusal, taken}
 use Rattle.chain.specs.laws.CallTests.{told-number}
+use Rattle.replay_format.specs.Format.{sampleSize}
 use Rattle.replay_feed.specs.Feeding.{BlockOutcome}
 use Rattle.replay_feed.specs.laws.FeedingLaws.{many, block-refused, block-taken}
 use Rattle.replay_feed.proofs.Parts.{part-words, call-slice, call-long, call-behind}
@@ -146,7 +147,7 @@ returns-2 c =
           (λ i. out i ++ back i) ∙ ap (λ (o : BlockOutcome). o .samples) e,
           (
             read .1 ∙ ap unusable (part-words (a .state) (now (a .bytes)) (now (a .samples)) _ _ held new) ∙ ap (λ (o : BlockOutcome). o .replaced) e,
-            ap (λ (k : ℕ). 8 * k) (sym (many (a .state) (now (a .bytes)) (now (a .samples)) _ _ held new)) ∙ ap (λ (o : BlockOutcome). o .taken) e,
+            ap (λ (k : ℕ). sampleSize * k) (sym (many (a .state) (now (a .bytes)) (now (a .samples)) _ _ held new)) ∙ ap (λ (o : BlockOutcome). o .taken) e,
           ),
         ),
       ),

@@ -18,7 +18,7 @@ use Rattle.chain_state.specs.declared.InputConditioner.{InputConditioner}
 use Rattle.chain.specs.Stages.{newPart, Machine, machineOf}
 use Rattle.chain.specs.Calls.{unreadRefusal, toldUnread, Outcome, taken, called}
 use Rattle.chain.specs.laws.CallTests.{scan-all, passes, unread-declined, accepted-call}
-use Rattle.replay_format.specs.Format.{wordsIn}
+use Rattle.replay_format.specs.Format.{sampleSize, wordsIn}
 use Rattle.replay_format.specs.laws.FormatLaws.{words-many}
 use Rattle.replay_feed.specs.Feeding.{heldIn, newMany, newWords, slice, behind, takenBlock, refusedBlock, fed}
 
@@ -52,9 +52,10 @@ fed-said m bytes samples = go (eqb (numberOf (o .said)) 0)
 
 -- ---- the slice
 
-module _ (c : InputConditioner) (bytes samples : List ℕ) (a k : ℕ) (held : a ≡ heldIn c samples) (new : k ≡ min (length bytes / 8) (length samples - a)) where
+module _ (c : InputConditioner) (bytes samples : List ℕ) (a k : ℕ) (held : a ≡ heldIn c samples)
+    (new : k ≡ min (length bytes / sampleSize) (length samples - a)) where
   pub many : newMany c bytes samples ≡ k
-  many = ap (λ (n : ℕ). min (length bytes / 8) (length samples - n)) (sym held) ∙ sym new
+  many = ap (λ (n : ℕ). min (length bytes / sampleSize) (length samples - n)) (sym held) ∙ sym new
 
   pub inside : a + k ≤ length samples
   inside = omega (arith, held, new)

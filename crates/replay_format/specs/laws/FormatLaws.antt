@@ -1,14 +1,19 @@
--- A word by its bytes, and the words of a list of bytes. Assumes nothing.
+-- A word by its bytes, the words of a list of bytes, and which number refuses a recording. Assumes nothing.
 use mathlib.Core.Path.{_≡_, refl, ap, sym, _∙_}
+use mathlib.Core.Bool.{Bool, true, false, cond, not}
 use mathlib.Core.List.{List, _++_, append-nil}
-use Prim.Native.Nat.{ℕ, suc, _+_, _*_, _/_, _≤_, _<_}
+use Prim.Native.Nat.{ℕ, suc, _+_, _*_, _/_, _%_, _≤_, _<_}
+use native.Mathlib.Decide.{decLt}
 use native.Mathlib.Numerals.{add-one}
 use native.Mathlib.Omega.{arith}
+use borrow.Author.Tests.{eq-eqb, ne-eqb}
+use lib.Dec.{eqb}
 use lib.ListN.{length, take, drop, set, length-set}
 use lib.Seq.{drop-cons, drop-length, paste, paste-zero, paste-suc}
 use Rattle.rules.specs.Lists.{at}
+use Rattle.rules.specs.Refusals.{firstOf}
 use Rattle.rules.specs.laws.ListLaws.{length-upTo, getD-upTo}
-use Rattle.replay_format.specs.Format.{littleEndian, wordAt, wordsIn}
+use Rattle.replay_format.specs.Format.{littleEndian, wordAt, sampleSize, wordsIn, headerFits, startRefusal, tailRefusal}
 
 -- one byte, and those behind it, from j on
 little-next : (bytes : List ℕ) (k j n : ℕ) → suc k ≡ j → k < length bytes
@@ -41,13 +46,13 @@ word-by-halves bytes k h =
 
 -- ---- the words of a list of bytes
 
-pub words-many : (bytes : List ℕ) → length (wordsIn bytes) ≡ length bytes / 8
+pub words-many : (bytes : List ℕ) → length (wordsIn bytes) ≡ length bytes / sampleSize
 unfolding wordsIn
-words-many bytes = length-upTo (λ k. wordAt bytes (8 * k)) (length bytes / 8)
+words-many bytes = length-upTo (λ k. wordAt bytes (sampleSize * k)) (length bytes / sampleSize)
 
-pub words-at : (bytes : List ℕ) (k : ℕ) → k < length bytes / 8 → at (wordsIn bytes) k ≡ wordAt bytes (8 * k)
+pub words-at : (bytes : List ℕ) (k : ℕ) → k < length bytes / sampleSize → at (wordsIn bytes) k ≡ wordAt bytes (sampleSize * k)
 unfolding wordsIn
-words-at bytes k h = getD-upTo 0 (λ k. wordAt bytes (8 * k)) (length bytes / 8) k h
+words-at bytes k h = getD-upTo 0 (λ k. wordAt bytes (sampleSize * k)) (length bytes / sampleSize) k h
 
 -- ---- words read one by one into a store: those before k are read, the others as they were
 
@@ -56,19 +61,19 @@ pub record Reading (bytes words₀ words : List ℕ) (k : ℕ) : Type 0 where
   pub same : length words ≡ length words₀
   pub so-far : words ≡ paste words₀ 0 (wordsIn bytes) k
 
-module _ (bytes words₀ : List ℕ) (enough : 8 * length words₀ ≤ length bytes) where
+module _ (bytes words₀ : List ℕ) (enough : sampleSize * length words₀ ≤ length bytes) where
   pub reading-start : Reading bytes words₀ words₀ 0
   reading-start = record { within = omega arith; same = refl; so-far = paste-zero words₀ 0 (wordsIn bytes) }
 
   pub reading-next : (words : List ℕ) (k : ℕ) → k < length words₀ → Reading bytes words₀ words k
-      → Reading bytes words₀ (set words k (wordAt bytes (8 * k))) (k + 1)
+      → Reading bytes words₀ (set words k (wordAt bytes (sampleSize * k))) (k + 1)
   reading-next words k h r =
       let many : k < length (wordsIn bytes) = omega (arith, words-many bytes) in
       record {
         within = omega arith;
-        same = length-set words k (wordAt bytes (8 * k)) ∙ r .same;
+        same = length-set words k (wordAt bytes (sampleSize * k)) ∙ r .same;
         so-far =
-            ap (λ (ws : List ℕ). set ws k (wordAt bytes (8 * k))) (r .so-far)
+            ap (λ (ws : List ℕ). set ws k (wordAt bytes (sampleSize * k))) (r .so-far)
             ∙ ap (λ (w : ℕ). set (paste words₀ 0 (wordsIn bytes) k) k w) (sym (words-at bytes k (omega (arith, words-many bytes))))
             ∙ ap (λ (n : ℕ). set (paste words₀ 0 (wordsIn bytes) k) n (at (wordsIn bytes) k)) (let z : k ≡ 0 + k = omega arith in z)
             ∙ paste-suc words₀ 0 (wordsIn bytes) k 0 (omega arith) many
@@ -84,3 +89,45 @@ module _ (bytes words₀ : List ℕ) (enough : 8 * length words₀ ≤ length by
       ∙ ap (λ (n : ℕ). take (length words₀) (wordsIn bytes) ++ drop n words₀) end
       ∙ ap (λ (ws : List ℕ). take (length words₀) (wordsIn bytes) ++ ws) (drop-length words₀)
       ∙ append-nil (take (length words₀) (wordsIn bytes))
+
+-- ---- which number refuses a recording
+
+module _ (bytes : List ℕ) where
+  pub tail-refused : (length bytes % sampleSize ≡ 0 → ⊥) → tailRefusal bytes ≡ 17
+  unfolding tailRefusal firstOf
+  tail-refused n = ap (λ (b : Bool). cond (not b) 17 0) (ne-eqb (length bytes % sampleSize) 0 n)
+
+  pub tail-passes : length bytes % sampleSize ≡ 0 → tailRefusal bytes ≡ 0
+  unfolding tailRefusal firstOf
+  tail-passes e = ap (λ (b : Bool). cond (not b) 17 0) (eq-eqb (length bytes % sampleSize) 0 e)
+
+  -- back from the number
+  pub whole-by : tailRefusal bytes ≡ 0 → length bytes % sampleSize ≡ 0
+  whole-by z = go (decLt 0 (length bytes % sampleSize))
+    where
+      go : Dec (0 < length bytes % sampleSize) → length bytes % sampleSize ≡ 0
+      go (yes h) = let seventeen = tail-refused (λ (e : length bytes % sampleSize ≡ 0). omega arith) in absurd (omega (arith, z, seventeen))
+      go (no h) = omega arith
+
+module _ (head bytes : List ℕ) where
+  -- by the answers of the three tests
+  refusal-by : (fits whole none : Bool) → headerFits head ≡ fits → eqb (length bytes % sampleSize) 0 ≡ whole → eqb (length (wordsIn bytes)) 0 ≡ none
+      → startRefusal head bytes ≡ cond (not fits) 14 (cond (not whole) 17 (cond none 15 0))
+  unfolding startRefusal firstOf
+  refusal-by fits whole none e f g = λ i. cond (not (e i)) 14 (cond (not (f i)) 17 (cond (g i) 15 0))
+
+  pub bad-header : headerFits head ≡ false → startRefusal head bytes ≡ 14
+  bad-header e = refusal-by false _ _ e refl refl
+
+  module _ (e : headerFits head ≡ true) where
+    pub broken-tail : (length bytes % sampleSize ≡ 0 → ⊥) → startRefusal head bytes ≡ 17
+    broken-tail n = refusal-by true false _ e (ne-eqb (length bytes % sampleSize) 0 n) refl
+
+    pub no-sample : length bytes ≡ 0 → startRefusal head bytes ≡ 15
+    no-sample z =
+        refusal-by true true true e (eq-eqb (length bytes % sampleSize) 0 (omega arith)) (eq-eqb (length (wordsIn bytes)) 0 (omega (arith, words-many bytes)))
+
+    pub some-sample : length bytes % sampleSize ≡ 0 → (length bytes ≡ 0 → ⊥) → startRefusal head bytes ≡ 0
+    some-sample f n =
+        refusal-by true true false e (eq-eqb (length bytes % sampleSize) 0 f)
+        (ne-eqb (length (wordsIn bytes)) 0 (λ (z : length (wordsIn bytes) ≡ 0). n (omega (arith, words-many bytes))))

@@ -18,7 +18,7 @@ use Rattle.stage_mode.specs.View.{modeOf}
 use Rattle.chain_config.specs.declared.ConditioningConfig.{ConditioningConfig}
 use Rattle.chain_config.specs.Config.{configOf}
 use Rattle.replay_format.specs.Format.{headerSize, markFits, modesFit, headerFits, modeBy, calibrationBy, configIn}
-use Rattle.replay_format.specs.Header.{Said, refused, config, headerSaid, modeFrom, calibrationFrom, configFrom}
+use Rattle.replay_format.specs.Header.{Said, refused, config, headerNumber, headerSaid, modeFrom, calibrationFrom, configFrom}
 
 -- ---- tests
 
@@ -72,6 +72,11 @@ module _ (bytes : List ℕ) where
       let fits : headerFits bytes ≡ true = fits-said ∙ ap isConfig (sym e) in
       let said : headerSaid bytes ≡ config (configIn bytes) = ap (λ (t : Bool). cond t (config (configIn bytes)) (refused 14)) fits in
       (fits, cc)
+
+  pub number-by : (fits : Bool) → headerFits bytes ≡ fits → headerNumber (headerSaid bytes) ≡ cond fits 0 14
+  unfolding headerSaid
+  number-by true e = ap (λ (t : Bool). headerNumber (cond t (config (configIn bytes)) (refused 14))) e
+  number-by false e = ap (λ (t : Bool). headerNumber (cond t (config (configIn bytes)) (refused 14))) e
 
 -- ---- a configuration
 

@@ -1,11 +1,12 @@
--- A recording read block by block: whole samples of whole blocks, and a header that what follows it does not change. Assumes nothing.
+-- A recording read block by block: whole samples of whole blocks, a header that what follows it does not change, and what the first block and
+-- the last show of all bytes. Assumes nothing.
 use mathlib.Core.Path.{_≡_, refl, ap, sym, _∙_}
-use mathlib.Core.Bool.{cond, _&&_}
+use mathlib.Core.Bool.{Bool, false, cond, _&&_}
 use mathlib.Core.List.{List, [], _∷_, _++_, append-assoc, append-nil, map-append}
-use Prim.Native.Nat.{ℕ, zero, suc, _+_, _*_, _/_, _≤_, _<_}
+use Prim.Native.Nat.{ℕ, zero, suc, _+_, _*_, _/_, _%_, _≤_, _<_}
 use native.Mathlib.Numerals.{unary-clauses}
 use native.Mathlib.Omega.{arith}
-use borrow.Author.Tests.{le-leb}
+use borrow.Author.Tests.{le-leb, lt-leb}
 use lib.Dec.{leb, eqb}
 use lib.ListN.{length, take, drop, length-append, length-drop, List·getD-append}
 use lib.Seq.{take-append-le, drop-append-le, drop-append-add, drop-append-seam}
@@ -13,7 +14,9 @@ use lib.Ieee.{binary64, ofBits}
 use Rattle.rules.specs.Lists.{upTo, at}
 use Rattle.rules.specs.laws.ListLaws.{upTo-same, length-map}
 use Rattle.rules.specs.Guard.{usable, guarded, unusable}
-use Rattle.replay_format.specs.Format.{littleEndian, wordAt, wordsIn, headerFits, headerSize, modeBy, calibrationBy, configIn, realAt}
+use Rattle.replay_format.specs.Format.{littleEndian, wordAt, sampleSize, wordsIn, headerSize, markFits, modesFit, headerFits}
+use Rattle.replay_format.specs.Format.{modeBy, calibrationBy, configIn, realAt}
+use Rattle.replay_theorem.specs.Replay.{Block, joined, firstBytes, lastBytes, Read}
 
 -- ---- words
 
@@ -35,24 +38,27 @@ unfolding wordAt
 word-back xs ys k = ap (λ (l : List ℕ). littleEndian (take 8 l)) (drop-append-add xs ys k)
 
 -- a first part of whole words
-pub words-append : (xs ys : List ℕ) (m : ℕ) → length xs ≡ 8 * m → wordsIn (xs ++ ys) ≡ wordsIn xs ++ wordsIn ys
+pub words-append : (xs ys : List ℕ) (m : ℕ) → length xs ≡ sampleSize * m → wordsIn (xs ++ ys) ≡ wordsIn xs ++ wordsIn ys
 unfolding wordsIn
 words-append xs ys m e =
-    let a : length (xs ++ ys) / 8 ≡ m + length ys / 8 = omega (arith, length-append xs ys) in
-    let b : length xs / 8 ≡ m = omega arith in
-    ap (upTo (λ k. wordAt (xs ++ ys) (8 * k))) a
-    ∙ upTo-append (λ k. wordAt (xs ++ ys) (8 * k)) m (length ys / 8)
+    let a : length (xs ++ ys) / sampleSize ≡ m + length ys / sampleSize = omega (arith, length-append xs ys) in
+    let b : length xs / sampleSize ≡ m = omega arith in
+    ap (upTo (λ k. wordAt (xs ++ ys) (sampleSize * k))) a
+    ∙ upTo-append (λ k. wordAt (xs ++ ys) (sampleSize * k)) m (length ys / sampleSize)
     ∙ (λ i.
-    (upTo-same (λ k. wordAt (xs ++ ys) (8 * k)) (λ k. wordAt xs (8 * k)) m (λ k l. word-front xs ys (8 * k) (omega arith))
-    ∙ ap (upTo (λ k. wordAt xs (8 * k))) (sym b)) i
-    ++ upTo-same (λ k. wordAt (xs ++ ys) (8 * (m + k))) (λ k. wordAt ys (8 * k)) (length ys / 8)
-    (λ k l. ap (wordAt (xs ++ ys)) (let q : 8 * (m + k) ≡ length xs + 8 * k = omega arith in q) ∙ word-back xs ys (8 * k)) i)
+    (upTo-same (λ k. wordAt (xs ++ ys) (sampleSize * k)) (λ k. wordAt xs (sampleSize * k)) m (λ k l. word-front xs ys (sampleSize * k) (omega arith))
+    ∙ ap (upTo (λ k. wordAt xs (sampleSize * k))) (sym b)) i
+    ++ upTo-same (λ k. wordAt (xs ++ ys) (sampleSize * (m + k))) (λ k. wordAt ys (sampleSize * k)) (length ys / sampleSize)
+    (λ k l. ap (wordAt (xs ++ ys)) (let q : sampleSize * (m + k) ≡ length xs + sampleSize * k = omega arith in q) ∙ word-back xs ys (sampleSize * k)) i)
 
 pub no-words : wordsIn [] ≡ []
 unfolding wordsIn upTo
 no-words = refl
 
 -- ---- the header
+
+pub too-short : (l : List ℕ) → length l < headerSize → headerFits l ≡ false
+too-short l h = ap (λ (b : Bool). b && markFits l && modesFit l) (lt-leb 49 (length l) h)
 
 module _ (head rest : List ℕ) (long : length head ≡ headerSize) where
   byte : (k : ℕ) → k < 49 → at (head ++ rest) k ≡ at head k
@@ -91,6 +97,27 @@ module _ (head rest : List ℕ) (long : length head ≡ headerSize) where
 
   pub behind-header : drop headerSize (head ++ rest) ≡ rest
   behind-header = ap (λ (n : ℕ). drop n (head ++ rest)) (sym long) ∙ drop-append-seam head rest
+
+-- ---- what the first block and the last show of all bytes
+
+pub same-tail : (bs : List Block) → Read bs → length (lastBytes bs) % sampleSize ≡ length (joined bs) % sampleSize
+same-tail [] t = refl
+same-tail (b ∷ []) t = ap (λ (l : List ℕ). length l % sampleSize) (sym (append-nil (b .bytes)))
+same-tail (b ∷ c ∷ bs) t = let r = same-tail (c ∷ bs) (t .1 .1) in omega (arith, r, length-append (b .bytes) (joined (c ∷ bs)), t .1 .0)
+
+pub first-whole : (bs : List Block) → Read bs → length (joined bs) % sampleSize ≡ 0 → length (firstBytes bs) % sampleSize ≡ 0
+first-whole [] t e = e
+first-whole (b ∷ []) t e = ap (λ (l : List ℕ). length l % sampleSize) (sym (append-nil (b .bytes))) ∙ e
+first-whole (b ∷ c ∷ bs) t e = omega (arith, t .1 .0)
+
+pub first-none : (bs : List Block) → length (joined bs) ≡ 0 → length (firstBytes bs) ≡ 0
+first-none [] e = e
+first-none (b ∷ bs) e = omega (arith, e, length-append (b .bytes) (joined bs))
+
+pub first-some : (bs : List Block) → Read bs → 0 < length (joined bs) → 0 < length (firstBytes bs)
+first-some [] t h = h
+first-some (b ∷ []) t h = omega (arith, h, length-append (b .bytes) [])
+first-some (b ∷ c ∷ bs) t h = omega (arith, t .1 .0)
 
 -- ---- guarding
 

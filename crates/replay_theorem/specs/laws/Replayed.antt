@@ -1,13 +1,12 @@
--- A replay prints what document 01's rules give for the whole recording, however long it is. Assumes nothing.
+-- A replay prints what the rules give for the whole recording, however long it is. Assumes nothing.
 use mathlib.Core.Path.{_≡_, refl, ap, sym, _∙_, subst}
-use mathlib.Core.Bool.{Bool, true, false, cond, not, _&&_}
+use mathlib.Core.Bool.{Bool, true, false, cond, _&&_}
 use mathlib.Core.List.{List, [], _∷_, _++_, append-assoc, append-nil, sum}
-use Prim.Native.Nat.{ℕ, zero, suc, _+_, _-_, _*_, _/_, _^_, _≤_, _<_}
+use Prim.Native.Nat.{ℕ, zero, suc, _+_, _-_, _*_, _/_, _%_, _^_, _≤_, _<_}
 use native.Mathlib.Nat.{suc-mul, min-eq-left}
 use native.Mathlib.Decide.{decLt}
 use native.Mathlib.Omega.{arith}
-use borrow.Author.Tests.{lt-ltb, le-ltb, le-leb, lt-leb, eq-eqb, ne-eqb}
-use lib.Dec.{eqb}
+use borrow.Author.Tests.{lt-ltb, le-ltb, le-leb, eq-eqb}
 use lib.ListN.{length, take, drop, length-append}
 use lib.Ieee.{Float}
 use lib.Seq.{take-all}
@@ -43,8 +42,9 @@ use Rattle.one_record.specs.laws.Reaching.{core, chainAt, Reached, machine-more
 use Rattle.one_record.specs.laws.Hopping.{withHops}
 use Rattle.one_record.specs.laws.Fresh.{fresh-is, made-is}
 use Rattle.one_record.specs.laws.OneRecord.{at-rules, at-few, spans-long, call-accepted, call-beyond}
-use Rattle.replay_format.specs.Format.{markFits, modesFit, headerFits, headerSize, configIn, wordsIn, samplesIn, startRefusal, inputRefusal, unlessRefused}
-use Rattle.replay_format.specs.laws.FormatLaws.{words-many}
+use Rattle.replay_format.specs.Format.{headerFits, headerSize, sampleSize, configIn, wordsIn, samplesIn, startRefusal, inputRefusal, unlessRefused}
+use Rattle.replay_format.specs.laws.FormatLaws.{words-many, tail-refused, tail-passes, bad-header, broken-tail, no-sample, some-sample}
+use Rattle.replay_format.specs.laws.HeaderLaws.{number-by}
 use Rattle.replay_format.specs.Header.{modeFrom, calibrationFrom, configFrom}
 use Rattle.replay_feed.specs.Feeding.{heldIn, newMany, newWords, slice, takenBlock, fed}
 use Rattle.replay_feed.specs.laws.FeedingLaws as feeding
@@ -54,8 +54,8 @@ use Rattle.replay_report.specs.Report.{Ring, ringsOf, ringBy, reportText, repor
 use Rattle.replay_text.specs.Notices.{refusedText, offText}
 use Rattle.replay_report.specs.Shown.{shownSpans, shownRing, reportIn}
 use Rattle.replay_theorem.specs.laws.BlockLaws.{words-append, no-words, same-fits, same-config, behind-header, guarded-append, guarded-count}
-use Rattle.replay_theorem.specs.laws.BlockLaws.{unusable-append}
-use Rattle.replay_theorem.specs.Replay.{Block, joined, firstBytes, afterCall, played, answeredBy, replayed, Fits, Read}
+use Rattle.replay_theorem.specs.laws.BlockLaws.{unusable-append, same-tail, first-whole, first-none, first-some, too-short}
+use Rattle.replay_theorem.specs.Replay.{Block, joined, firstBytes, afterCall, played, answeredBy, startedText, endedText, replayed, Fits, Read}
 
 -- ---- the configuration in the code's types is the header's
 
@@ -229,8 +229,8 @@ module _ (g : ConditioningConfig) (f : Fit g) where
     new-all : newWords (machine .state) (b .bytes) (b .store) ≡ wordsIn (b .bytes)
     unfolding newWords
     new-all =
-        let n : newMany (machine .state) (b .bytes) (b .store) ≡ length (b .bytes) / 8 = omega (arith, held-few, t .room, t .most) in
-        ap (λ (k : ℕ). take k words) n ∙ take-all (length (b .bytes) / 8) words (omega (arith, words-many (b .bytes)))
+        let n : newMany (machine .state) (b .bytes) (b .store) ≡ length (b .bytes) / sampleSize = omega (arith, held-few, t .room, t .most) in
+        ap (λ (k : ℕ). take k words) n ∙ take-all (length (b .bytes) / sampleSize) words (omega (arith, words-many (b .bytes)))
 
     abbrev part : List ℕ
     part = slice (machine .state) (b .bytes) (b .store)
@@ -357,55 +357,46 @@ module _ (g : ConditioningConfig) (spans repairs : List ℕ) (words : List Float
 
 -- a header of fewer than 49 bytes is all there is
 module _ (head : List ℕ) (bs : List Block) (most : length head ≤ headerSize) (short : length head < headerSize → joined bs ≡ []) (t : Read bs) where
-  -- 14 and 15 are seen from the header and the first block
-  none-first : (bs : List Block) → Read bs → eqb (length (wordsIn (firstBytes bs))) 0 ≡ eqb (length (wordsIn (joined bs))) 0
-  none-first [] t = refl
-  none-first (b ∷ []) t = ap (λ (l : List ℕ). eqb (length (wordsIn l)) 0) (sym (append-nil (b .bytes)))
-  none-first (b ∷ c ∷ bs) t =
-      let some : 0 < length (wordsIn (b .bytes)) = omega (arith, words-many (b .bytes), t .1 .0) in
-      let all : 0 < length (wordsIn (joined (b ∷ c ∷ bs))) =
-      omega (arith, words-many (joined (b ∷ c ∷ bs)), length-append (b .bytes) (joined (c ∷ bs)), t .1 .0) in
-      ne-eqb (length (wordsIn (b .bytes))) 0 (λ (q : length (wordsIn (b .bytes)) ≡ 0). omega (arith, some, q))
-      ∙ sym (ne-eqb (length (wordsIn (joined (b ∷ c ∷ bs)))) 0 (λ (q : length (wordsIn (joined (b ∷ c ∷ bs))) ≡ 0). omega (arith, all, q)))
-
-  too-short : (l : List ℕ) → length l < 49 → headerFits l ≡ false
-  too-short l h = ap (λ (b : Bool). b && markFits l && modesFit l) (lt-leb 49 (length l) h)
-
-  same-refusal : startRefusal head (firstBytes bs) ≡ inputRefusal (head ++ joined bs)
-  unfolding startRefusal firstOf
-  same-refusal = go (decLt (length head) 49)
-    where
-      go : Dec (length head < 49) → startRefusal head (firstBytes bs) ≡ inputRefusal (head ++ joined bs)
-      go (yes h) =
-          let l : length (head ++ joined bs) < 49 = omega (arith, length-append head (joined bs), ap length (short h), h) in
-          ap (λ (b : Bool). cond (not b) 14 (cond (eqb (length (wordsIn (firstBytes bs))) 0) 15 0)) (too-short head h)
-          ∙ sym (ap (λ (b : Bool). cond (not b) 14 (cond (eqb (length (wordsIn (drop headerSize (head ++ joined bs)))) 0) 15 0))
-          (too-short (head ++ joined bs) l))
-      go (no h) =
-          let l : length head ≡ headerSize = omega arith in
-          λ i. cond (not (sym (same-fits head (joined bs) l) i)) 14
-          (cond ((none-first bs t ∙ ap (λ (x : List ℕ). eqb (length (wordsIn x)) 0) (sym (behind-header head (joined bs) l))) i) 15 0)
-
-  -- where neither holds there is a whole header
-  whole-header : startRefusal head (firstBytes bs) ≡ 0 → length head ≡ headerSize
-  unfolding startRefusal firstOf
-  whole-header z = go (decLt (length head) 49)
+  -- a header that fits is a whole one
+  whole-header : headerFits head ≡ true → length head ≡ headerSize
+  whole-header e = go (decLt (length head) 49)
     where
       go : Dec (length head < 49) → length head ≡ headerSize
-      go (yes h) =
-          let q : _≡_ {A = ℕ} 14 0 = sym (ap (λ (b : Bool). cond (not b) 14 (cond (eqb (length (wordsIn (firstBytes bs))) 0) 15 0)) (too-short head h)) ∙ z in
-          absurd (omega arith)
+      go (yes h) = let z : _≡_ {A = ℕ} 0 14 = sym (number-by head true e) ∙ number-by head false (too-short head h) in absurd (omega (arith, z))
       go (no h) = omega arith
 
-  module _ (spans repairs : List ℕ) (words : List Float) (a : length spans ≡ 6144) (b : length repairs ≡ 6144) (d : length words ≡ 32) where
-    abbrev config : Config
-    config = configIn head
+  bad-input : headerFits head ≡ false → headerFits (head ++ joined bs) ≡ false
+  bad-input e = go (decLt (length head) 49)
+    where
+      go : Dec (length head < 49) → headerFits (head ++ joined bs) ≡ false
+      go (yes h) = too-short (head ++ joined bs) (omega (arith, length-append head (joined bs), ap length (short h), h))
+      go (no h) = same-fits head (joined bs) (omega arith) ∙ e
 
+  module _ (e : headerFits head ≡ true) where
+    fits : headerFits (head ++ joined bs) ≡ true
+    fits = same-fits head (joined bs) (whole-header e) ∙ e
+
+    by-bytes : inputRefusal (head ++ joined bs) ≡ startRefusal (head ++ joined bs) (joined bs)
+    by-bytes = ap (startRefusal (head ++ joined bs)) (behind-header head (joined bs) (whole-header e))
+
+    -- without a tail, 15 is seen from the first block
+    same-refusal : length (joined bs) % sampleSize ≡ 0 → startRefusal head (firstBytes bs) ≡ inputRefusal (head ++ joined bs)
+    same-refusal z = go (decLt 0 (length (joined bs)))
+      where
+        go : Dec (0 < length (joined bs)) → startRefusal head (firstBytes bs) ≡ inputRefusal (head ++ joined bs)
+        go (yes h) =
+            some-sample head (firstBytes bs) e (first-whole bs t z) (λ q. omega (arith, q, first-some bs t h))
+            ∙ sym (by-bytes ∙ some-sample (head ++ joined bs) (joined bs) fits z (λ q. omega (arith, q, h)))
+        go (no h) =
+            let none : length (joined bs) ≡ 0 = omega arith in
+            no-sample head (firstBytes bs) e (first-none bs none) ∙ sym (by-bytes ∙ no-sample (head ++ joined bs) (joined bs) fits none)
+
+  module _ (spans repairs : List ℕ) (words : List Float) (a : length spans ≡ 6144) (b : length repairs ≡ 6144) (d : length words ≡ 32) where
     abbrev g : ConditioningConfig
     g = configFrom (configIn head)
 
-    abbrev answer : making.Said
-    answer = makingSaid (configIn head) (length spans) (length repairs) (length words)
+    abbrev ruled : ℕ → List ℕ
+    ruled k = textUnless k (playedText (configIn (head ++ joined bs)) (samplesIn (head ++ joined bs)))
 
     -- making's answers
     made-by : (all : Bool) (k : ℕ) → allOff (configIn head) ≡ all → refusal (configIn head) (length spans) (length repairs) (length words) ≡ k
@@ -424,23 +415,49 @@ module _ (head : List ℕ) (bs : List Block) (most : length head ≤ headerSize)
         ∙ made-text g spans repairs words e bs t
         ∙ ap (λ (x : Config). textUnless (firstOf (tooMany 0 (length (wordsIn (joined bs))) ∷ [])) (reportText (reportBy x (wordsIn (joined bs))))) c
 
-    text-is : (k : ℕ) → startRefusal head (firstBytes bs) ≡ k
+    -- and a start's
+    text-is : headerFits head ≡ true → (k : ℕ)
         → let s = unlessRefused k (makingSaid (configIn head) (length spans) (length repairs) (length words)) making.refused in
         answeredBy s
         (played (machineOf (freshState (unlessRefused k (configFrom (configIn head)) (λ n. idle))) (madeWords 0 s spans) (madeWords 0 s repairs)) 0 bs)
-        ≡ textUnless k (playedText (configIn (head ++ joined bs)) (samplesIn (head ++ joined bs)))
+        ≡ ruled k
     unfolding makingSaid
-    text-is (suc k) z = refl
-    text-is zero z =
-        let l = whole-header z in
+    text-is e (suc k) = refl
+    text-is e zero =
+        let l = whole-header e in
         made-by (allOff (configIn head)) (refusal (configIn head) (length spans) (length repairs) (length words)) refl refl
         ∙ (λ i. cond (allOff (configIn head)) offText
         (textUnless (refusal (configIn head) (a i) (b i) (d i))
         (textUnless (firstOf (tooMany 0 (length (wordsIn (joined bs))) ∷ [])) (reportText (reportBy (configIn head) (wordsIn (joined bs)))))))
         ∙ (λ i. playedText (sym (same-config head (joined bs) l) i) (wordsIn (sym (behind-header head (joined bs) l) i)))
 
+    -- a header that fits: 17 by the last block, and then what the start and the blocks answer
+    ended-is : headerFits head ≡ true → endedText head bs spans repairs words ≡ ruled (inputRefusal (head ++ joined bs))
+    unfolding startSaid startState
+    ended-is e = go (decLt 0 (length (joined bs) % sampleSize))
+      where
+        go : Dec (0 < length (joined bs) % sampleSize) → endedText head bs spans repairs words ≡ ruled (inputRefusal (head ++ joined bs))
+        go (yes h) =
+            ap (λ (k : ℕ). textUnless k (startedText head bs spans repairs words)) (tail-refused _ (λ q. omega (arith, q, same-tail bs t, h)))
+            ∙ sym (ap ruled (by-bytes e ∙ broken-tail (head ++ joined bs) (joined bs) (fits e) (λ q. omega (arith, q, h))))
+        go (no h) =
+            let z : length (joined bs) % sampleSize ≡ 0 = omega arith in
+            ap (λ (k : ℕ). textUnless k (startedText head bs spans repairs words)) (tail-passes _ (omega (arith, same-tail bs t, z)))
+            ∙ text-is e (startRefusal head (firstBytes bs))
+            ∙ ap ruled (same-refusal e z)
+
     -- what is printed is what the rules give for the whole recording
     pub replay-is : replayed head bs spans repairs words ≡ printed (head ++ joined bs)
-    unfolding replayed printed startSaid startState
-    replay-is = text-is (startRefusal head (firstBytes bs)) refl
-        ∙ ap (λ (k : ℕ). textUnless k (playedText (configIn (head ++ joined bs)) (samplesIn (head ++ joined bs)))) same-refusal
+    unfolding replayed printed
+    replay-is = go (headerFits head) refl
+      where
+        go : (b : Bool) → headerFits head ≡ b → replayed head bs spans repairs words ≡ printed (head ++ joined bs)
+        go true e = ap (λ (k : ℕ). textUnless k (endedText head bs spans repairs words)) (number-by head true e) ∙ ended-is e
+        go false e =
+            ap (λ (k : ℕ). textUnless k (endedText head bs spans repairs words)) (number-by head false e)
+            ∙ sym (ap ruled (bad-header (head ++ joined bs) _ (bad-input e)))
+
+-- R-4: one that was cut off in the middle of a sample is refused with 17, whatever its modes, its rate and its length
+pub cut-off : (input : List ℕ) → headerFits input ≡ true → (length (drop headerSize input) % sampleSize ≡ 0 → ⊥) → printed input ≡ refusedText 17
+unfolding printed
+cut-off input e n = ap (λ (k : ℕ). textUnless k (playedText (configIn input) (samplesIn input))) (broken-tail input (drop headerSize input) e n)

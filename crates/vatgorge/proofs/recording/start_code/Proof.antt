@@ -25,11 +25,12 @@ returns c = c .making-code .ensures ∙ sym (ap (λ (a : StartAnswer). codeOf (s
 start-number-requires : tie.Need-start-number-requires
 start-number-requires c κs = search needs
 
--- not making's, whose tag is 2
-by-number : (a : StartAnswer) → OneOf (0 ∷ 1 ∷ []) (tagOf the-type a) → makingNumber (saidStart a) ≡ codeOf (saidStart a)
+-- not making's, whose tag is 3
+by-number : (a : StartAnswer) → OneOf (0 ∷ 1 ∷ 2 ∷ []) (tagOf the-type a) → makingNumber (saidStart a) ≡ codeOf (saidStart a)
 by-number start.BadHeader k = refl
+by-number start.BrokenTail k = refl
 by-number start.NoSample k = refl
-by-number (start.Making a) k = absurd (miss (0 ∷ 1 ∷ []) 2 tt k)
+by-number (start.Making a) k = absurd (miss (0 ∷ 1 ∷ 2 ∷ []) 3 tt k)
 
 returns-2 : tie.Need-returns-2
 returns-2 c = c .start-number .ensures ∙ by-number (c .before .before .args .answer) (c .before .match .keys2)
