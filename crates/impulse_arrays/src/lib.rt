@@ -216,6 +216,7 @@ fn is_arranged(
     all_occur(window, sorted)
 }
 
+// Whether the first n powers of the sorted list are those of the window, sorted.
 pub fn sorted_fits(
     n: usize,
     window: &[f32; ImpulseSuppressor::WINDOW],

@@ -2,7 +2,7 @@
 --
 -- Where each cause stands. Limits are in Constants. A path is crates/NAME/specs/FILE.
 --   1, 2, 3, 4      badRate, badSize, badCapacity, badLength
---   5               chain_state/Causes badState, by chain_state/Fits stateFits, whose rings are tested by log/Check logFits
+--   5               chain_state/Causes badState, by chain_state/Fits stateFits; the impulse stage's arrays by impulse_arrays/Fits, rings by log/Check logFits
 --     lent words    chain_state/Causes badSpans (a call, a hop), chain_hop/Hops badWords (a hop), chain_undo/Undoing badRecords (repair undo)
 --   6               shortSlice
 --   7               anyUnusable, with its place unusableAt; anyBeyond, with firstBeyondFrom

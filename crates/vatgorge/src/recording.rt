@@ -47,8 +47,8 @@ fn start_code(answer: StartAnswer) -> u64
 
 // Begins with the header's bytes and the first block behind them, which has whole samples or is the last:
 // 14, 17, 15, and then making, with stores for 256 spans, 1,024 repairs and 8 channels; others are refused
-// by 4. If a chain is made, the state is
-// written and every word of the stores becomes 0; else all words stay.
+// by 4. If a chain is made, the state is written and every word of the stores becomes 0; else all words
+// stay.
 #[no_mangle]
 pub extern "C" fn vg_start(
     head: &[u8],
@@ -71,7 +71,7 @@ pub extern "C" fn vg_start(
     code
 }
 
-// Ends with the last block: 0, or 17 if its last sample is broken.
+// Ends with the recording's last block: 0, or 17 if the last sample is broken.
 #[no_mangle]
 pub extern "C" fn vg_end(block: &[u8]) -> u64
     ensures { λ r. ⌜ r ≡ tailRefusal (now (block .entry)) ⌝ }
