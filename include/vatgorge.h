@@ -45,7 +45,6 @@ enum {
     VG_BAD_PHASE = 12,       /* its phase is not from -45 to 45 degrees */
     VG_BAD_CENTRE = 13,      /* its centre is not finite and above 0 */
     VG_BAD_HEADER = 14,      /* under 49 bytes, or a mark, version, mode or calibration byte that is none */
-    VG_NO_SAMPLE = 15,       /* no sample behind a recording's header */
     VG_BROKEN_TAIL = 17,     /* a recording ends in the middle of a sample */
     VG_NOTHING = 100         /* nothing to do; at its function is said when */
 };
@@ -229,18 +228,17 @@ uint64_t vg_guard(uint64_t *samples, size_t length);
  * Accepted: the configuration is written, with n = 8, 256 spans and 1,024 repairs. */
 uint64_t vg_header(const uint8_t *bytes, size_t length, struct vg_config *config);
 
-/* Makes the chain of a recording, from its header and its first block of samples, which is not taken: it is for vg_guard and
- * vg_condition. The block has whole samples, of 8 bytes, unless it is the last. The stores are those of n = 8, 256 spans and
- * 1,024 repairs.
- * Answers 0, 14, 17 (behind the block's whole samples there are 1 to 7 bytes), 15 (the block is empty), VG_NOTHING (all stages
- * are off), 1, 4.
+/* Makes the fresh chain of a recording, from its header, which is its first 49 bytes; others are not read. Its samples go through
+ * vg_guard and vg_condition. The log of the fresh chain says what IQ settled, so a header alone checks a calibration. The stores
+ * are those of n = 8, 256 spans and 1,024 repairs.
+ * Answers 0, 14, VG_NOTHING (all stages are off), 1, 4.
  * Accepted: the state is written, and every word of the stores becomes 0. */
-uint64_t vg_start(const uint8_t *header, size_t header_length, const uint8_t *block, size_t block_length,
-                  struct vg_state *state, uint64_t *spans, size_t span_words, uint64_t *repairs, size_t repair_words,
-                  double *monitor, size_t monitor_words);
+uint64_t vg_start(const uint8_t *header, size_t length, struct vg_state *state, uint64_t *spans, size_t span_words,
+                  uint64_t *repairs, size_t repair_words, double *monitor, size_t monitor_words);
 
-/* Whether a recording was cut off in the middle of a sample, by its last block; every block before it has whole samples. 17
- * comes before all that the start and the calls answered, except 14. A recording that was cut between two samples answers 0.
+/* Whether a recording was cut off in the middle of a sample, by its last block or all its bytes behind the header; every block
+ * before the last has whole samples. 17 comes before all that the start and the calls answered, except 14. A recording that was
+ * cut between two samples answers 0, and so does one without samples.
  * Answers 0, 17 (behind the block's whole samples there are 1 to 7 bytes). */
 uint64_t vg_end(const uint8_t *block, size_t length);
 

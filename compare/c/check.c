@@ -104,8 +104,8 @@ static uint64_t undo_dc(size_t length, double fs, size_t undone) {
 
 static uint64_t undo_iq(size_t length, double re, double im) { return vg_undo_iq(lent.samples, length, re, im, &lent.place); }
 
-static uint64_t start(size_t header, size_t block, size_t spans, size_t repairs, size_t monitor) {
-    return vg_start(lent.header, header, lent.block, block, &lent.state, lent.spans, spans, lent.repairs, repairs, lent.monitor, monitor);
+static uint64_t start(size_t header, size_t spans, size_t repairs, size_t monitor) {
+    return vg_start(lent.header, header, &lent.state, lent.spans, spans, lent.repairs, repairs, lent.monitor, monitor);
 }
 
 // ---- inputs
@@ -673,7 +673,7 @@ static void headers(void) {
         uint8_t kept = lent.header[k];
         lent.header[k] = 3;
         REFUSES(VG_BAD_HEADER, vg_header(lent.header, HEADER, &lent.config));
-        REFUSES(VG_BAD_HEADER, start(HEADER, 0, 0, 0, 0));
+        REFUSES(VG_BAD_HEADER, start(HEADER, 0, 0, 0));
         lent.header[k] = kept;
     }
     lent.header[8] = 0;
@@ -687,20 +687,14 @@ static void starts(void) {
     double rate = 0.5;
     size_t k;
     head();
-    for (k = 0; k < HEADER; k++) {
-        REFUSES(VG_BAD_HEADER, start(k, 16, REPLAY_SPAN_WORDS, REPLAY_REPAIR_WORDS, REPLAY_MONITOR_WORDS));
-        REFUSES(VG_BAD_HEADER, start(k, 15, REPLAY_SPAN_WORDS, REPLAY_REPAIR_WORDS, REPLAY_MONITOR_WORDS));
-    }
-    REFUSES(VG_NO_SAMPLE, start(HEADER, 0, REPLAY_SPAN_WORDS, REPLAY_REPAIR_WORDS, REPLAY_MONITOR_WORDS));
-    for (k = 1; k < 16; k++)
-        if (k != 8) REFUSES(VG_BROKEN_TAIL, start(HEADER, k, REPLAY_SPAN_WORDS, REPLAY_REPAIR_WORDS, REPLAY_MONITOR_WORDS));
+    for (k = 0; k < HEADER; k++) REFUSES(VG_BAD_HEADER, start(k, REPLAY_SPAN_WORDS, REPLAY_REPAIR_WORDS, REPLAY_MONITOR_WORDS));
     for (k = 0; k <= REPLAY_SPAN_WORDS + 8; k += k < REPLAY_SPAN_WORDS - 8 ? 97 : 1)
-        if (k != REPLAY_SPAN_WORDS) REFUSES(VG_BAD_LENGTH, start(HEADER, 8, k, REPLAY_REPAIR_WORDS, REPLAY_MONITOR_WORDS));
+        if (k != REPLAY_SPAN_WORDS) REFUSES(VG_BAD_LENGTH, start(HEADER, k, REPLAY_REPAIR_WORDS, REPLAY_MONITOR_WORDS));
     for (k = 0; k <= REPLAY_REPAIR_WORDS + 8; k += k < REPLAY_REPAIR_WORDS - 8 ? 97 : 1)
-        if (k != REPLAY_REPAIR_WORDS) REFUSES(VG_BAD_LENGTH, start(HEADER, 8, REPLAY_SPAN_WORDS, k, REPLAY_MONITOR_WORDS));
+        if (k != REPLAY_REPAIR_WORDS) REFUSES(VG_BAD_LENGTH, start(HEADER, REPLAY_SPAN_WORDS, k, REPLAY_MONITOR_WORDS));
     for (k = 0; k <= REPLAY_MONITOR_WORDS + 8; k++)
-        if (k != REPLAY_MONITOR_WORDS) REFUSES(VG_BAD_LENGTH, start(HEADER, 8, REPLAY_SPAN_WORDS, REPLAY_REPAIR_WORDS, k));
-    ANSWERS(VG_ACCEPTED, start(HEADER, 8, REPLAY_SPAN_WORDS, REPLAY_REPAIR_WORDS, REPLAY_MONITOR_WORDS));
+        if (k != REPLAY_MONITOR_WORDS) REFUSES(VG_BAD_LENGTH, start(HEADER, REPLAY_SPAN_WORDS, REPLAY_REPAIR_WORDS, k));
+    ANSWERS(VG_ACCEPTED, start(HEADER, REPLAY_SPAN_WORDS, REPLAY_REPAIR_WORDS, REPLAY_MONITOR_WORDS));
     WRITES(state);
     zeroed(REPLAY_SPAN_WORDS, REPLAY_REPAIR_WORDS, REPLAY_MONITOR_WORDS);
     LEFT();
@@ -711,12 +705,37 @@ static void starts(void) {
     SAME(make(REPLAY_SPAN_WORDS, REPLAY_REPAIR_WORDS, REPLAY_MONITOR_WORDS), VG_ACCEPTED);
     TRUE(memcmp(&started, &lent.state, sizeof started) == 0);
     memcpy(lent.header + 9, &rate, sizeof rate);
-    REFUSES(VG_BAD_RATE, start(HEADER, 8, 0, 0, 0));
-    for (k = 9; k < 16; k++) REFUSES(VG_BROKEN_TAIL, start(HEADER, k, 0, 0, 0));
+    REFUSES(VG_BAD_RATE, start(HEADER, 0, 0, 0));
     memset(lent.header + 5, VG_OFF, 3);
-    REFUSES(VG_NOTHING, start(HEADER, 8, 0, 0, 0));
-    for (k = 9; k < 16; k++) REFUSES(VG_BROKEN_TAIL, start(HEADER, k, 0, 0, 0));
-    REFUSES(VG_NO_SAMPLE, start(HEADER, 0, 0, 0, 0));
+    REFUSES(VG_NOTHING, start(HEADER, 0, 0, 0));
+}
+
+// A header alone: the log of a fresh chain, which says what became of the calibration.
+static void header_alone(void) {
+    static const double centres[] = {7.1e6, 7.1e6 + 1.5};
+    static const uint64_t settled[] = {VG_IQ_CORRECTING, VG_IQ_WITHHELD};
+    uint8_t mode;
+    size_t k;
+    for (k = 0; k < 2; k++)
+        for (mode = VG_OFF; mode <= VG_APPLY; mode++) {
+            head();
+            lent.header[6] = mode;
+            lent.header[7] = VG_APPLY;
+            memcpy(lent.header + 41, &centres[k], sizeof centres[k]);
+            SAME(start(HEADER, REPLAY_SPAN_WORDS, REPLAY_REPAIR_WORDS, REPLAY_MONITOR_WORDS), VG_ACCEPTED);
+            stand();
+            memset(&lent.log, 0x5a, sizeof lent.log);
+            vg_log(&lent.state, &lent.log);
+            memset(&was.log, 0, sizeof was.log);
+            was.log.dc_runs = mode != VG_OFF;
+            was.log.iq = settled[k];
+            if (settled[k] == VG_IQ_CORRECTING) {
+                TRUE(lent.log.iq_re != 0.0 && lent.log.iq_im != 0.0);
+                was.log.iq_re = lent.log.iq_re;
+                was.log.iq_im = lent.log.iq_im;
+            }
+            LEFT();
+        }
 }
 
 static void ends(void) {
@@ -817,6 +836,7 @@ int main(void) {
     guarding();
     headers();
     starts();
+    header_alone();
     ends();
     states();
     printf("%ld checks, %ld failed\n", checks, failures);

@@ -1,5 +1,6 @@
 //! The replay's header, its refusals and its printed report: the text of the second reading, and
-//! the same text put together from the original's log.
+//! the same text put together from the original's log. What a header alone prints (document 02,
+//! R-7) is written out by hand too.
 
 mod common;
 
@@ -94,6 +95,40 @@ fn replayed(fs: f64, impulse: Mode, dc: Mode, iq: Mode) -> Setting {
     }
 }
 
+const MODES: [Mode; 3] = [Mode::Off, Mode::Observe, Mode::Apply];
+
+/// The 27 combinations of three modes: impulse, DC, IQ.
+fn all_modes() -> impl Iterator<Item = [Mode; 3]> {
+    (0..27).map(|i| [i / 9, i / 3 % 3, i % 3].map(|m: usize| MODES[m]))
+}
+
+/// A setting as the replay makes it, with the receiver's centre at 7 MHz.
+fn tuned([impulse, dc, iq]: [Mode; 3], calibration: Option<Calibration>) -> Setting {
+    Setting {
+        centre: 7e6,
+        calibration,
+        ..replayed(48000.0, impulse, dc, iq)
+    }
+}
+
+/// A calibration whose centre is `off` Hz from 7 MHz. "centre off by 1.0 corrects, by 1.5
+/// withholds"
+fn calibrated(off: f64) -> Option<Calibration> {
+    Some(Calibration {
+        gain: 1.1,
+        phase: 3.0,
+        centre: 7e6 + off,
+    })
+}
+
+/// The level of a fresh chain: "Under dc observe or apply the level is two zero words."
+const ZEROS: &str = "0000000000000000 0000000000000000";
+
+/// Document 02, R-7: "It prints replaced 0, seen 0 final 0 held 0, the dropped, dc and iq lines."
+fn fresh(dc: &str, iq: &str) -> String {
+    format!("replaced 0\nseen 0 final 0 held 0\ndropped 0 0\ndc {dc}\niq {iq}\n")
+}
+
 #[test]
 fn the_sample_of_document_01() {
     let s = replayed(48000.0, Mode::Apply, Mode::Off, Mode::Off);
@@ -111,7 +146,7 @@ fn the_sample_of_document_01() {
 }
 
 #[test]
-fn refusals_14_17_15_then_making() {
+fn refusals_14_17_then_making() {
     let s = replayed(48000.0, Mode::Apply, Mode::Off, Mode::Off);
     let whole = input(&s, &[Sample::new(1.0, 0.0)]);
     assert_eq!(whole.len(), 57);
@@ -119,7 +154,7 @@ fn refusals_14_17_15_then_making() {
     for len in 0..49 {
         assert_eq!(printed(&whole[..len]), "refused 14\n");
     }
-    assert_eq!(printed(&whole[..49]), "refused 15\n");
+    assert_eq!(printed(&whole[..49]), fresh("none", "off"));
     for len in 50..57 {
         assert_eq!(printed(&whole[..len]), "refused 17\n");
     }
@@ -141,24 +176,31 @@ fn refusals_14_17_15_then_making() {
             bytes[place] = value;
             let bad = printed(&bytes) == "refused 14\n";
             taken += usize::from(!bad);
-            // 14 comes before 17, 15 and all off.
+            // 14 comes before 17 and all off, and a header alone meets it too.
             let or = |later| if bad { "refused 14\n" } else { later };
             assert_eq!(printed(&bytes[..50]), or("refused 17\n"));
-            assert_eq!(printed(&bytes[..49]), or("refused 15\n"));
+            let alone = match (place, value) {
+                (5, 0) => "off\n".to_string(),
+                (6, 1 | 2) => fresh(ZEROS, "off"),
+                (7, 1) => fresh("none", "observing"),
+                (7, 2) => fresh("none", "mismatch"),
+                _ => fresh("none", "off"),
+            };
+            assert_eq!(printed(&bytes[..49]), or(&alone));
         }
         assert_eq!(taken, good, "byte {place}");
     }
-    // 15 before making, all off before 1, and 1.
+    // All off before 1, and 1.
     let off = replayed(0.0, Mode::Off, Mode::Off, Mode::Off);
-    assert_eq!(printed(&input(&off, &[])), "refused 15\n");
-    assert_eq!(printed(&input(&off, &[Sample::ZERO])), "off\n");
     let slow = replayed(0.5, Mode::Off, Mode::Observe, Mode::Off);
-    assert_eq!(printed(&input(&slow, &[])), "refused 15\n");
-    assert_eq!(printed(&input(&slow, &[Sample::ZERO])), "refused 1\n");
+    for xs in [&[][..], &[Sample::ZERO]] {
+        assert_eq!(printed(&input(&off, xs)), "off\n");
+        assert_eq!(printed(&input(&slow, xs)), "refused 1\n");
+    }
 }
 
 /// Document 02, R-4: "A tail of 1 to 7 bytes, ignored so far, is therefore refused with 17, after 14
-/// and before 15."
+/// and before 15." R-7: "Number 15 is met no more." So 17 comes before making, without samples too.
 #[test]
 fn a_tail_is_refused() {
     let good = replayed(48000.0, Mode::Apply, Mode::Off, Mode::Off);
@@ -171,8 +213,7 @@ fn a_tail_is_refused() {
     ] {
         for count in [0, 1, 2, 60] {
             let mut bytes = input(&s, &vec![Sample::new(1.0, 0.0); count]);
-            let untailed = if count == 0 { "refused 15\n" } else { made };
-            assert!(printed(&bytes).starts_with(untailed));
+            assert!(printed(&bytes).starts_with(made));
             for tail in 1..=7 {
                 bytes.push(0xff);
                 assert_eq!(printed(&bytes), "refused 17\n", "{count} and {tail}");
@@ -192,8 +233,7 @@ fn the_form_of_a_header_and_the_bytes_behind() {
     for len in 0..=rest.len() {
         let behind = &rest[..len];
         let number = match len {
-            0 => Some(15),
-            8 | 16 | 24 => None,
+            0 | 8 | 16 | 24 => None,
             _ => Some(17),
         };
         assert_eq!(broken(behind), number == Some(17));
@@ -206,14 +246,196 @@ fn the_form_of_a_header_and_the_bytes_behind() {
     }
 }
 
+/// Document 02, R-7, with every mode of each stage: without a calibration, with one that fits, and
+/// with one that does not. "All off still prints `off`."
+#[test]
+fn a_header_alone() {
+    let mut printed_off = 0;
+    for modes in all_modes() {
+        for (calibration, applied) in [
+            (None, "mismatch"),
+            (calibrated(0.0), "correcting"),
+            (calibrated(1.5), "mismatch"),
+        ] {
+            let dc = match modes[1] {
+                Mode::Off => "none",
+                Mode::Observe | Mode::Apply => ZEROS,
+            };
+            let iq = match modes[2] {
+                Mode::Off => "off",
+                Mode::Observe => "observing",
+                Mode::Apply => applied,
+            };
+            let expected = match modes {
+                [Mode::Off, Mode::Off, Mode::Off] => "off\n".to_string(),
+                _ => fresh(dc, iq),
+            };
+            let s = tuned(modes, calibration);
+            let alone = input(&s, &[]);
+            assert_eq!(alone.len(), 49);
+            assert_eq!(refusal(&alone, &[]), None);
+            assert_eq!(samples(&alone).len(), 0);
+            assert_eq!(printed(&alone), expected, "{modes:?} {calibration:?}");
+            // The original's log says the same after a call that brings nothing.
+            assert_eq!(printed_by_original(&s, &[]), expected);
+            printed_off += usize::from(expected == "off\n");
+        }
+    }
+    assert_eq!(printed_off, 3);
+}
+
+/// "Dealers check a calibration by replaying the header alone.": what is unfit in it withholds, and
+/// is asked only under apply. 11 to 13 "come only from validation; elsewhere they withhold".
+#[test]
+fn a_calibration_under_a_header_alone() {
+    let fitting = tuned([Mode::Off, Mode::Off, Mode::Apply], calibrated(0.0));
+    let good = input(&fitting, &[]);
+    assert_eq!(printed(&good), fresh("none", "correcting"));
+    // Places of the receiver's centre, gain, phase and calibrated centre.
+    for (place, values) in [
+        (17, [0.0, -7e6, 7e6 + 1.5, f64::NAN]),
+        (25, [0.5f64.next_down(), 2.0f64.next_up(), -1.1, f64::NAN]),
+        (33, [-45.5, 45.0f64.next_up(), f64::INFINITY, f64::NAN]),
+        (41, [0.0, -7e6, 7e6 - 1.5, f64::INFINITY]),
+    ] {
+        for value in values {
+            let mut bytes = good.clone();
+            bytes[place..place + 8].copy_from_slice(&value.to_le_bytes());
+            assert_eq!(printed(&bytes), fresh("none", "mismatch"), "{value}");
+            bytes[7] = 1;
+            assert_eq!(printed(&bytes), fresh("none", "observing"), "{value}");
+            bytes[7] = 0;
+            assert_eq!(printed(&bytes), "off\n", "{value}");
+        }
+    }
+    // Said to be absent, it is not read.
+    let mut bytes = good.clone();
+    bytes[8] = 0;
+    assert_eq!(printed(&bytes), fresh("none", "mismatch"));
+}
+
+/// "Such an input now means a fresh chain.": a rate that making refuses is refused, and "all off
+/// answers nothing, before 1".
+#[test]
+fn a_bad_rate_under_a_header_alone() {
+    for fs in [
+        0.0,
+        -48000.0,
+        1f64.next_down(),
+        1e7f64.next_up(),
+        f64::INFINITY,
+        f64::NEG_INFINITY,
+        f64::NAN,
+        -f64::NAN,
+    ] {
+        for modes in all_modes() {
+            for calibration in [None, calibrated(0.0), calibrated(1.5)] {
+                let mut s = tuned(modes, calibration);
+                s.fs = fs;
+                let expected = match modes {
+                    [Mode::Off, Mode::Off, Mode::Off] => "off\n",
+                    _ => "refused 1\n",
+                };
+                assert_eq!(printed(&input(&s, &[])), expected, "{fs} {modes:?}");
+            }
+        }
+    }
+    // Both ends are in range.
+    for fs in [1.0, 1e7] {
+        let mut s = tuned([Mode::Apply; 3], calibrated(1.0));
+        s.fs = fs;
+        assert_eq!(printed(&input(&s, &[])), fresh(ZEROS, "correcting"));
+    }
+}
+
+/// What R-7 leaves: one whole sample prints what document 01 says.
+#[test]
+fn one_sample() {
+    use Mode::{Apply, Observe, Off};
+    let x = Sample::new(0.5, -0.25);
+    for modes in all_modes() {
+        for calibration in [None, calibrated(0.0), calibrated(1.5)] {
+            let s = tuned(modes, calibration);
+            assert_eq!(
+                printed(&input(&s, &[x])),
+                printed_by_original(&s, &[x]),
+                "{modes:?} {calibration:?}"
+            );
+        }
+    }
+    let unusable = Sample::new(f32::NAN, 0.0);
+    let texts = [
+        ([Off, Off, Off], None, x, "off\n"),
+        (
+            [Apply, Off, Off],
+            None,
+            x,
+            "replaced 0\n\
+            seen 1 final 0 held 1\n\
+            dropped 0 0\n\
+            dc none\n\
+            iq off\n",
+        ),
+        // The held sample has not reached the later stages.
+        (
+            [Apply, Apply, Apply],
+            calibrated(0.0),
+            x,
+            "replaced 0\n\
+            seen 1 final 0 held 1\n\
+            dropped 0 0\n\
+            dc 0000000000000000 0000000000000000\n\
+            iq correcting\n",
+        ),
+        (
+            [Observe, Observe, Observe],
+            None,
+            x,
+            "replaced 0\n\
+            seen 1 final 1 held 0\n\
+            dropped 0 0\n\
+            dc 3fe0000000000000 bfd0000000000000\n\
+            iq observing\n",
+        ),
+        (
+            [Off, Apply, Apply],
+            calibrated(1.5),
+            x,
+            "replaced 0\n\
+            seen 1 final 1 held 0\n\
+            count dc corrected 1\n\
+            count iq uncertain 1\n\
+            span dc corrected 0 1\n\
+            span iq uncertain 0 1\n\
+            dropped 0 0\n\
+            dc 3fe0000000000000 bfd0000000000000\n\
+            iq mismatch\n",
+        ),
+        // Guarded to 0, it moves nothing.
+        (
+            [Off, Observe, Off],
+            None,
+            unusable,
+            "replaced 1\n\
+            seen 1 final 1 held 0\n\
+            dropped 0 0\n\
+            dc 0000000000000000 0000000000000000\n\
+            iq off\n",
+        ),
+    ];
+    for (modes, calibration, x, text) in texts {
+        let s = tuned(modes, calibration);
+        assert_eq!(printed(&input(&s, &[x])), text, "{modes:?} {calibration:?}");
+    }
+}
+
 #[test]
 fn reports_of_both() {
     let mut total = 0;
     for seed in 0..3000 {
         let rng = &mut Rng::new(9_000_000 + seed);
-        let modes = [Mode::Off, Mode::Observe, Mode::Apply];
         let fs = rng.pick(&[1.0, 7.5, 20.0, 1000.0, 48000.0]);
-        let mut s = replayed(fs, rng.pick(&modes), rng.pick(&modes), rng.pick(&modes));
+        let mut s = replayed(fs, rng.pick(&MODES), rng.pick(&MODES), rng.pick(&MODES));
         s.centre = rng.pick(&[7e6, 7e6 + 1.0, 7e6 + 1.5, f64::NAN]);
         s.calibration = (!rng.once_in(3)).then(|| Calibration {
             gain: 0.4 + 1.7 * rng.unit(),

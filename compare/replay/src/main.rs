@@ -131,6 +131,10 @@ fn by_original(mut input: impl Read) -> String {
     let mut replaced = 0;
     loop {
         let size = fill(&mut input, &mut bytes);
+        // Of a header alone this is the log of a chain that was made and never called.
+        if size == 0 {
+            return report(&chain, replaced);
+        }
         let held = chain.held;
         let end = held + size / 8;
         for (x, b) in samples[held..end].iter_mut().zip(bytes.chunks_exact(8)) {
@@ -139,9 +143,6 @@ fn by_original(mut input: impl Read) -> String {
         }
         replaced += replace_unusable(&mut samples[held..end]);
         chain.condition(&mut samples[..end]);
-        if size < bytes.len() {
-            return report(&chain, replaced);
-        }
     }
 }
 
@@ -189,33 +190,33 @@ fn rate(rng: &mut Random) -> f64 {
     }
 }
 
-fn head(rng: &mut Random) -> Vec<u8> {
+/// The header that says these modes, whether there is a calibration, and the numbers: rate, centre, gain, phase
+/// and calibrated centre.
+fn head_of(modes: [u8; 3], present: u8, numbers: [f64; 5]) -> Vec<u8> {
     let mut bytes = b"CND\x01\x00".to_vec();
-    for _ in 0..3 {
-        bytes.push(pick(rng, &[0, 1, 2, 2]));
-    }
-    if once_in(rng, 30) {
-        bytes[5..8].fill(0);
-    }
-    bytes.push(below(rng, 2) as u8);
-    let centre = pick(rng, &[7e6, 7e6 + 1.0, 7e6 - 1.0, 7e6 + 1.5, f64::NAN]);
-    let gain = pick(rng, &[1.1, 0.5, 2.0, 0.4, 2.1, 1.0, f64::NAN]);
-    let phase = pick(rng, &[3.0, -45.0, 45.0, 46.0, 0.0, f64::INFINITY]);
-    for number in [rate(rng), centre, gain, phase, 7e6] {
+    bytes.extend(modes);
+    bytes.push(present);
+    for number in numbers {
         bytes.extend(number.to_le_bytes());
     }
     bytes
 }
 
+fn head(rng: &mut Random) -> Vec<u8> {
+    let mut modes = [0; 3].map(|_| pick(rng, &[0, 1, 2, 2]));
+    if once_in(rng, 30) {
+        modes.fill(0);
+    }
+    let present = below(rng, 2) as u8;
+    let centre = pick(rng, &[7e6, 7e6 + 1.0, 7e6 - 1.0, 7e6 + 1.5, f64::NAN]);
+    let gain = pick(rng, &[1.1, 0.5, 2.0, 0.4, 2.1, 1.0, f64::NAN]);
+    let phase = pick(rng, &[3.0, -45.0, 45.0, 46.0, 0.0, f64::INFINITY]);
+    head_of(modes, present, [rate(rng), centre, gain, phase, 7e6])
+}
+
 /// A header with a calibration that fits.
 fn known_head(modes: [u8; 3], fs: f64) -> Vec<u8> {
-    let mut bytes = b"CND\x01\x00".to_vec();
-    bytes.extend(modes);
-    bytes.push(1);
-    for number in [fs, 7e6, 1.1, 3.0, 7e6] {
-        bytes.extend(number.to_le_bytes());
-    }
-    bytes
+    head_of(modes, 1, [fs, 7e6, 1.1, 3.0, 7e6])
 }
 
 /// A part: mostly noise about an offset, at times a click, now and then any bits at all.
@@ -302,6 +303,7 @@ fn same(name: &str, wanted: &str, got: &str, input: &[u8]) {
 #[derive(Default)]
 struct Reached {
     reports: u64,
+    fresh: u64,
     off: u64,
     refused: std::collections::BTreeMap<String, u64>,
     samples: u64,
@@ -318,6 +320,7 @@ impl Reached {
             self.off += 1;
         } else {
             self.reports += 1;
+            self.fresh += u64::from(text.contains("\nseen 0 final 0 held 0\n"));
             let mut words = text.split_whitespace();
             self.replaced += words.nth(1).map_or(0, |w| w.parse().unwrap_or(0));
             self.samples += words.nth(1).map_or(0, |w| w.parse().unwrap_or(0));
@@ -362,12 +365,44 @@ fn compare_tails(reached: &mut Reached) {
     }
 }
 
+/// A header alone, in every mode, with rates and calibrations that fit, that just do and that do not.
+fn compare_headers(reached: &mut Reached) {
+    let rng = &mut seeded(1);
+    let (under, over) = (1f64.next_down(), 1e7f64.next_up());
+    let rates = [1.0, 48000.0, 1e7, 0.0, f64::NAN, under, over];
+    // Whether there is one, its gain, its phase, and how far the receiver's centre is off.
+    let calibrations = [
+        (0, 1.1, 3.0, 0.0),
+        (1, 1.1, 3.0, 0.0),
+        (1, 0.5, -45.0, 1.0),
+        (1, 2.0, 45.0, -1.0),
+        (1, 1.1, 3.0, 1.5),
+        (1, 2.1, 3.0, 0.0),
+        (1, 1.1, f64::NAN, 0.0),
+    ];
+    for modes in 0..27 {
+        let modes = [modes / 9, modes / 3 % 3, modes % 3];
+        for fs in rates {
+            for (present, gain, phase, off) in calibrations {
+                let input = head_of(modes, present, [fs, 7e6 + off, gain, phase, 7e6]);
+                let name = format!("header {modes:?} {fs} {present} {gain} {phase} {off}");
+                compare(&name, &input, true, rng, reached);
+            }
+        }
+    }
+}
+
 fn compare_all(cases: u64) {
     let mut reached = Reached::default();
+    compare_headers(&mut reached);
     compare_tails(&mut reached);
     for seed in 1..=cases {
         let rng = &mut seeded(seed.wrapping_mul(0x9e37_79b9_7f4a_7c15) | 1);
-        let n = 1 + below(rng, 400);
+        let n = if once_in(rng, 10) {
+            0
+        } else {
+            1 + below(rng, 400)
+        };
         let input = recording(rng, n);
         compare(
             &format!("recording {seed}"),
@@ -404,9 +439,10 @@ fn compare_all(cases: u64) {
         .map(|(n, k)| format!("{k} refused by {n}"))
         .collect();
     println!(
-        "{} reports of {} samples ({} replaced; {} reports with mended runs, {} with dropped spans or repairs), {} off, {}: 0 differences",
+        "{} reports of {} samples ({} of none; {} replaced; {} reports with mended runs, {} with dropped spans or repairs), {} off, {}: 0 differences",
         reached.reports,
         reached.samples,
+        reached.fresh,
         reached.replaced,
         reached.mended,
         reached.dropped,

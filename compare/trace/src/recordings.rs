@@ -2,7 +2,7 @@
 
 use oracle::draw::*;
 use oracle::rules::refusals::{self, Answer};
-use oracle::rules::replay::{broken, header, refusal, HEADER, N, REPAIRS, SAMPLE, SPANS};
+use oracle::rules::replay::{broken, header, HEADER, N, REPAIRS, SAMPLE, SPANS};
 use oracle::trace::machine::setting_words;
 use vatgorge::*;
 
@@ -60,13 +60,10 @@ fn one_header(head: &[u8]) -> Result<u64, String> {
     }
 }
 
-/// The number of a start, by the second reading: 14, 17, 15, then making.
-fn start_number(head: &[u8], block: &[u8], lent: [usize; 3]) -> u64 {
+/// The number of a start, by the second reading: 14, then making.
+fn start_number(head: &[u8], lent: [usize; 3]) -> u64 {
     let [spans, repairs, monitor] = lent;
-    if let Some(number) = refusal(head, block) {
-        return u64::from(number);
-    }
-    let s = header(head).expect("it is not refused");
+    let Some(s) = header(head) else { return 14 };
     match refusals::making(&s, repairs, spans, monitor) {
         Answer::Nothing => NOTHING,
         Answer::Refused(r) => u64::from(r.number),
@@ -75,7 +72,7 @@ fn start_number(head: &[u8], block: &[u8], lent: [usize; 3]) -> u64 {
 }
 
 /// A start leaves what a making of the same configuration does; where there is none, all stays.
-fn one_start(head: &[u8], block: &[u8], lent: [usize; 3]) -> Result<u64, String> {
+fn one_start(head: &[u8], lent: [usize; 3]) -> Result<u64, String> {
     let [spans, repairs, monitor] = lent;
     let fresh = || {
         (
@@ -87,8 +84,8 @@ fn one_start(head: &[u8], block: &[u8], lent: [usize; 3]) -> Result<u64, String>
     };
     let mut started = fresh();
     let (state, s, r, m) = &mut started;
-    let number = vg_start(head, block, state, s, r, m);
-    let wanted = start_number(head, block, lent);
+    let number = vg_start(head, state, s, r, m);
+    let wanted = start_number(head, lent);
     let mut made = fresh();
     if wanted == 0 {
         let s = header(head).expect("it is made");
@@ -100,7 +97,7 @@ fn one_start(head: &[u8], block: &[u8], lent: [usize; 3]) -> Result<u64, String>
         Ok(number)
     } else {
         Err(format!(
-            "start {head:x?} {block:x?}, lent {lent:?}: proved {number}, rules {wanted}"
+            "start {head:x?}, lent {lent:?}: proved {number}, rules {wanted}"
         ))
     }
 }
@@ -139,14 +136,13 @@ pub fn compare(seed: u64, many: u64) -> Result<Recordings, String> {
     for _ in 0..many {
         let head = head(rng);
         met.headers[one_header(&head)? as usize] += 1;
-        let block = block(rng);
-        met.ends[one_end(&block)? as usize] += 1;
+        met.ends[one_end(&block(rng))? as usize] += 1;
         let mut lent = [24 * SPANS, 6 * REPAIRS, 4 * N];
         if rng.once_in(6) {
             let store = rng.below(3);
             lent[store] = rng.pick(&[0, lent[store] - 1, lent[store] + 1]);
         }
-        match one_start(&head, &block, lent)? {
+        match one_start(&head, lent)? {
             NOTHING => met.nothing += 1,
             number => met.starts[number as usize] += 1,
         }
@@ -159,8 +155,8 @@ impl Recordings {
         let [h, s, e] = [&self.headers, &self.starts, &self.ends];
         println!("{} headers read, 14: {}", h[0], h[14]);
         println!(
-            "{} starts made, {} by nothing, refused by 1: {}, 4: {}, 14: {}, 17: {}, 15: {}",
-            s[0], self.nothing, s[1], s[4], s[14], s[17], s[15]
+            "{} starts made, {} by nothing, refused by 1: {}, 4: {}, 14: {}",
+            s[0], self.nothing, s[1], s[4], s[14]
         );
         println!("{} whole ends, 17: {}", e[0], e[17]);
     }

@@ -4,12 +4,15 @@
 // written whole, is a line on standard error.
 
 ghost use mathlib.Core.Path.{_≡_};
-ghost use Prim.Native.Nat.{_+_, _*_, _≤_};
+ghost use Prim.Native.Nat.{_+_, _*_, _≤_, min};
 ghost use lib.ListN.{length};
 ghost use Rattle.rules.specs.Impulse.{lookaheadSize};
 ghost use Rattle.rules.specs.Log.{repairWidth, storeWidth};
 ghost use Rattle.rules.specs.Monitor.{channelWidth};
 ghost use Rattle.io.specs.Counts.{Counts};
+ghost use Rattle.chain_make.specs.Making.{saidMaking};
+ghost use Rattle.replay_text.specs.Text.{put};
+ghost use Rattle.replay.specs.Printing.{isNothing, begun, textOf};
 use chain_make::MakingAnswer;
 use chain_state::InputConditioner;
 use impulse::ImpulseSuppressor;
@@ -17,7 +20,6 @@ use iq_monitor::ImageMonitor;
 use libc::STDIN_FILENO;
 use libc::STDOUT_FILENO;
 use replay_start::StartAnswer;
-use replay_start::Started;
 
 // Blocks to read at most, 2^64 - 1 of 65,536 bytes: more than any recording has.
 const BLOCKS: u64 = 0xffff_ffff_ffff_ffff;
@@ -28,7 +30,7 @@ struct Block {
     failed: bool,
 }
 
-// What the start and the blocks so far have left: the state, the samples replaced, the number of a
+// What making and the blocks so far have left: the state, the samples replaced, the number of a
 // refusal or 0, whether all stages are off, the size of the block that was read and waits, or 0, and
 // whether a read failed.
 struct Played {
@@ -235,19 +237,38 @@ fn play(
 
 // ---- the whole recording
 
-fn is_off(answer: StartAnswer) -> bool {
-    let StartAnswer::Making(made) = answer else {
-        return false;
-    };
-    if let MakingAnswer::Off = made {
-        return true;
+// Whether no stage runs.
+fn is_off(answer: MakingAnswer) -> bool
+    ensures { λ r. ⌜ r ≡ isNothing (saidMaking answer) ⌝ }
+{
+    match answer {
+        MakingAnswer::Off => true,
+        MakingAnswer::BadRate => false,
+        MakingAnswer::BadSize => false,
+        MakingAnswer::BadCapacity => false,
+        MakingAnswer::BadLength => false,
+        MakingAnswer::Made => false,
     }
-    false
+}
+
+// What making has left, before any block.
+fn begin(answer: MakingAnswer, state: InputConditioner) -> Played
+    ensures { λ r. ⌜ r ≡ begun (saidMaking answer) state ⌝ }
+{
+    Played {
+        state,
+        replaced: 0,
+        number: chain_make::number(answer),
+        off: is_off(answer),
+        size: 0,
+        failed: false,
+    }
 }
 
 // Puts what is to be printed into the text, and answers how long it is: 0 where a read failed.
 fn write_played(played: Played, spans: &[u64], text: &mut [u8]) -> usize
-    ensures { λ r. ⌜ r ≤ length (now (text .entry)) ⌝ }
+    ensures text { λ r. ⌜ now (text .exit) ≡ put (now (text .entry)) 0 (textOf played (now (spans .entry))) ⌝ }
+    ensures length { λ r. ⌜ r ≡ min (length (now (text .entry))) (length (textOf played (now (spans .entry)))) ⌝ }
 {
     if played.failed {
         return 0;
@@ -262,70 +283,46 @@ fn write_played(played: Played, spans: &[u64], text: &mut [u8]) -> usize
     replay_report::write_report(state, spans, played.replaced, text)
 }
 
-// Plays the recording that was started, from its first block on, and puts what is to be printed into the
+// Reads and plays every block, beginning with what making left, and puts what is to be printed into the
 // text.
 fn play_recording(
-    started: Started,
-    size: usize,
+    made: Played,
     bytes: &mut [u8],
     samples: &mut [u64],
     spans: &mut [u64],
     repairs: &mut [u64],
     text: &mut [u8],
 ) -> usize
-    requires { ⌜ Counts size (now bytes) ⌝ }
     ensures { λ r. ⌜ r ≤ length (now (text .entry)) ⌝ }
 {
-    let state = started.state;
-    let answer = started.answer;
-    let first = Played {
-        state,
-        replaced: 0,
-        number: replay_start::start_number(answer),
-        off: is_off(answer),
-        size,
-        failed: false,
-    };
+    let first = read(made, bytes);
     let played = play(first, bytes, samples, spans, repairs);
     write_played(played, spans, text)
-}
-
-// Reads the first block behind a header that is not refused, starts the recording and plays it.
-fn start_recording(head: &[u8], text: &mut [u8]) -> usize
-    ensures { λ r. ⌜ r ≤ length (now (text .entry)) ⌝ }
-{
-    let mut bytes = io::large_buffer();
-    let first = read_block(&mut bytes);
-    if first.failed {
-        return 0;
-    }
-    let size = first.size;
-    let mut spans = span_store();
-    let mut repairs = repair_store();
-    let mut words = monitor_store();
-    let started = replay_start::start(head, &bytes[..size], &mut spans, &mut repairs, &mut words);
-    let mut samples = sample_store();
-    play_recording(
-        started,
-        size,
-        &mut bytes,
-        &mut samples,
-        &mut spans,
-        &mut repairs,
-        text,
-    )
 }
 
 // Puts what is to be printed of a recording with this header into the text.
 fn replay(head: &[u8], text: &mut [u8]) -> usize
     ensures { λ r. ⌜ r ≤ length (now (text .entry)) ⌝ }
 {
-    let read = replay_format::header::header(head);
-    let number = replay_format::header::number(read);
-    if number != 0 {
-        return replay_text::notices::write_refusal(number, text);
-    }
-    start_recording(head, text)
+    let mut spans = span_store();
+    let mut repairs = repair_store();
+    let mut words = monitor_store();
+    let started = replay_start::start(head, &mut spans, &mut repairs, &mut words);
+    let answer = started.answer;
+    let StartAnswer::Making(made) = answer else {
+        return replay_text::notices::write_refusal(replay_start::start_number(answer), text);
+    };
+    let state = started.state;
+    let mut bytes = io::large_buffer();
+    let mut samples = sample_store();
+    play_recording(
+        begin(made, state),
+        &mut bytes,
+        &mut samples,
+        &mut spans,
+        &mut repairs,
+        text,
+    )
 }
 
 fn print(text: &[u8], size: usize)

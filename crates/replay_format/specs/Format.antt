@@ -1,5 +1,5 @@
--- Document 01, 'The replay program reads standard input', with document 02's R-4: a recording's header and its samples. Bytes are numbers.
--- Definitions only.
+-- Document 01, 'The replay program reads standard input', with document 02's R-4 and R-7: a recording's header and its samples. Bytes are
+-- numbers. Definitions only.
 use mathlib.Core.Bool.{Bool, not, _&&_}
 use mathlib.Core.List.{List, [], _∷_}
 use Prim.Native.Nat.{ℕ, zero, suc, _+_, _*_, _/_, _%_}
@@ -93,22 +93,10 @@ samplesIn input = wordsIn (drop headerSize input)
 abbrev pub brokenTail : ℕ → List ℕ → Cause
 brokenTail size bytes = record { holds = not (eqb (length bytes % size) 0); number = 17 }
 
--- 'no whole sample', of the bytes behind the header
-abbrev pub noSample : List ℕ → Cause
-noSample bytes = record { holds = eqb (length (wordsIn bytes)) 0; number = 15 }
+-- of the whole recording: 'Replay: 14, 15, then making', with 17 'after 14 and before 15' (R-4) and 'Number 15 is met no more' (R-7)
+unfoldable pub inputRefusal : List ℕ → ℕ
+inputRefusal input = firstOf (badHeader input ∷ brokenTail sampleSize (drop headerSize input) ∷ [])
 
--- 'Replay: 14, 15, then making', with 17 'after 14 and before 15', by the header and the bytes behind it
-unfoldable pub startRefusal : List ℕ → List ℕ → ℕ
-startRefusal head bytes = firstOf (badHeader head ∷ brokenTail sampleSize bytes ∷ noSample bytes ∷ [])
-
-abbrev pub inputRefusal : List ℕ → ℕ
-inputRefusal input = startRefusal input (drop headerSize input)
-
--- of a recording's last block
+-- of its last block
 unfoldable pub tailRefusal : List ℕ → ℕ
 tailRefusal bytes = firstOf (brokenTail sampleSize bytes ∷ [])
-
--- what is refused by a number, and what is not
-abbrev pub unlessRefused : {A : Type 0} → ℕ → A → (ℕ → A) → A
-unlessRefused zero a f = a
-unlessRefused (suc k) a f = f (suc k)

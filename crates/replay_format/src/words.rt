@@ -9,7 +9,7 @@ ghost use Rattle.replay_format.specs.Format.{littleEndian, wordAt, sampl
 pub const SAMPLE_SIZE: usize = 8;
 
 // Document 02's number of a recording whose last sample is broken.
-pub const BROKEN_TAIL: u64 = 17;
+const BROKEN_TAIL: u64 = 17;
 
 fn wide(byte: u8) -> u64
     ensures { λ r. ⌜ (r ≡ byte) × (r < 256) ⌝ }

@@ -1,17 +1,19 @@
--- Document 01, with document 02's R-4: what the replay program prints. Definitions only.
+-- Document 01, with document 02's R-4 and R-7: what the replay program prints. Definitions only.
 use mathlib.Core.Bool.{cond}
 use mathlib.Core.List.{List, [], _∷_, _++_, map, sum}
-use Prim.Native.Nat.{ℕ, _+_}
+use Prim.Native.Nat.{ℕ, zero, suc, _+_}
 use lib.ListN.{length}
 use Rattle.rules.specs.Guard.{guarded, unusable}
+use Rattle.rules.specs.Mode.{runs}
+use Rattle.rules.specs.Dc.{origin}
 use Rattle.rules.specs.Iq.{Settled}
 use Rattle.rules.specs.Log.{Span, Marks, Stage, impulse, dc, iq, Mark, Repaired, Flagged, Corrected, Uncertain, spansOf}
-use Rattle.rules.specs.Chain.{Config, DcLevel, released, heldOf, ringOf, repairRing, dcLevel, settledBy}
+use Rattle.rules.specs.Chain.{Config, DcLevel, noLevel, levelIs, released, heldOf, ringOf, repairRing, dcLevel, settledBy}
 use Rattle.rules.specs.Refusals.{firstOf, tooMany}
 use Rattle.chain_config.specs.Config.{allOff, refusal}
 use Rattle.replay_text.specs.Text.{each}
 use Rattle.replay_text.specs.Notices.{refusedText, offText}
-use Rattle.replay_format.specs.Format.{configIn, samplesIn, inputRefusal, unlessRefused}
+use Rattle.replay_format.specs.Format.{configIn, samplesIn, inputRefusal}
 use Rattle.replay_report.specs.Lines.{sampleLines, countLine, spanLine, droppedLine, levelLine, settledLine}
 
 -- ---- what is reported
@@ -86,15 +88,25 @@ reportBy c raw =
       settled = settledBy c;
     }
 
+-- R-7, of no samples: 'It prints replaced 0, seen 0 final 0 held 0, the dropped, dc and iq lines. Under dc observe or apply the level is two zero
+-- words.'
+unfoldable pub freshText : Config → List ℕ
+freshText c =
+    sampleLines 0 0 0 0 ++ (droppedLine 0 0 ++ (levelLine (cond (runs (c .dcMode)) (levelIs origin) noLevel) ++ settledLine (settledBy c)))
+
 -- a number in place of a text, and the text where there is none
 abbrev pub textUnless : ℕ → List ℕ → List ℕ
-textUnless n text = unlessRefused n text refusedText
+textUnless zero text = text
+textUnless (suc k) text = refusedText (suc k)
 
--- making, with stores of 24·256, 6·1,024 and 4·8 words: 'all off answers nothing, before 1, 2, 3, 4'; and then the calls: 'total above 2^48'
+-- making, with stores of 24·256, 6·1,024 and 4·8 words: 'all off answers nothing, before 1, 2, 3, 4'
+abbrev pub madeText : Config → List ℕ → List ℕ
+madeText c text = cond (allOff c) offText (textUnless (refusal c 6144 6144 32) text)
+
+-- and then the calls: 'total above 2^48'
 abbrev pub playedText : Config → List ℕ → List ℕ
-playedText c raw =
-    cond (allOff c) offText (textUnless (refusal c 6144 6144 32) (textUnless (firstOf (tooMany 0 (length raw) ∷ [])) (reportText (reportBy c raw))))
+playedText c raw = madeText c (textUnless (firstOf (tooMany 0 (length raw) ∷ [])) (reportText (reportBy c raw)))
 
--- all that is printed: 'Replay: 14, 15, then making', with R-4's 17 between the two
+-- all that is printed: 'Replay: 14, 15, then making', with R-4's 17, and 'Number 15 is met no more' (R-7)
 unfoldable pub printed : List ℕ → List ℕ
 printed input = textUnless (inputRefusal input) (playedText (configIn input) (samplesIn input))

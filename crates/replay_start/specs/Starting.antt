@@ -1,4 +1,4 @@
--- A recording's start: what it answers, and what it makes of the state and of every lent word. Definitions only.
+-- A recording's start: what its header makes of the state and of every lent word, and what is answered. Definitions only.
 use mathlib.Core.List.{List}
 use Prim.Native.Nat.{ℕ}
 use Rattle.rules.specs.Constants.{zeroF}
@@ -10,19 +10,20 @@ use Rattle.chain_make.specs.Making as making
 use Rattle.chain_make.specs.Making.{freshState, saidMaking, makingSaid}
 use Rattle.replay_start.specs.declared.StartAnswer.{StartAnswer}
 use Rattle.replay_start.specs.declared.StartAnswer.the-variants as start
-use Rattle.replay_format.specs.Format.{configIn, startRefusal, unlessRefused}
-use Rattle.replay_format.specs.Header.{configFrom}
+use Rattle.replay_format.specs.Header.{Said, refused, config, headerSaid, configFrom}
 
 -- the answer in the documents' words: nothing where all is off, a number, or a chain
 abbrev pub saidStart : StartAnswer → making.Said
 saidStart start.BadHeader = making.refused 14
-saidStart start.BrokenTail = making.refused 17
-saidStart start.NoSample = making.refused 15
 saidStart (start.Making a) = saidMaking a
 
--- by the header, the first block, and the lengths of the span store, the repair store and the monitor's words
-unfoldable pub startSaid : List ℕ → List ℕ → ℕ → ℕ → ℕ → making.Said
-startSaid head block spans repairs words = unlessRefused (startRefusal head block) (makingSaid (configIn head) spans repairs words) making.refused
+-- what the header refuses, or what making says of its configuration, with the lengths of the span store, the repair store and the monitor's words
+abbrev pub madeBy : Said → ℕ → ℕ → ℕ → making.Said
+madeBy (refused k) spans repairs words = making.refused k
+madeBy (config g) spans repairs words = makingSaid g spans repairs words
+
+unfoldable pub startSaid : List ℕ → ℕ → ℕ → ℕ → making.Said
+startSaid head spans repairs words = madeBy (headerSaid head) spans repairs words
 
 -- no stage runs
 abbrev pub idle : ConditioningConfig
@@ -39,6 +40,11 @@ idle =
       repairs = 0;
     }
 
--- the fresh state of the header's configuration; beside 14, 17 and 15 that of an idle one
-unfoldable pub startState : List ℕ → List ℕ → InputConditioner
-startState head block = freshState (unlessRefused (startRefusal head block) (configFrom (configIn head)) (λ k. idle))
+-- the header's configuration; beside 14 the idle one
+abbrev pub configBy : Said → ConditioningConfig
+configBy (refused k) = idle
+configBy (config g) = configFrom g
+
+-- and its fresh state
+unfoldable pub startState : List ℕ → InputConditioner
+startState head = freshState (configBy (headerSaid head))

@@ -1,4 +1,4 @@
-// A recording's start: its header and first block, and the chain that is made.
+// A recording's start: the chain that its header makes.
 
 ghost use mathlib.Core.Path.{_≡_};
 ghost use lib.ListN.{length};
@@ -16,10 +16,6 @@ use stage_mode::StageMode;
 pub enum StartAnswer {
     // Number 14: the header is short, or not as it has to be.
     BadHeader,
-    // Number 17: the last sample is broken.
-    BrokenTail,
-    // Number 15.
-    NoSample,
     // Nothing, numbers 1 to 4, or a chain.
     Making(MakingAnswer),
 }
@@ -58,29 +54,23 @@ fn idle_state() -> InputConditioner
     made.state
 }
 
-// Begins with the header's bytes and the first block behind them, which has whole samples or is the last:
-// 14, 17, 15, and then making, with the span store, the repair store and the monitor's words.
-pub fn start(
-    head: &[u8],
-    block: &[u8],
-    spans: &mut [u64],
-    repairs: &mut [u64],
-    words: &mut [f64],
-) -> Started
+// Makes the chain of a header's bytes, with the span store, the repair store and the monitor's words: 14,
+// and then making. Whether the recording is whole shows at its end: `replay_format::words::tail_number`.
+pub fn start(head: &[u8], spans: &mut [u64], repairs: &mut [u64], words: &mut [f64]) -> Started
     ensures answer { λ r. ⌜ saidStart (r .answer)
-        ≡ startSaid (now (head .entry)) (now (block .entry)) (length (now (spans .entry))) (length (now (repairs .entry))) (length (now (words .entry))) ⌝ }
-    ensures state { λ r. ⌜ r .state ≡ startState (now (head .entry)) (now (block .entry)) ⌝ }
+        ≡ startSaid (now (head .entry)) (length (now (spans .entry))) (length (now (repairs .entry))) (length (now (words .entry))) ⌝ }
+    ensures state { λ r. ⌜ r .state ≡ startState (now (head .entry)) ⌝ }
     ensures spans { λ r. ⌜ now (spans .exit)
         ≡ madeWords 0
-        (startSaid (now (head .entry)) (now (block .entry)) (length (now (spans .entry))) (length (now (repairs .entry))) (length (now (words .entry))))
+        (startSaid (now (head .entry)) (length (now (spans .entry))) (length (now (repairs .entry))) (length (now (words .entry))))
         (now (spans .entry)) ⌝ }
     ensures repairs { λ r. ⌜ now (repairs .exit)
         ≡ madeWords 0
-        (startSaid (now (head .entry)) (now (block .entry)) (length (now (spans .entry))) (length (now (repairs .entry))) (length (now (words .entry))))
+        (startSaid (now (head .entry)) (length (now (spans .entry))) (length (now (repairs .entry))) (length (now (words .entry))))
         (now (repairs .entry)) ⌝ }
     ensures words { λ r. ⌜ now (words .exit)
         ≡ madeWords zeroF
-        (startSaid (now (head .entry)) (now (block .entry)) (length (now (spans .entry))) (length (now (repairs .entry))) (length (now (words .entry))))
+        (startSaid (now (head .entry)) (length (now (spans .entry))) (length (now (repairs .entry))) (length (now (words .entry))))
         (now (words .entry)) ⌝ }
 {
     let read = replay_format::header::header(head);
@@ -90,18 +80,6 @@ pub fn start(
             state: idle_state(),
         };
     };
-    if replay_format::words::tail_number(block) != 0 {
-        return Started {
-            answer: StartAnswer::BrokenTail,
-            state: idle_state(),
-        };
-    }
-    if block.len() == 0 {
-        return Started {
-            answer: StartAnswer::NoSample,
-            state: idle_state(),
-        };
-    }
     let made = chain_make::with_geometry(config, spans, repairs, words);
     let answer = made.answer;
     let state = made.state;
@@ -117,8 +95,6 @@ pub fn start_number(answer: StartAnswer) -> u64
 {
     match answer {
         StartAnswer::BadHeader => 14,
-        StartAnswer::BrokenTail => replay_format::words::BROKEN_TAIL,
-        StartAnswer::NoSample => 15,
         StartAnswer::Making(made) => chain_make::number(made),
     }
 }

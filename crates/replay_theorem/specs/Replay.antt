@@ -27,10 +27,6 @@ abbrev pub joined : List Block → List ℕ
 joined [] = []
 joined (b ∷ bs) = b .bytes ++ joined bs
 
-abbrev pub firstBytes : List Block → List ℕ
-firstBytes [] = []
-firstBytes (b ∷ bs) = b .bytes
-
 abbrev pub lastBytes : List Block → List ℕ
 lastBytes [] = []
 lastBytes (b ∷ []) = b .bytes
@@ -57,8 +53,8 @@ answeredBy made text = text
 -- by the start and the blocks, with a span store, a repair store and monitor words, whatever stands there
 abbrev pub startedText : List ℕ → List Block → List ℕ → List ℕ → List Float → List ℕ
 startedText head blocks spans repairs words =
-    let said = startSaid head (firstBytes blocks) (length spans) (length repairs) (length words) in
-    answeredBy said (played (machineOf (startState head (firstBytes blocks)) (madeWords 0 said spans) (madeWords 0 said repairs)) 0 blocks)
+    let said = startSaid head (length spans) (length repairs) (length words) in
+    answeredBy said (played (machineOf (startState head) (madeWords 0 said spans) (madeWords 0 said repairs)) 0 blocks)
 
 -- a broken tail, seen at the end, comes before all that the start and the blocks have answered
 abbrev pub endedText : List ℕ → List Block → List ℕ → List ℕ → List Float → List ℕ

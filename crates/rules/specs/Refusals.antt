@@ -8,7 +8,8 @@
 --   7               anyUnusable, with its place unusableAt; anyBeyond, with firstBeyondFrom
 --   8, 9, 10        tooMany, badStart, unfitCoefficient
 --   11, 12, 13      badGain, badPhase, badCentre
---   14, 17, 15      replay_format/Format badHeader, brokenTail, noSample
+--   14, 17          replay_format/Format badHeader, brokenTail
+--   15              met no more (document 02, R-7)
 -- Where each operation's order stands.
 --   making          makingRefusal; 'all off answers nothing' first: chain_make/Making makingSaid
 --   a call          chain/Calls callRefusal

@@ -25,9 +25,8 @@ headerConfig ws (config g) = configFrom g
 -- ---- vg_start
 
 -- what a start says of these stores
-abbrev pub startOf : List ℕ → List ℕ → List ℕ → List ℕ → List Float → making.Said
-startOf head block spans repairs monitor = startSaid head block (length spans) (length repairs) (length monitor)
+abbrev pub startOf : List ℕ → List ℕ → List ℕ → List Float → making.Said
+startOf head spans repairs monitor = startSaid head (length spans) (length repairs) (length monitor)
 
-abbrev pub after : List ℕ → List ℕ → List ℕ → List ℕ → List ℕ → List Float → After
-after head block ws spans repairs monitor =
-    afterSaid (startOf head block spans repairs monitor) (startState head block) ws spans repairs monitor
+abbrev pub after : List ℕ → List ℕ → List ℕ → List ℕ → List Float → After
+after head ws spans repairs monitor = afterSaid (startOf head spans repairs monitor) (startState head) ws spans repairs monitor

@@ -45,14 +45,12 @@ fn start_code(answer: StartAnswer) -> u64
     replay_start::start_number(answer)
 }
 
-// Begins with the header's bytes and the first block behind them, which has whole samples or is the last:
-// 14, 17, 15, and then making, with stores for 256 spans, 1,024 repairs and 8 channels; others are refused
-// by 4. If a chain is made, the state is written and every word of the stores becomes 0; else all words
-// stay.
+// Makes the chain of a header's bytes: 14, and then making, with stores for 256 spans, 1,024 repairs and 8
+// channels; others are refused by 4. If a chain is made, the state is written and every word of the stores
+// becomes 0; else all words stay.
 #[no_mangle]
 pub extern "C" fn vg_start(
     head: &[u8],
-    block: &[u8],
     state: &mut [u64; chain_words::STATE_WORDS],
     spans: &mut [u64],
     repairs: &mut [u64],
@@ -60,10 +58,10 @@ pub extern "C" fn vg_start(
 ) -> u64
     ensures after { λ r. ⌜ _≡_ {A = After}
         (record { code = r; state = now (state .exit); spans = now (spans .exit); repairs = now (repairs .exit); monitor = now (monitor .exit) })
-        (after (now (head .entry)) (now (block .entry)) (now (state .entry)) (now (spans .entry)) (now (repairs .entry)) (now (monitor .entry))) ⌝ }
-    ensures again { λ r. ⌜ stateOf (now (state .exit)) ≡ stateAfter r (now (state .entry)) (startState (now (head .entry)) (now (block .entry))) ⌝ }
+        (after (now (head .entry)) (now (state .entry)) (now (spans .entry)) (now (repairs .entry)) (now (monitor .entry))) ⌝ }
+    ensures again { λ r. ⌜ stateOf (now (state .exit)) ≡ stateAfter r (now (state .entry)) (startState (now (head .entry))) ⌝ }
 {
-    let started = replay_start::start(head, block, spans, repairs, monitor);
+    let started = replay_start::start(head, spans, repairs, monitor);
     let answer = started.answer;
     let fresh = started.state;
     let code = start_code(answer);

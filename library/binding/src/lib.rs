@@ -48,7 +48,7 @@ mod c {
         pub fn vg_guard(x: Lent, xn: N) -> u64;
         pub fn vg_validate(gain: f64, phase: f64, centre: f64) -> u64;
         pub fn vg_header(bytes: Bytes, n: N, config: &mut Config) -> u64;
-        pub fn vg_start(h: Bytes, hn: N, b: Bytes, bn: N, state: &mut State, s: Lent, sn: N, r: Lent, rn: N, m: Floats, mn: N) -> u64;
+        pub fn vg_start(h: Bytes, hn: N, state: &mut State, s: Lent, sn: N, r: Lent, rn: N, m: Floats, mn: N) -> u64;
         pub fn vg_end(block: Bytes, n: N) -> u64;
     }
 }
@@ -106,10 +106,9 @@ pub fn vg_validate(gain: f64, phase: f64, centre: f64) -> u64 {
 pub fn vg_header(bytes: &[u8], config: &mut Config) -> u64 {
     unsafe { c::vg_header(bytes.as_ptr(), bytes.len(), config) }
 }
-pub fn vg_start(head: &[u8], block: &[u8], state: &mut State, spans: &mut [u64], repairs: &mut [u64], monitor: &mut [f64]) -> u64 {
-    let (h, b) = (head.as_ptr(), block.as_ptr());
-    let (s, r, m) = (spans.len(), repairs.len(), monitor.len());
-    unsafe { c::vg_start(h, head.len(), b, block.len(), state, spans.as_mut_ptr(), s, repairs.as_mut_ptr(), r, monitor.as_mut_ptr(), m) }
+pub fn vg_start(head: &[u8], state: &mut State, spans: &mut [u64], repairs: &mut [u64], monitor: &mut [f64]) -> u64 {
+    let (h, s, r, m) = (head.len(), spans.len(), repairs.len(), monitor.len());
+    unsafe { c::vg_start(head.as_ptr(), h, state, spans.as_mut_ptr(), s, repairs.as_mut_ptr(), r, monitor.as_mut_ptr(), m) }
 }
 pub fn vg_end(block: &[u8]) -> u64 {
     unsafe { c::vg_end(block.as_ptr(), block.len()) }

@@ -1,5 +1,5 @@
-//! The replay program's input and its printed report (**Afterwards**), and the refusal that document
-//! 02 adds to them (R-4).
+//! The replay program's input and its printed report (**Afterwards**), the refusal that document 02
+//! adds to them (R-4), and the header with no samples that it lets pass (R-7).
 
 use super::chain::{self, Record};
 use super::iq::Settled;
@@ -76,23 +76,21 @@ pub fn broken(bytes: &[u8]) -> bool {
 /// behind the header. Of `head` the first 49 bytes count; fewer meet 14.
 ///
 /// Document 01 says "A tail under 8 bytes is ignored." and "Replay: 14, 15, then making." Document
-/// 02, R-4, overrides both: "A tail of 1 to 7 bytes, ignored so far, is therefore refused with 17,
-/// after 14 and before 15." So the order is 14, 17, 15, then making, and 15, "no whole sample", is
-/// met only where nothing follows the header.
+/// 02 overrides both. R-4: "A tail of 1 to 7 bytes, ignored so far, is therefore refused with 17,
+/// after 14 and before 15." R-7: "Number 15 is met no more." So the order is 14, 17, then making.
+/// What R-7 lets pass is "the header alone": 1 to 7 bytes behind a header are a tail, and meet 17.
 pub fn refusal(head: &[u8], behind: &[u8]) -> Option<u8> {
     if header(head).is_none() {
         Some(14)
     } else if broken(behind) {
         Some(17)
-    } else if behind.len() < SAMPLE {
-        Some(15)
     } else {
         None
     }
 }
 
-/// "then pairs of f32; little-endian": the whole samples. An input with a tail behind them is
-/// refused by [`refusal`].
+/// "then pairs of f32; little-endian": the whole samples, none of a header alone. An input with a
+/// tail behind them is refused by [`refusal`].
 pub fn samples(input: &[u8]) -> Vec<Sample> {
     behind(input)
         .chunks_exact(SAMPLE)
@@ -102,6 +100,14 @@ pub fn samples(input: &[u8]) -> Vec<Sample> {
 
 /// What the program prints for its whole input: first what [`refusal`] says, "then making".
 /// "Refused: `refused` and its number only. All modes off: `off` only."
+///
+/// Document 02, R-7, of the header alone: "Such an input now means a fresh chain." So it is made as
+/// any other, and a rate out of range is refused with 1; "All off still prints `off`", as "all off
+/// answers nothing, before 1, 2, 3, 4". A calibration that does not fit is no refusal: 11 to 13
+/// "come only from validation; elsewhere they withhold". The chain made gets no samples. "It prints
+/// replaced 0, seen 0 final 0 held 0, the dropped, dc and iq lines. Under dc observe or apply the
+/// level is two zero words." This is the record of an empty list: no count is nonzero, no span is
+/// held, and the level is that of a fresh chain.
 pub fn printed(input: &[u8]) -> String {
     let refused = |number: u8| format!("refused {number}\n");
     if let Some(number) = refusal(input, behind(input)) {

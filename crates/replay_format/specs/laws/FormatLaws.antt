@@ -3,7 +3,6 @@ use mathlib.Core.Path.{_≡_, refl, ap, sym, _∙_}
 use mathlib.Core.Bool.{Bool, true, false, cond, not}
 use mathlib.Core.List.{List, _++_, append-nil}
 use Prim.Native.Nat.{ℕ, suc, _+_, _*_, _/_, _%_, _≤_, _<_}
-use native.Mathlib.Decide.{decLt}
 use native.Mathlib.Numerals.{add-one}
 use native.Mathlib.Omega.{arith}
 use borrow.Author.Tests.{eq-eqb, ne-eqb}
@@ -13,7 +12,7 @@ use lib.Seq.{drop-cons, drop-length, paste, paste-zero, paste-suc}
 use Rattle.rules.specs.Lists.{at}
 use Rattle.rules.specs.Refusals.{firstOf}
 use Rattle.rules.specs.laws.ListLaws.{length-upTo, getD-upTo}
-use Rattle.replay_format.specs.Format.{littleEndian, wordAt, sampleSize, wordsIn, headerFits, startRefusal, tailRefusal}
+use Rattle.replay_format.specs.Format.{littleEndian, wordAt, headerSize, headerFits, sampleSize, wordsIn, inputRefusal, tailRefusal}
 
 -- one byte, and those behind it, from j on
 little-next : (bytes : List ℕ) (k j n : ℕ) → suc k ≡ j → k < length bytes
@@ -101,33 +100,21 @@ module _ (bytes : List ℕ) where
   unfolding tailRefusal firstOf
   tail-passes e = ap (λ (b : Bool). cond (not b) 17 0) (eq-eqb (length bytes % sampleSize) 0 e)
 
-  -- back from the number
-  pub whole-by : tailRefusal bytes ≡ 0 → length bytes % sampleSize ≡ 0
-  whole-by z = go (decLt 0 (length bytes % sampleSize))
-    where
-      go : Dec (0 < length bytes % sampleSize) → length bytes % sampleSize ≡ 0
-      go (yes h) = let seventeen = tail-refused (λ (e : length bytes % sampleSize ≡ 0). omega arith) in absurd (omega (arith, z, seventeen))
-      go (no h) = omega arith
+-- by what is left over of the bytes alone
+pub tail-by : (xs ys : List ℕ) → length xs % sampleSize ≡ length ys % sampleSize → tailRefusal xs ≡ tailRefusal ys
+unfolding tailRefusal firstOf
+tail-by xs ys e = ap (λ (n : ℕ). cond (not (eqb n 0)) 17 0) e
 
-module _ (head bytes : List ℕ) where
-  -- by the answers of the three tests
-  refusal-by : (fits whole none : Bool) → headerFits head ≡ fits → eqb (length bytes % sampleSize) 0 ≡ whole → eqb (length (wordsIn bytes)) 0 ≡ none
-      → startRefusal head bytes ≡ cond (not fits) 14 (cond (not whole) 17 (cond none 15 0))
-  unfolding startRefusal firstOf
-  refusal-by fits whole none e f g = λ i. cond (not (e i)) 14 (cond (not (f i)) 17 (cond (g i) 15 0))
+module _ (input : List ℕ) where
+  -- by the answer of the header's test
+  refusal-by : (fits : Bool) → headerFits input ≡ fits → inputRefusal input ≡ cond fits (tailRefusal (drop headerSize input)) 14
+  unfolding inputRefusal tailRefusal firstOf
+  refusal-by true e = ap (λ (b : Bool). cond (not b) 14 (tailRefusal (drop headerSize input))) e
+  refusal-by false e = ap (λ (b : Bool). cond (not b) 14 (tailRefusal (drop headerSize input))) e
 
-  pub bad-header : headerFits head ≡ false → startRefusal head bytes ≡ 14
-  bad-header e = refusal-by false _ _ e refl refl
+  pub bad-header : headerFits input ≡ false → inputRefusal input ≡ 14
+  bad-header e = refusal-by false e
 
-  module _ (e : headerFits head ≡ true) where
-    pub broken-tail : (length bytes % sampleSize ≡ 0 → ⊥) → startRefusal head bytes ≡ 17
-    broken-tail n = refusal-by true false _ e (ne-eqb (length bytes % sampleSize) 0 n) refl
-
-    pub no-sample : length bytes ≡ 0 → startRefusal head bytes ≡ 15
-    no-sample z =
-        refusal-by true true true e (eq-eqb (length bytes % sampleSize) 0 (omega arith)) (eq-eqb (length (wordsIn bytes)) 0 (omega (arith, words-many bytes)))
-
-    pub some-sample : length bytes % sampleSize ≡ 0 → (length bytes ≡ 0 → ⊥) → startRefusal head bytes ≡ 0
-    some-sample f n =
-        refusal-by true true false e (eq-eqb (length bytes % sampleSize) 0 f)
-        (ne-eqb (length (wordsIn bytes)) 0 (λ (z : length (wordsIn bytes) ≡ 0). n (omega (arith, words-many bytes))))
+  -- behind a header that fits only a tail is refused: 'Number 15 is met no more' (R-7)
+  pub good-header : headerFits input ≡ true → inputRefusal input ≡ tailRefusal (drop headerSize input)
+  good-header e = refusal-by true e

@@ -1,6 +1,6 @@
 -- A header's bytes by the answers of their tests; a configuration stands in the code's types as in the rules'. Assumes nothing.
-use mathlib.Core.Path.{_≡_, refl, ap, sym, _∙_}
-use mathlib.Core.Bool.{Bool, true, false, cond, _&&_}
+use mathlib.Core.Path.{_≡_, refl, ap}
+use mathlib.Core.Bool.{Bool, true, cond, _&&_}
 use mathlib.Core.List.{List}
 use Prim.Native.Nat.{ℕ, zero, suc}
 use lib.Dec.{leb}
@@ -8,7 +8,6 @@ use lib.ListN.{length}
 use Rattle.rules.specs.Iq as rules
 use Rattle.rules.specs.Iq.{with}
 use Rattle.rules.specs.Mode.{apply}
-use Rattle.rules.specs.Chain.{Config}
 use Rattle.stage_mode.specs.declared.StageMode.{StageMode}
 use Rattle.stage_mode.specs.declared.StageMode.the-variants as mode
 use Rattle.iq.specs.declared.Calibration.{Calibration}
@@ -18,7 +17,7 @@ use Rattle.stage_mode.specs.View.{modeOf}
 use Rattle.chain_config.specs.declared.ConditioningConfig.{ConditioningConfig}
 use Rattle.chain_config.specs.Config.{configOf}
 use Rattle.replay_format.specs.Format.{headerSize, markFits, modesFit, headerFits, modeBy, calibrationBy, configIn}
-use Rattle.replay_format.specs.Header.{Said, refused, config, headerNumber, headerSaid, modeFrom, calibrationFrom, configFrom}
+use Rattle.replay_format.specs.Header.{refused, config, headerSaid, modeFrom, calibrationFrom, configFrom}
 
 -- ---- tests
 
@@ -39,44 +38,19 @@ present (suc b) c h = refl
 
 -- ---- a header
 
-isConfig : Said → Bool
-isConfig (refused k) = false
-isConfig (config g) = true
-
 module _ (bytes : List ℕ) where
+  -- by whether the header fits
+  pub said-where : (fits : Bool) → headerFits bytes ≡ fits → headerSaid bytes ≡ cond fits (config (configIn bytes)) (refused 14)
+  unfolding headerSaid
+  said-where fits e = ap (λ (t : Bool). cond t (config (configIn bytes)) (refused 14)) e
+
   -- by the answers of the tests
   pub said-by : (size mark modes : Bool)
       → leb headerSize (length bytes) ≡ size
       → markFits bytes ≡ mark
       → modesFit bytes ≡ modes
       → headerSaid bytes ≡ cond (size && mark && modes) (config (configIn bytes)) (refused 14)
-  unfolding headerSaid
-  said-by size mark modes e f g = λ i. cond (e i && f i && g i) (config (configIn bytes)) (refused 14)
-
-  -- what is said tells whether the header fits
-  fits-said : headerFits bytes ≡ isConfig (headerSaid bytes)
-  unfolding headerSaid isConfig
-  fits-said = go (headerFits bytes)
-    where
-      go : (t : Bool) → t ≡ isConfig (cond t (config (configIn bytes)) (refused 14))
-      go true = refl
-      go false = refl
-
-  pub no-header : refused 14 ≡ headerSaid bytes → headerFits bytes ≡ false
-  unfolding isConfig
-  no-header e = fits-said ∙ ap isConfig (sym e)
-
-  pub is-header : (g : Config) → config g ≡ headerSaid bytes → (headerFits bytes ≡ true) × (configIn bytes ≡ g)
-  unfolding isConfig headerSaid
-  is-header g e =
-      let fits : headerFits bytes ≡ true = fits-said ∙ ap isConfig (sym e) in
-      let said : headerSaid bytes ≡ config (configIn bytes) = ap (λ (t : Bool). cond t (config (configIn bytes)) (refused 14)) fits in
-      (fits, cc)
-
-  pub number-by : (fits : Bool) → headerFits bytes ≡ fits → headerNumber (headerSaid bytes) ≡ cond fits 0 14
-  unfolding headerSaid
-  number-by true e = ap (λ (t : Bool). headerNumber (cond t (config (configIn bytes)) (refused 14))) e
-  number-by false e = ap (λ (t : Bool). headerNumber (cond t (config (configIn bytes)) (refused 14))) e
+  said-by size mark modes e f g = said-where (size && mark && modes) (λ i. e i && f i && g i)
 
 -- ---- a configuration
 

@@ -1,15 +1,16 @@
--- The texts that document 01 gives, computed. Assumes nothing.
+-- The texts that document 01 and document 02's R-7 give, computed. Assumes nothing.
 use mathlib.Core.Path.{_≡_, refl}
 use mathlib.Core.List.{[], _∷_}
 use lib.ListN.{drop}
 use Rattle.rules.specs.Constants.{one, zeroF}
-use Rattle.rules.specs.Iq.{Off, Withheld}
+use Rattle.rules.specs.Mode.{Mode, off, observe, apply}
+use Rattle.rules.specs.Iq.{none, Off, Withheld, settled}
 use Rattle.rules.specs.Log.{Stage, impulse, Mark, Repaired, spanOf}
-use Rattle.rules.specs.Chain.{noLevel, levelIs}
+use Rattle.rules.specs.Chain.{Config, noLevel, levelIs}
 use Rattle.rules.specs.laws.Computing.{floats}
 use Rattle.replay_text.specs.Text.{letters, decimalBy, hexadecimal, line, each}
 use Rattle.replay_report.specs.Lines.{ringName, sampleLines, countLine, spanLine, droppedLine, levelLine, settledLine}
-use Rattle.replay_report.specs.Report.{Ring, Report, ringsOf, reportText}
+use Rattle.replay_report.specs.Report.{Ring, Report, ringsOf, reportText, freshText}
 use Rattle.replay_text.specs.Notices.{refusedText, offText}
 
 -- a ring that nothing was marked in
@@ -30,6 +31,21 @@ mendedOnce =
       settled = Off;
     }
 
+-- a header with these modes of DC and IQ, and no calibration
+abbrev pub headed : Mode → Mode → Config
+headed dc iq =
+    record {
+      impulseMode = apply;
+      dcMode = dc;
+      iqMode = iq;
+      fs = one;
+      centre = one;
+      n = 8;
+      calibration = none;
+      spans = 256;
+      repairs = 1024;
+    }
+
 pub record Texts : Type 0 where
   -- document 01's block
   pub block : reportText mendedOnce
@@ -38,8 +54,24 @@ pub record Texts : Type 0 where
   pub mismatch : settledLine Withheld ≡ letters "iq mismatch\n"
   pub refused : refusedText 14 ≡ letters "refused 14\n"
   pub allOff : offText ≡ letters "off\n"
+  -- R-7's
+  pub fresh-off : freshText (headed off observe) ≡ letters "replaced 0\nseen 0 final 0 held 0\ndropped 0 0\ndc none\niq observing\n"
+  pub fresh-observing : freshText (headed observe off)
+      ≡ letters "replaced 0\nseen 0 final 0 held 0\ndropped 0 0\ndc 0000000000000000 0000000000000000\niq off\n"
+  pub fresh-applying : freshText (headed apply apply)
+      ≡ letters "replaced 0\nseen 0 final 0 held 0\ndropped 0 0\ndc 0000000000000000 0000000000000000\niq mismatch\n"
 
 pub texts : Texts
-unfolding floats letters decimalBy hexadecimal line each ringName sampleLines countLine spanLine droppedLine levelLine settledLine reportText refusedText
-    offText
-texts = record { block = refl; level = refl; mismatch = refl; refused = refl; allOff = refl }
+unfolding floats settled letters decimalBy hexadecimal line each ringName sampleLines countLine spanLine droppedLine levelLine settledLine reportText
+    freshText refusedText offText
+texts =
+    record {
+      block = refl;
+      level = refl;
+      mismatch = refl;
+      refused = refl;
+      allOff = refl;
+      fresh-off = refl;
+      fresh-observing = refl;
+      fresh-applying = refl;
+    }

@@ -1,5 +1,5 @@
--- A recording read block by block: whole samples of whole blocks, a header that what follows it does not change, and what the first block and
--- the last show of all bytes. Assumes nothing.
+-- A recording read block by block: whole samples of whole blocks, a header that what follows it does not change, and what the last block
+-- shows of all bytes. Assumes nothing.
 use mathlib.Core.Path.{_≡_, refl, ap, sym, _∙_}
 use mathlib.Core.Bool.{Bool, false, cond, _&&_}
 use mathlib.Core.List.{List, [], _∷_, _++_, append-assoc, append-nil, map-append}
@@ -16,7 +16,7 @@ use Rattle.rules.specs.laws.ListLaws.{upTo-same, length-map}
 use Rattle.rules.specs.Guard.{usable, guarded, unusable}
 use Rattle.replay_format.specs.Format.{littleEndian, wordAt, sampleSize, wordsIn, headerSize, markFits, modesFit, headerFits}
 use Rattle.replay_format.specs.Format.{modeBy, calibrationBy, configIn, realAt}
-use Rattle.replay_theorem.specs.Replay.{Block, joined, firstBytes, lastBytes, Read}
+use Rattle.replay_theorem.specs.Replay.{Block, joined, lastBytes, Read}
 
 -- ---- words
 
@@ -98,26 +98,12 @@ module _ (head rest : List ℕ) (long : length head ≡ headerSize) where
   pub behind-header : drop headerSize (head ++ rest) ≡ rest
   behind-header = ap (λ (n : ℕ). drop n (head ++ rest)) (sym long) ∙ drop-append-seam head rest
 
--- ---- what the first block and the last show of all bytes
+-- ---- what the last block shows of all bytes
 
 pub same-tail : (bs : List Block) → Read bs → length (lastBytes bs) % sampleSize ≡ length (joined bs) % sampleSize
 same-tail [] t = refl
 same-tail (b ∷ []) t = ap (λ (l : List ℕ). length l % sampleSize) (sym (append-nil (b .bytes)))
 same-tail (b ∷ c ∷ bs) t = let r = same-tail (c ∷ bs) (t .1 .1) in omega (arith, r, length-append (b .bytes) (joined (c ∷ bs)), t .1 .0)
-
-pub first-whole : (bs : List Block) → Read bs → length (joined bs) % sampleSize ≡ 0 → length (firstBytes bs) % sampleSize ≡ 0
-first-whole [] t e = e
-first-whole (b ∷ []) t e = ap (λ (l : List ℕ). length l % sampleSize) (sym (append-nil (b .bytes))) ∙ e
-first-whole (b ∷ c ∷ bs) t e = omega (arith, t .1 .0)
-
-pub first-none : (bs : List Block) → length (joined bs) ≡ 0 → length (firstBytes bs) ≡ 0
-first-none [] e = e
-first-none (b ∷ bs) e = omega (arith, e, length-append (b .bytes) (joined bs))
-
-pub first-some : (bs : List Block) → Read bs → 0 < length (joined bs) → 0 < length (firstBytes bs)
-first-some [] t h = h
-first-some (b ∷ []) t h = omega (arith, h, length-append (b .bytes) [])
-first-some (b ∷ c ∷ bs) t h = omega (arith, t .1 .0)
 
 -- ---- guarding
 

@@ -2,12 +2,12 @@
 use mathlib.Core.Path.{_≡_, refl, ap, sym, _∙_, subst}
 use mathlib.Core.Bool.{Bool, true, false, cond, _&&_}
 use mathlib.Core.List.{List, [], _∷_, _++_, append-assoc, append-nil, sum}
-use Prim.Native.Nat.{ℕ, zero, suc, _+_, _-_, _*_, _/_, _%_, _^_, _≤_, _<_}
+use Prim.Native.Nat.{ℕ, zero, suc, _+_, _-_, _*_, _/_, _^_, _≤_, _<_}
 use native.Mathlib.Nat.{suc-mul, min-eq-left}
 use native.Mathlib.Decide.{decLt}
 use native.Mathlib.Omega.{arith}
 use borrow.Author.Tests.{lt-ltb, le-ltb, le-leb, eq-eqb}
-use lib.ListN.{length, take, drop, length-append}
+use lib.ListN.{length, take, length-append}
 use lib.Ieee.{Float}
 use lib.Seq.{take-all}
 use Rattle.rules.specs.Answers.{Said, refused}
@@ -42,20 +42,21 @@ use Rattle.one_record.specs.laws.Reaching.{core, chainAt, Reached, machine-more
 use Rattle.one_record.specs.laws.Hopping.{withHops}
 use Rattle.one_record.specs.laws.Fresh.{fresh-is, made-is}
 use Rattle.one_record.specs.laws.OneRecord.{at-rules, at-few, spans-long, call-accepted, call-beyond}
-use Rattle.replay_format.specs.Format.{headerFits, headerSize, sampleSize, configIn, wordsIn, samplesIn, startRefusal, inputRefusal, unlessRefused}
-use Rattle.replay_format.specs.laws.FormatLaws.{words-many, tail-refused, tail-passes, bad-header, broken-tail, no-sample, some-sample}
-use Rattle.replay_format.specs.laws.HeaderLaws.{number-by}
-use Rattle.replay_format.specs.Header.{modeFrom, calibrationFrom, configFrom}
+use Rattle.replay_format.specs.Format.{headerFits, headerSize, sampleSize, configIn, wordsIn, samplesIn, inputRefusal, tailRefusal}
+use Rattle.replay_format.specs.laws.FormatLaws.{words-many, tail-by, bad-header, good-header}
+use Rattle.replay_format.specs.laws.HeaderLaws.{said-where}
+use Rattle.replay_format.specs.Header as header
+use Rattle.replay_format.specs.Header.{headerNumber, modeFrom, calibrationFrom, configFrom}
 use Rattle.replay_feed.specs.Feeding.{heldIn, newMany, newWords, slice, takenBlock, fed}
 use Rattle.replay_feed.specs.laws.FeedingLaws as feeding
 use Rattle.replay_feed.specs.laws.FeedingLaws.{guarded-usable, slice-long, fed-said, fed-taken}
-use Rattle.replay_start.specs.Starting.{idle, startSaid, startState}
+use Rattle.replay_start.specs.Starting.{madeBy, startSaid, configBy, startState}
 use Rattle.replay_report.specs.Report.{Ring, ringsOf, ringBy, reportText, reportBy, textUnless, playedText, printed}
 use Rattle.replay_text.specs.Notices.{refusedText, offText}
 use Rattle.replay_report.specs.Shown.{shownSpans, shownRing, reportIn}
 use Rattle.replay_theorem.specs.laws.BlockLaws.{words-append, no-words, same-fits, same-config, behind-header, guarded-append, guarded-count}
-use Rattle.replay_theorem.specs.laws.BlockLaws.{unusable-append, same-tail, first-whole, first-none, first-some, too-short}
-use Rattle.replay_theorem.specs.Replay.{Block, joined, firstBytes, afterCall, played, answeredBy, startedText, endedText, replayed, Fits, Read}
+use Rattle.replay_theorem.specs.laws.BlockLaws.{unusable-append, same-tail, too-short}
+use Rattle.replay_theorem.specs.Replay.{Block, joined, lastBytes, afterCall, played, answeredBy, startedText, endedText, replayed, Fits, Read}
 
 -- ---- the configuration in the code's types is the header's
 
@@ -362,7 +363,7 @@ module _ (head : List ℕ) (bs : List Block) (most : length head ≤ headerSize)
   whole-header e = go (decLt (length head) 49)
     where
       go : Dec (length head < 49) → length head ≡ headerSize
-      go (yes h) = let z : _≡_ {A = ℕ} 0 14 = sym (number-by head true e) ∙ number-by head false (too-short head h) in absurd (omega (arith, z))
+      go (yes h) = let z : _≡_ {A = ℕ} 0 1 = ap (λ (b : Bool). cond b 0 1) (sym e ∙ too-short head h) in absurd (omega (arith, z))
       go (no h) = omega arith
 
   bad-input : headerFits head ≡ false → headerFits (head ++ joined bs) ≡ false
@@ -376,20 +377,11 @@ module _ (head : List ℕ) (bs : List Block) (most : length head ≤ headerSize)
     fits : headerFits (head ++ joined bs) ≡ true
     fits = same-fits head (joined bs) (whole-header e) ∙ e
 
-    by-bytes : inputRefusal (head ++ joined bs) ≡ startRefusal (head ++ joined bs) (joined bs)
-    by-bytes = ap (startRefusal (head ++ joined bs)) (behind-header head (joined bs) (whole-header e))
-
-    -- without a tail, 15 is seen from the first block
-    same-refusal : length (joined bs) % sampleSize ≡ 0 → startRefusal head (firstBytes bs) ≡ inputRefusal (head ++ joined bs)
-    same-refusal z = go (decLt 0 (length (joined bs)))
-      where
-        go : Dec (0 < length (joined bs)) → startRefusal head (firstBytes bs) ≡ inputRefusal (head ++ joined bs)
-        go (yes h) =
-            some-sample head (firstBytes bs) e (first-whole bs t z) (λ q. omega (arith, q, first-some bs t h))
-            ∙ sym (by-bytes ∙ some-sample (head ++ joined bs) (joined bs) fits z (λ q. omega (arith, q, h)))
-        go (no h) =
-            let none : length (joined bs) ≡ 0 = omega arith in
-            no-sample head (firstBytes bs) e (first-none bs none) ∙ sym (by-bytes ∙ no-sample (head ++ joined bs) (joined bs) fits none)
+    -- the last block tells whether the recording ends in a broken sample
+    same-refusal : tailRefusal (lastBytes bs) ≡ inputRefusal (head ++ joined bs)
+    same-refusal =
+        tail-by (lastBytes bs) (joined bs) (same-tail bs t)
+        ∙ sym (good-header (head ++ joined bs) fits ∙ ap tailRefusal (behind-header head (joined bs) (whole-header e)))
 
   module _ (spans repairs : List ℕ) (words : List Float) (a : length spans ≡ 6144) (b : length repairs ≡ 6144) (d : length words ≡ 32) where
     abbrev g : ConditioningConfig
@@ -415,36 +407,22 @@ module _ (head : List ℕ) (bs : List Block) (most : length head ≤ headerSize)
         ∙ made-text g spans repairs words e bs t
         ∙ ap (λ (x : Config). textUnless (firstOf (tooMany 0 (length (wordsIn (joined bs))) ∷ [])) (reportText (reportBy x (wordsIn (joined bs))))) c
 
-    -- and a start's
-    text-is : headerFits head ≡ true → (k : ℕ)
-        → let s = unlessRefused k (makingSaid (configIn head) (length spans) (length repairs) (length words)) making.refused in
-        answeredBy s
-        (played (machineOf (freshState (unlessRefused k (configFrom (configIn head)) (λ n. idle))) (madeWords 0 s spans) (madeWords 0 s repairs)) 0 bs)
-        ≡ ruled k
-    unfolding makingSaid
-    text-is e (suc k) = refl
-    text-is e zero =
+    -- a header that fits: what the start and the blocks answer
+    started-is : headerFits head ≡ true → startedText head bs spans repairs words ≡ playedText (configIn (head ++ joined bs)) (samplesIn (head ++ joined bs))
+    unfolding startSaid startState makingSaid
+    started-is e =
         let l = whole-header e in
-        made-by (allOff (configIn head)) (refusal (configIn head) (length spans) (length repairs) (length words)) refl refl
+        (λ i. let header = said-where head true e i in let s = madeBy header (length spans) (length repairs) (length words) in
+        answeredBy s (played (machineOf (freshState (configBy header)) (madeWords 0 s spans) (madeWords 0 s repairs)) 0 bs))
+        ∙ made-by (allOff (configIn head)) (refusal (configIn head) (length spans) (length repairs) (length words)) refl refl
         ∙ (λ i. cond (allOff (configIn head)) offText
         (textUnless (refusal (configIn head) (a i) (b i) (d i))
         (textUnless (firstOf (tooMany 0 (length (wordsIn (joined bs))) ∷ [])) (reportText (reportBy (configIn head) (wordsIn (joined bs)))))))
         ∙ (λ i. playedText (sym (same-config head (joined bs) l) i) (wordsIn (sym (behind-header head (joined bs) l) i)))
 
-    -- a header that fits: 17 by the last block, and then what the start and the blocks answer
+    -- 17 by the last block comes before that
     ended-is : headerFits head ≡ true → endedText head bs spans repairs words ≡ ruled (inputRefusal (head ++ joined bs))
-    unfolding startSaid startState
-    ended-is e = go (decLt 0 (length (joined bs) % sampleSize))
-      where
-        go : Dec (0 < length (joined bs) % sampleSize) → endedText head bs spans repairs words ≡ ruled (inputRefusal (head ++ joined bs))
-        go (yes h) =
-            ap (λ (k : ℕ). textUnless k (startedText head bs spans repairs words)) (tail-refused _ (λ q. omega (arith, q, same-tail bs t, h)))
-            ∙ sym (ap ruled (by-bytes e ∙ broken-tail (head ++ joined bs) (joined bs) (fits e) (λ q. omega (arith, q, h))))
-        go (no h) =
-            let z : length (joined bs) % sampleSize ≡ 0 = omega arith in
-            ap (λ (k : ℕ). textUnless k (startedText head bs spans repairs words)) (tail-passes _ (omega (arith, same-tail bs t, z)))
-            ∙ text-is e (startRefusal head (firstBytes bs))
-            ∙ ap ruled (same-refusal e z)
+    ended-is e = λ i. textUnless (same-refusal e i) (started-is e i)
 
     -- what is printed is what the rules give for the whole recording
     pub replay-is : replayed head bs spans repairs words ≡ printed (head ++ joined bs)
@@ -452,12 +430,7 @@ module _ (head : List ℕ) (bs : List Block) (most : length head ≤ headerSize)
     replay-is = go (headerFits head) refl
       where
         go : (b : Bool) → headerFits head ≡ b → replayed head bs spans repairs words ≡ printed (head ++ joined bs)
-        go true e = ap (λ (k : ℕ). textUnless k (endedText head bs spans repairs words)) (number-by head true e) ∙ ended-is e
+        go true e = ap (λ (s : header.Said). textUnless (headerNumber s) (endedText head bs spans repairs words)) (said-where head true e) ∙ ended-is e
         go false e =
-            ap (λ (k : ℕ). textUnless k (endedText head bs spans repairs words)) (number-by head false e)
-            ∙ sym (ap ruled (bad-header (head ++ joined bs) _ (bad-input e)))
-
--- R-4: one that was cut off in the middle of a sample is refused with 17, whatever its modes, its rate and its length
-pub cut-off : (input : List ℕ) → headerFits input ≡ true → (length (drop headerSize input) % sampleSize ≡ 0 → ⊥) → printed input ≡ refusedText 17
-unfolding printed
-cut-off input e n = ap (λ (k : ℕ). textUnless k (playedText (configIn input) (samplesIn input))) (broken-tail input (drop headerSize input) e n)
+            ap (λ (s : header.Said). textUnless (headerNumber s) (endedText head bs spans repairs words)) (said-where head false e)
+            ∙ sym (ap ruled (bad-header (head ++ joined bs) (bad-input e)))

@@ -28,7 +28,7 @@ returns : tie.Need-returns
 returns c =
     let ws =
     c .before .before .before .before .before .before .before .before .before .before .before .before .before .before .before .before .before .before
-    .before .args .state .now in
+    .args .state .now in
     let m = c .before .before .before .before .before .before .before .before .before .before .start .ensures in
     let code = c .before .before .start-code .ensures ∙ ap codeOf (m .0) in
     let words = c .keep .ensures .0 ∙ (λ i. wordsAfter (code i) ws (m .1 .0 i)) in (
