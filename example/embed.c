@@ -38,7 +38,8 @@ static void call(uint64_t *samples, size_t length) {
 
 int main(void) {
     // at 48 kHz; the impulse stage mends, the others are off
-    struct vg_config config = {.impulse = VG_APPLY, .fs = 48000.0, .centre = 7.1e6, .n = CHANNELS, .spans = SPANS, .repairs = REPAIRS};
+    struct vg_config config = {.impulse = VG_APPLY, .fs = 48000.0, .centre = 7.1e6, .n = CHANNELS, .spans = SPANS, .repairs = REPAIRS,
+                               .edition = VG_FIRST_EDITION};
     accept(vg_make(&config, &state, spans, VG_SPAN_STORE_WORDS(SPANS), repairs, VG_REPAIR_STORE_WORDS(REPAIRS), monitor,
                    VG_MONITOR_STORE_WORDS(CHANNELS)));
 

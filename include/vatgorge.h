@@ -51,8 +51,8 @@ enum {
 
 /* ---- sizes, in words of 8 bytes */
 
-#define VG_STATE_WORDS 171
-#define VG_CONFIG_WORDS 12
+#define VG_STATE_WORDS 172
+#define VG_CONFIG_WORDS 13
 #define VG_CONDITION_WORDS 2
 #define VG_HOP_WORDS 9
 #define VG_SPAN_WORDS 2
@@ -82,6 +82,11 @@ uint64_t vg_monitor_store_words(void);
 /* How a stage runs. Every other number applies, too. */
 enum { VG_OFF = 0, VG_OBSERVE = 1, VG_APPLY = 2 };
 
+/* The edition of the rule by which the impulse stage pauses. A block is a second of samples. If more than 0.001 of them are flagged as
+ * clicks, nothing is mended in the next block. Under the second edition that goes on until a paused block has at most 0.0005 flagged.
+ * Every other number is the first, too. */
+enum { VG_FIRST_EDITION = 1, VG_SECOND_EDITION = 2 };
+
 struct vg_config {
     uint64_t impulse, dc, iq;  /* VG_OFF, VG_OBSERVE, VG_APPLY */
     double fs;                 /* samples a second */
@@ -92,14 +97,15 @@ struct vg_config {
     double calibration_centre; /* in Hz; within 1 Hz of centre, or IQ withholds its correction */
     uint64_t spans;            /* spans that each ring of the log holds, 1 to 256 */
     uint64_t repairs;          /* repairs that the log holds, 1 to 4096 */
+    uint64_t edition;          /* VG_FIRST_EDITION, VG_SECOND_EDITION */
 };
 VG_SAME(sizeof(struct vg_config), 8 * VG_CONFIG_WORDS, "the words of a configuration");
 
 /* 1 if no stage runs, and 0 else. */
 uint64_t vg_is_off(const struct vg_config *config);
 
-/* Lets impulse and dc observe where they were off. All words are written anew: a mode above 2 becomes 2, calibrated becomes 0
- * or 1, where it is 0 the calibration's numbers become 0, and a NaN may become another NaN. */
+/* Lets impulse and dc observe where they were off. All words are written anew: a mode above 2 becomes 2, the edition 1 or 2,
+ * calibrated 0 or 1, where it is 0 the calibration's numbers become 0, and a NaN may become another NaN. */
 void vg_observing(struct vg_config *config);
 
 /* Whether a calibration is in range: 0, or 11, 12, 13. */
@@ -225,7 +231,7 @@ uint64_t vg_guard(uint64_t *samples, size_t length);
 
 /* The configuration that a recording's header says, which is its first 49 bytes; others are not read.
  * Answers 0, 14.
- * Accepted: the configuration is written, with n = 8, 256 spans and 1,024 repairs. */
+ * Accepted: the configuration is written, with n = 8, 256 spans, 1,024 repairs, and the version's number as the edition. */
 uint64_t vg_header(const uint8_t *bytes, size_t length, struct vg_config *config);
 
 /* Makes the fresh chain of a recording, from its header, which is its first 49 bytes; others are not read. Its samples go through

@@ -84,7 +84,7 @@ static void taken(uint64_t number) {
 }
 
 static struct vg_state made(const struct library *l, const struct row *r, size_t channels) {
-    struct vg_config config = {r->impulse, r->dc, r->iq, 48000.0, 7.1e6, channels, 1, 1.02, 1.5, 7.1e6, SPANS, REPAIRS};
+    struct vg_config config = {r->impulse, r->dc, r->iq, 48000.0, 7.1e6, channels, 1, 1.02, 1.5, 7.1e6, SPANS, REPAIRS, VG_FIRST_EDITION};
     struct vg_state state;
     taken(l->make(&config, &state, spans, sizeof spans / 8, repairs, sizeof repairs / 8, monitor, VG_MONITOR_STORE_WORDS(channels)));
     return state;

@@ -52,6 +52,9 @@ impl Stores {
     }
 }
 
+// The pause rule that the original has.
+const FIRST_EDITION: u64 = 1;
+
 // A chain whose capacities the stores' lengths say.
 fn made(modes: [u64; 3], fs: f64, stores: &mut Stores) -> State {
     let [impulse, dc, iq] = modes;
@@ -72,6 +75,7 @@ fn made(modes: [u64; 3], fs: f64, stores: &mut Stores) -> State {
         centre,
         spans,
         repairs,
+        FIRST_EDITION,
     ];
     let mut state = [0; STATE_WORDS];
     let Stores {

@@ -144,6 +144,7 @@ static void begin(uint64_t impulse, uint64_t dc, uint64_t iq) {
     lent.config.calibration_centre = 7.1e6;
     lent.config.spans = SPANS;
     lent.config.repairs = REPAIRS;
+    lent.config.edition = VG_FIRST_EDITION;
 }
 
 static void fresh(uint64_t impulse, uint64_t dc, uint64_t iq) {
@@ -210,6 +211,14 @@ static void configurations(void) {
     vg_observing(&lent.config);
     TRUE(isnan(lent.config.fs));
     SAME(lent.config.calibrated, 1);
+    for (i = 0; i < 5; i++) {
+        begin(VG_APPLY, VG_APPLY, VG_APPLY);
+        lent.config.edition = i < 4 ? i : UINT64_MAX;
+        memcpy(&was, &lent, sizeof was);
+        was.config.edition = i == VG_SECOND_EDITION ? VG_SECOND_EDITION : VG_FIRST_EDITION;
+        vg_observing(&lent.config);
+        LEFT();
+    }
 }
 
 static void validating(void) {
@@ -667,6 +676,7 @@ static void headers(void) {
         was.config.calibration_centre = 7.2e6;
         was.config.spans = 256;
         was.config.repairs = 1024;
+        was.config.edition = VG_FIRST_EDITION;
         LEFT();
     }
     for (k = 0; k < 9; k++) {
@@ -676,6 +686,19 @@ static void headers(void) {
         REFUSES(VG_BAD_HEADER, start(HEADER, 0, 0, 0));
         lent.header[k] = kept;
     }
+    // each low byte of a version, under the high bytes 0 to 3
+    for (k = 0; k < 4 * 256; k++) {
+        lent.header[3] = (uint8_t)(k % 256);
+        lent.header[4] = (uint8_t)(k / 256);
+        if (k == VG_FIRST_EDITION || k == VG_SECOND_EDITION) {
+            SAME(vg_header(lent.header, HEADER, &lent.config), VG_ACCEPTED);
+            SAME(lent.config.edition, k);
+        } else {
+            REFUSES(VG_BAD_HEADER, vg_header(lent.header, HEADER, &lent.config));
+            REFUSES(VG_BAD_HEADER, start(HEADER, 0, 0, 0));
+        }
+    }
+    head();
     lent.header[8] = 0;
     SAME(vg_header(lent.header, HEADER, &lent.config), VG_ACCEPTED);
     SAME(lent.config.calibrated, 0);
@@ -708,6 +731,45 @@ static void starts(void) {
     REFUSES(VG_BAD_RATE, start(HEADER, 0, 0, 0));
     memset(lent.header + 5, VG_OFF, 3);
     REFUSES(VG_NOTHING, start(HEADER, 0, 0, 0));
+}
+
+// Blocks of 1000 with 2, 1, 1, 0 and 1 clicks, through a fresh chain: the first edition pauses one block, the second three.
+static void five_blocks(size_t spans, size_t repairs, int second) {
+    static const uint64_t clicks[] = {300, 600, 1500, 2500, 4500};
+    uint64_t seen = 0;
+    while (seen < 5021) {
+        uint64_t held = seen == 0 ? 0 : HELD, more = seen < 5000 ? 100 : 21;
+        size_t k;
+        fill(lent.samples, held + more);
+        for (k = 0; k < sizeof clicks / sizeof clicks[0]; k++)
+            if (seen <= clicks[k] && clicks[k] < seen + more) lent.samples[held + clicks[k] - seen] = sample(100.0f, 0.0f);
+        SAME(condition(held + more, spans, repairs), VG_ACCEPTED);
+        seen += more;
+    }
+    vg_log(&lent.state, &lent.log);
+    SAME(lent.log.counts[VG_RING(VG_IMPULSE, VG_REPAIRED)], second ? 3 : 4);
+    SAME(lent.log.counts[VG_RING(VG_IMPULSE, VG_FLAGGED)], second ? 2 : 1);
+    SAME(lent.log.counts[VG_RING(VG_IMPULSE, VG_UNCERTAIN)], second ? 3000 : 1000);
+}
+
+// By a configuration, and by a recording's version.
+static void editions(void) {
+    double rate = 1000.0;
+    uint64_t edition;
+    for (edition = 0; edition < 4; edition++) {
+        begin(VG_APPLY, VG_OFF, VG_OFF);
+        lent.config.fs = rate;
+        lent.config.edition = edition;
+        SAME(make(SPAN_WORDS, REPAIR_WORDS, MONITOR_WORDS), VG_ACCEPTED);
+        five_blocks(SPAN_WORDS, REPAIR_WORDS, edition == VG_SECOND_EDITION);
+    }
+    for (edition = VG_FIRST_EDITION; edition <= VG_SECOND_EDITION; edition++) {
+        head();
+        lent.header[3] = (uint8_t)edition;
+        memcpy(lent.header + 9, &rate, sizeof rate);
+        SAME(start(HEADER, REPLAY_SPAN_WORDS, REPLAY_REPAIR_WORDS, REPLAY_MONITOR_WORDS), VG_ACCEPTED);
+        five_blocks(REPLAY_SPAN_WORDS, REPLAY_REPAIR_WORDS, edition == VG_SECOND_EDITION);
+    }
 }
 
 // A header alone: the log of a fresh chain, which says what became of the calibration.
@@ -836,6 +898,7 @@ int main(void) {
     guarding();
     headers();
     starts();
+    editions();
     header_alone();
     ends();
     states();

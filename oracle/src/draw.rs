@@ -1,7 +1,7 @@
 //! Random settings, samples, hops and cuttings: what the tests and the comparisons draw from.
 
 use crate::rules::monitor::{self, Hop};
-use crate::rules::{guard, impulse, refusals, Calibration, Mode, Sample, Setting};
+use crate::rules::{guard, impulse, refusals, Calibration, Edition, Mode, Sample, Setting};
 
 /// A xorshift generator: the same numbers for the same seed, everywhere.
 pub struct Rng(u64);
@@ -137,6 +137,10 @@ pub fn receiver_centre(rng: &mut Rng, c: Option<Calibration>) -> f64 {
     }
 }
 
+pub fn some_edition(rng: &mut Rng) -> Edition {
+    rng.pick(&[Edition::First, Edition::Second])
+}
+
 pub fn some_setting(rng: &mut Rng) -> Setting {
     let [impulse, dc, iq] = modes(rng);
     let calibration = (!rng.once_in(6)).then(|| some_calibration(rng));
@@ -151,6 +155,7 @@ pub fn some_setting(rng: &mut Rng) -> Setting {
         impulse,
         dc,
         iq,
+        edition: some_edition(rng),
         calibration,
         spans: rng.pick(&[1, 2, 3, 5, 256, 256]),
         repairs: rng.pick(&[1, 2, 3, 7, 4096, 4096]),

@@ -1,10 +1,12 @@
 //! The types of the two sides, the original and the second reading, each as the other's; and the
 //! original made for a setting.
 
+use crate::condition::impulse::PauseRule;
 use crate::condition::iq::IqCalibration;
 use crate::condition::{ConditioningConfig, InputConditioner, StageMode};
 use crate::num_complex::Complex32;
-use crate::rules::{Calibration, Mode, Sample, Setting};
+use crate::rules::impulse::begins_paused;
+use crate::rules::{Calibration, Edition, Mode, Sample, Setting};
 
 pub fn c32(x: Sample) -> Complex32 {
     Complex32::new(x.re, x.im)
@@ -51,9 +53,24 @@ pub fn config(s: &Setting) -> ConditioningConfig {
     }
 }
 
-/// The original, made for the setting.
+/// The original, made for the setting. It has edition 1 of the pause rule; under edition 2 it pauses
+/// as the second reading says.
 pub fn original(s: &Setting) -> Option<InputConditioner> {
-    InputConditioner::with_geometry(s.fs, s.centre, s.n, &config(s), s.spans, s.repairs)
+    let mut chain =
+        InputConditioner::with_geometry(s.fs, s.centre, s.n, &config(s), s.spans, s.repairs)?;
+    if let Some(impulse) = &mut chain.impulse {
+        impulse.pause_rule = pause_rule(s.edition);
+    }
+    Some(chain)
+}
+
+fn pause_rule(edition: Edition) -> Option<PauseRule> {
+    match edition {
+        Edition::First => None,
+        Edition::Second => Some(|was_paused, flagged, block| {
+            begins_paused(Edition::Second, was_paused, flagged as usize, block)
+        }),
+    }
 }
 
 /// A setting with the given modes; the rest as the tests mostly want it.
@@ -65,6 +82,7 @@ pub fn setting(fs: f64, impulse: Mode, dc: Mode, iq: Mode) -> Setting {
         impulse,
         dc,
         iq,
+        edition: Edition::First,
         calibration: None,
         spans: 256,
         repairs: 4096,

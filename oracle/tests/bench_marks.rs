@@ -242,7 +242,7 @@ fn mistake_a_mended_left_neighbour() {
     let r = agree(&applying(48000.0), &xs);
     // The first mends to (1 + 5)/2; a left of 3 would mend the second to 2.
     assert_eq!(re(&r.out[19..24]), [1.0, 3.0, 5.0, 3.0, 1.0]);
-    assert_eq!(value(&xs, &flags(&xs), 48000, 22).re, 3.0);
+    assert_eq!(value(&xs, &flags(&xs), &[false], 48000, 22).re, 3.0);
 }
 
 fn hop_of(start: u64, n: usize, these: &[(usize, f32, f32)]) -> Hop {

@@ -1,5 +1,6 @@
 //! The original against the second reading, bit for bit, on random settings, samples, cuttings
-//! into calls and hops. The seeds are fixed.
+//! into calls and hops. The seeds are fixed. Under edition 2 of the pause rule, which the original does
+//! not have, it pauses by the second reading's step from block to block.
 
 mod common;
 
@@ -11,7 +12,7 @@ use oracle::num_complex::Complex64;
 use oracle::rules::iq::{Coefficient, Settled};
 use oracle::rules::monitor::{self, Hop};
 use oracle::rules::refusals::{self, Answer, Refusal};
-use oracle::rules::{chain, dc, guard, impulse, iq, Mode, Sample, Setting};
+use oracle::rules::{chain, dc, guard, impulse, iq, Edition, Mode, Sample, Setting};
 use oracle::sample_guard::replace_unusable;
 
 /// How often what happened, so that a generator that no longer reaches a rule is seen.
@@ -224,9 +225,22 @@ fn short_inputs() {
     assert!(r.inputs_undone > 300);
 }
 
+/// Whether the editions of the pause rule mark different blocks.
+fn editions_differ(s: &Setting, xs: &[Sample]) -> bool {
+    let uncertain = |edition| {
+        let s = Setting {
+            edition,
+            ..s.clone()
+        };
+        chain::whole(&s, xs, &[]).rings[3].count
+    };
+    uncertain(Edition::First) != uncertain(Edition::Second)
+}
+
 #[test]
 fn long_inputs() {
     let mut r = Reached::default();
+    let mut differ = 0;
     for seed in 0..240 {
         let rng = &mut Rng::new(1_000_000 + seed);
         let mut s = some_setting(rng);
@@ -244,8 +258,13 @@ fn long_inputs() {
             }
         }
         case(rng, &s, &xs, 20, &format!("long {seed}"), &mut r);
+        differ += usize::from(s.edition == Edition::Second && editions_differ(&s, &xs));
     }
     r.say("long inputs");
+    say(&format!(
+        "long inputs: {differ} under edition 2 that edition 1 pauses otherwise"
+    ));
+    assert!(differ >= 10);
     assert!(r.repaired_runs > 1000 && r.uncertain > 10_000);
 }
 

@@ -1,14 +1,17 @@
 //! The replay's header, its refusals and its printed report: the text of the second reading, and
-//! the same text put together from the original's log. What a header alone prints (document 02,
+//! the same text put together from the original's log (under edition 2 with the second reading's
+//! pauses, on inputs too short to show them). What a header alone prints (document 02,
 //! R-7) is written out by hand too.
 
 mod common;
 
 use common::*;
 use oracle::condition::{IqStatus, Mark, Stage};
+use oracle::draw::some_edition;
 use oracle::rules::replay::{broken, header, printed, refusal, samples};
 use oracle::rules::{Calibration, Mode, Sample, Setting};
 use oracle::sample_guard::replace_unusable;
+use oracle::trace::machine::edition_word;
 
 fn byte(mode: Mode) -> u8 {
     match mode {
@@ -20,7 +23,8 @@ fn byte(mode: Mode) -> u8 {
 
 /// The input that says `s` and the samples.
 fn input(s: &Setting, xs: &[Sample]) -> Vec<u8> {
-    let mut bytes = b"CND\x01\x00".to_vec();
+    let mut bytes = b"CND".to_vec();
+    bytes.extend((edition_word(s.edition) as u16).to_le_bytes());
     bytes.extend([s.impulse, s.dc, s.iq].map(byte));
     bytes.push(u8::from(s.calibration.is_some()));
     let c = s.calibration.unwrap_or(Calibration {
@@ -163,7 +167,7 @@ fn refusals_14_17_then_making() {
         (0, 1),
         (1, 1),
         (2, 1),
-        (3, 1),
+        (3, 2),
         (4, 1),
         (5, 3),
         (6, 3),
@@ -437,6 +441,7 @@ fn reports_of_both() {
         let fs = rng.pick(&[1.0, 7.5, 20.0, 1000.0, 48000.0]);
         let mut s = replayed(fs, rng.pick(&MODES), rng.pick(&MODES), rng.pick(&MODES));
         s.centre = rng.pick(&[7e6, 7e6 + 1.0, 7e6 + 1.5, f64::NAN]);
+        s.edition = some_edition(rng);
         s.calibration = (!rng.once_in(3)).then(|| Calibration {
             gain: 0.4 + 1.7 * rng.unit(),
             phase: 46.0 * rng.both(),
@@ -454,6 +459,7 @@ fn reports_of_both() {
         let bytes = input(&s, &xs);
         let read = header(&bytes).expect("a header");
         assert_eq!(read.fs.to_bits(), s.fs.to_bits());
+        assert_eq!(read.edition, s.edition);
         assert_eq!(words(&samples(&bytes)), words(&xs));
         assert_eq!(
             printed(&bytes),

@@ -1,13 +1,13 @@
 //! Holds the text that the program `replay` prints against two others for the same recording: the second
-//! reading of document 01, and the Rust original run in blocks. Times `replay` beside the Rust original.
+//! reading of the documents, and, of version 1, the Rust original run in blocks. Times `replay` beside the
+//! Rust original.
 
-use oracle::condition::iq::IqCalibration;
-use oracle::condition::{ConditioningConfig, InputConditioner, IqStatus, Mark, Stage, StageMode};
+use oracle::condition::{InputConditioner, IqStatus, Mark, Stage};
 use oracle::num_complex::Complex32;
 use oracle::random::Random;
 use oracle::rules::replay::{header, printed, HEADER};
-use oracle::rules::{Mode, Setting};
 use oracle::sample_guard::replace_unusable;
+use oracle::sides::original;
 use std::fs::File;
 use std::io::{BufWriter, Read, Write};
 use std::process::{Command, Stdio};
@@ -48,28 +48,6 @@ fn replayed(input: &[u8], rng: &mut Random) -> String {
 }
 
 // ---- the Rust original
-
-fn mode(m: Mode) -> StageMode {
-    match m {
-        Mode::Off => StageMode::Off,
-        Mode::Observe => StageMode::Observe,
-        Mode::Apply => StageMode::Apply,
-    }
-}
-
-fn original(s: &Setting) -> Option<InputConditioner> {
-    let config = ConditioningConfig {
-        impulse: mode(s.impulse),
-        dc: mode(s.dc),
-        iq: mode(s.iq),
-        iq_calibration: s.calibration.map(|c| IqCalibration {
-            gain_ratio: c.gain,
-            phase_deg: c.phase,
-            center_freq_hz: c.centre,
-        }),
-    };
-    InputConditioner::with_geometry(s.fs, s.centre, s.n, &config, s.spans, s.repairs)
-}
 
 fn report(chain: &InputConditioner, replaced: u64) -> String {
     use std::fmt::Write;
@@ -190,10 +168,11 @@ fn rate(rng: &mut Random) -> f64 {
     }
 }
 
-/// The header that says these modes, whether there is a calibration, and the numbers: rate, centre, gain, phase
-/// and calibrated centre.
-fn head_of(modes: [u8; 3], present: u8, numbers: [f64; 5]) -> Vec<u8> {
-    let mut bytes = b"CND\x01\x00".to_vec();
+/// The header that says the version, these modes, whether there is a calibration, and the numbers: rate, centre, gain,
+/// phase and calibrated centre.
+fn head_of(version: u16, modes: [u8; 3], present: u8, numbers: [f64; 5]) -> Vec<u8> {
+    let mut bytes = b"CND".to_vec();
+    bytes.extend(version.to_le_bytes());
     bytes.extend(modes);
     bytes.push(present);
     for number in numbers {
@@ -211,12 +190,18 @@ fn head(rng: &mut Random) -> Vec<u8> {
     let centre = pick(rng, &[7e6, 7e6 + 1.0, 7e6 - 1.0, 7e6 + 1.5, f64::NAN]);
     let gain = pick(rng, &[1.1, 0.5, 2.0, 0.4, 2.1, 1.0, f64::NAN]);
     let phase = pick(rng, &[3.0, -45.0, 45.0, 46.0, 0.0, f64::INFINITY]);
-    head_of(modes, present, [rate(rng), centre, gain, phase, 7e6])
+    let version = pick(rng, &[1, 2]);
+    head_of(
+        version,
+        modes,
+        present,
+        [rate(rng), centre, gain, phase, 7e6],
+    )
 }
 
 /// A header with a calibration that fits.
 fn known_head(modes: [u8; 3], fs: f64) -> Vec<u8> {
-    head_of(modes, 1, [fs, 7e6, 1.1, 3.0, 7e6])
+    head_of(1, modes, 1, [fs, 7e6, 1.1, 3.0, 7e6])
 }
 
 /// A part: mostly noise about an offset, at times a click, now and then any bits at all.
@@ -310,6 +295,8 @@ struct Reached {
     replaced: u64,
     mended: u64,
     dropped: u64,
+    second: u64,
+    differ: u64,
 }
 
 impl Reached {
@@ -330,17 +317,22 @@ impl Reached {
     }
 }
 
-/// The program against the second reading and, where nothing is refused, against the original too.
-fn compare(name: &str, input: &[u8], by_rules: bool, rng: &mut Random, reached: &mut Reached) {
+/// The program against the second reading; and, where nothing is refused and the pause rule is the original's, against that too.
+fn compare(name: &str, input: &[u8], rng: &mut Random, reached: &mut Reached) {
     let got = replayed(input, rng);
-    let refused = got.starts_with("refused");
-    if by_rules || refused {
-        same(name, &printed(input), &got, input);
-    }
-    if !refused {
-        same(name, &by_original(input), &got, input);
-    }
+    same(name, &printed(input), &got, input);
     reached.note(&got);
+    let report = got.starts_with("replaced");
+    match input.get(3) {
+        Some(1) if report => same(name, &by_original(input), &got, input),
+        Some(2) if report => {
+            let mut first = input.to_vec();
+            first[3] = 1;
+            reached.second += 1;
+            reached.differ += u64::from(printed(&first) != got);
+        }
+        _ => (),
+    }
 }
 
 /// Every tail behind no sample, one, a full first block and several, under a header that is good, bad, all off
@@ -358,14 +350,15 @@ fn compare_tails(reached: &mut Reached) {
             samples(rng, n, &mut input);
             for tail in 0..8 {
                 let name = format!("{name} header, {n} samples, a tail of {tail}");
-                compare(&name, &input, true, rng, reached);
+                compare(&name, &input, rng, reached);
                 input.push(rng.next() as u8);
             }
         }
     }
 }
 
-/// A header alone, in every mode, with rates and calibrations that fit, that just do and that do not.
+/// A header alone, in either version and every mode, with rates and calibrations that fit, that just do and that do not; and in
+/// other versions.
 fn compare_headers(reached: &mut Reached) {
     let rng = &mut seeded(1);
     let (under, over) = (1f64.next_down(), 1e7f64.next_up());
@@ -384,17 +377,45 @@ fn compare_headers(reached: &mut Reached) {
         let modes = [modes / 9, modes / 3 % 3, modes % 3];
         for fs in rates {
             for (present, gain, phase, off) in calibrations {
-                let input = head_of(modes, present, [fs, 7e6 + off, gain, phase, 7e6]);
-                let name = format!("header {modes:?} {fs} {present} {gain} {phase} {off}");
-                compare(&name, &input, true, rng, reached);
+                for version in [1, 2] {
+                    let numbers = [fs, 7e6 + off, gain, phase, 7e6];
+                    let input = head_of(version, modes, present, numbers);
+                    let name = format!("header {version} {modes:?} {present} {numbers:?}");
+                    compare(&name, &input, rng, reached);
+                }
             }
         }
     }
+    for version in [0, 3, 0x100, 0x101, 0x102, 0x200, 0x201, u16::MAX] {
+        let input = head_of(version, [2, 2, 2], 1, [48000.0, 7e6, 1.1, 3.0, 7e6]);
+        compare(&format!("version {version}"), &input, rng, reached);
+    }
+}
+
+/// Both versions of recordings of several blocks, with about as many clicks in a block as the limits of the pause rule.
+fn compare_editions(reached: &mut Reached) {
+    for seed in 0..40 {
+        let rng = &mut seeded(1 + seed);
+        let (fs, every) = pick(rng, &[(1000.0, 700), (2000.0, 1000), (3000.0, 1200)]);
+        let modes = pick(rng, &[[2, 0, 0], [2, 2, 2], [1, 1, 1]]);
+        let mut input = known_head(modes, fs);
+        for _ in 0..(10 + below(rng, 20)) * fs as usize {
+            let click = if once_in(rng, every) { 60.0 } else { 0.0 };
+            input.extend((click + both(rng) as f32).to_le_bytes());
+            input.extend((both(rng) as f32).to_le_bytes());
+        }
+        for version in [1, 2] {
+            input[3] = version;
+            compare(&format!("blocks {seed} {version}"), &input, rng, reached);
+        }
+    }
+    assert!(reached.differ >= 10, "the editions hardly differ");
 }
 
 fn compare_all(cases: u64) {
     let mut reached = Reached::default();
     compare_headers(&mut reached);
+    compare_editions(&mut reached);
     compare_tails(&mut reached);
     for seed in 1..=cases {
         let rng = &mut seeded(seed.wrapping_mul(0x9e37_79b9_7f4a_7c15) | 1);
@@ -404,13 +425,7 @@ fn compare_all(cases: u64) {
             1 + below(rng, 400)
         };
         let input = recording(rng, n);
-        compare(
-            &format!("recording {seed}"),
-            &input,
-            true,
-            rng,
-            &mut reached,
-        );
+        compare(&format!("recording {seed}"), &input, rng, &mut reached);
     }
     // Long ones: whole blocks, a sample more and less, and many blocks.
     for (k, n) in [
@@ -430,7 +445,7 @@ fn compare_all(cases: u64) {
             let rng = &mut seeded(1 + seed + 1000 * k as u64);
             let input = recording(rng, n);
             let name = format!("long recording {n} {seed}");
-            compare(&name, &input, n <= 100_003, rng, &mut reached);
+            compare(&name, &input, rng, &mut reached);
         }
     }
     let refused: Vec<String> = reached
@@ -439,13 +454,15 @@ fn compare_all(cases: u64) {
         .map(|(n, k)| format!("{k} refused by {n}"))
         .collect();
     println!(
-        "{} reports of {} samples ({} of none; {} replaced; {} reports with mended runs, {} with dropped spans or repairs), {} off, {}: 0 differences",
+        "{} reports of {} samples ({} of none; {} replaced; {} reports with mended runs, {} with dropped spans or repairs; {} of version 2, {} of them not what version 1 prints), {} off, {}: 0 differences",
         reached.reports,
         reached.samples,
         reached.fresh,
         reached.replaced,
         reached.mended,
         reached.dropped,
+        reached.second,
+        reached.differ,
         reached.off,
         refused.join(", ")
     );

@@ -29,6 +29,8 @@ pub struct Case {
     pub list: List,
     /// How many samples were seen to have a power near the flag's limit, where that was looked for.
     pub near_ratio: u64,
+    /// How many blocks only edition 2 of the pause rule pauses, where a chain has it and that was looked for.
+    pub only_second: u64,
 }
 
 /// A case that is being drawn, with the oracle's chain beside it.
@@ -41,6 +43,7 @@ struct Drawing<'a> {
     /// What was released, for the undos.
     released: Vec<u64>,
     near_ratio: u64,
+    only_second: u64,
 }
 
 fn words(xs: &[Sample]) -> Vec<u64> {
@@ -91,6 +94,14 @@ fn any_words(rng: &mut Rng, n: usize) -> Vec<u64> {
     }
 }
 
+/// A configuration's words; now and then edition 1 is said by another number.
+fn any_edition(rng: &mut Rng, mut words: Vec<u64>) -> Vec<u64> {
+    if words[12] == 1 && rng.once_in(4) {
+        words[12] = rng.pick(&[0, 3, u64::MAX]);
+    }
+    words
+}
+
 impl Drawing<'_> {
     /// Adds an operation, unless the oracle has no answer to it.
     fn add(&mut self, mut o: Operation) {
@@ -114,8 +125,8 @@ impl Drawing<'_> {
         let spans = lent(rng, 24 * s.spans, odd);
         let repairs = lent(rng, 6 * s.repairs, odd);
         let monitor = lent(rng, 4 * s.n, odd);
-        let o = Operation::new(MAKE, &[spans, repairs, monitor], setting_words(s));
-        self.add(o);
+        let words = any_edition(rng, setting_words(s));
+        self.add(Operation::new(MAKE, &[spans, repairs, monitor], words));
     }
 
     /// A making that is mostly refused.
@@ -442,7 +453,8 @@ impl Drawing<'_> {
         if self.rng.once_in(3) {
             s.iq = Mode::Off;
         }
-        self.add(Operation::new(CONFIG, &[], setting_words(&s)));
+        let words = any_edition(self.rng, setting_words(&s));
+        self.add(Operation::new(CONFIG, &[], words));
     }
 
     /// An operation that takes a state or a store.
@@ -533,6 +545,7 @@ pub fn case(seed: u64, machine: &mut Machine) -> Case {
         digests: false,
         released: Vec::new(),
         near_ratio: 0,
+        only_second: 0,
     };
     let kind = match d.rng.below(17) {
         0..=9 => Kind::Any,
@@ -558,6 +571,7 @@ pub fn case(seed: u64, machine: &mut Machine) -> Case {
         kind,
         list: d.case,
         near_ratio: d.near_ratio,
+        only_second: d.only_second,
     }
 }
 

@@ -42,7 +42,7 @@ fn signal(rng: &mut Rng) -> Vec<Sample> {
 /// What the stage writes, applying alone, in one call that releases all.
 fn applied(fs: f64, xs: &[u64]) -> Result<Vec<u64>, String> {
     let s = setting(fs, Mode::Off, Mode::Apply, Mode::Off);
-    let config: Config = setting_words(&s)[..].try_into().expect("twelve words");
+    let config: Config = setting_words(&s)[..].try_into().expect("thirteen words");
     let mut state = [0; STATE_WORDS];
     let (mut spans, mut repairs) = (vec![0; 24 * s.spans], vec![0; 6 * s.repairs]);
     let made = vg_make(

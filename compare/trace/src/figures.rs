@@ -132,6 +132,7 @@ impl Figures {
                 "uncertain",
                 "long runs",
                 "at ratio",
+                "only 2nd",
             ],
         );
         self.rows(&hard::IMPULSE, Kind::Impulse, |m| {
@@ -144,6 +145,7 @@ impl Figures {
                 uncertain,
                 m.long_runs,
                 m.near_ratio,
+                m.only_second,
             ]
         });
         head(
@@ -240,6 +242,7 @@ struct Met {
     /// Samples with a power above 1.
     loud: u64,
     near_ratio: u64,
+    only_second: u64,
     /// Counts of marks, long runs and clamped DC updates, of the chains' last logs.
     marks: [u64; 12],
     long_runs: u64,
@@ -266,6 +269,7 @@ impl Met {
     fn case(&mut self, case: &Case) {
         self.cases += 1;
         self.near_ratio += case.near_ratio;
+        self.only_second += case.only_second;
         // The log of the chain of the moment.
         let mut log: Option<&Answer> = None;
         for (operation, answer) in &case.list {

@@ -11,14 +11,14 @@ use vatgorge::{SPAN_WORDS, *};
 /// Where some of a state's words stand: crates/chain_words/specs/Places.antt.
 const COEFFICIENT: usize = 7;
 const GATE: usize = 9;
-const RECEIVED: usize = 11;
-const RUN: usize = 12;
-const SEEN: usize = 28;
-const RELEASED: usize = 29;
-const HELD_COUNT: usize = 30;
-const CLAMPED: usize = 31;
-const ARRAYS: usize = 36;
-const RINGS: usize = 123;
+const RECEIVED: usize = 12;
+const RUN: usize = 13;
+const SEEN: usize = 29;
+const RELEASED: usize = 30;
+const HELD_COUNT: usize = 31;
+const CLAMPED: usize = 32;
+const ARRAYS: usize = 37;
+const RINGS: usize = 124;
 
 /// What a lent word holds before an operation, and the number that is answered where one was written that should have stayed.
 const LENT: u64 = 0x5eed_5eed_5eed_5eed;
@@ -52,7 +52,7 @@ fn all_lent(words: &[u64]) -> bool {
 fn config(o: &Operation) -> Config {
     o.words[..]
         .try_into()
-        .expect("a configuration has twelve words")
+        .expect("a configuration has thirteen words")
 }
 
 impl Default for Library {

@@ -23,13 +23,14 @@ pub struct Recordings {
 fn head(rng: &mut Rng) -> Vec<u8> {
     let s = some_setting(rng);
     let words = setting_words(&s);
-    let mut bytes = b"CND\x01\x00".to_vec();
+    let mut bytes = b"CND".to_vec();
+    bytes.extend((words[12] as u16).to_le_bytes());
     bytes.extend(words[..3].iter().map(|&mode| mode as u8));
     bytes.push(words[6] as u8);
     for k in [3, 4, 7, 8, 9] {
         bytes.extend(words[k].to_le_bytes());
     }
-    match rng.below(8) {
+    match rng.below(9) {
         0 => bytes.truncate(rng.below(HEADER + 1)),
         1 => bytes[rng.below(9)] = rng.next() as u8,
         2 => bytes[rng.from(5, 8)] = rng.from(0, 3) as u8,
@@ -39,6 +40,10 @@ fn head(rng: &mut Rng) -> Vec<u8> {
             bytes[9..17].copy_from_slice(&fs.to_le_bytes());
         }
         5 => bytes.extend([0; 3]),
+        6 => {
+            let version = rng.pick(&[0u16, 1, 2, 3, 0x100, 0x101, 0x102, 0x200, 0x201, u16::MAX]);
+            bytes[3..5].copy_from_slice(&version.to_le_bytes());
+        }
         _ => (),
     }
     bytes
@@ -89,7 +94,7 @@ fn one_start(head: &[u8], lent: [usize; 3]) -> Result<u64, String> {
     let mut made = fresh();
     if wanted == 0 {
         let s = header(head).expect("it is made");
-        let config: Config = setting_words(&s)[..].try_into().expect("twelve words");
+        let config: Config = setting_words(&s)[..].try_into().expect("thirteen words");
         let (state, s, r, m) = &mut made;
         vg_make(&config, state, s, r, m);
     }

@@ -1,7 +1,7 @@
 //! The stored list: small, and with every operation, every mode, every refusal and every cutting in it.
 
 use oracle::draw::{some_samples, Rng};
-use oracle::rules::{Calibration, Mode, Sample, Setting};
+use oracle::rules::{Calibration, Edition, Mode, Sample, Setting};
 use oracle::trace::machine::{first, setting_words, Machine};
 use oracle::trace::*;
 
@@ -54,6 +54,7 @@ fn setting(modes: [Mode; 3]) -> Setting {
         impulse,
         dc,
         iq,
+        edition: Edition::First,
         calibration: Some(calibration()),
         spans: 2,
         repairs: 3,
@@ -190,6 +191,22 @@ impl List {
             (s.fs, s.spans, s.repairs) = (fs, spans, repairs);
             self.make(&s);
             for part in clicks(1400, every).chunks(1000) {
+                self.call(part, true);
+            }
+            self.read();
+            self.spans();
+        }
+        // Two clicks, one, and one, in blocks of 1,000: only edition 2 pauses the third.
+        for edition in [Edition::First, Edition::Second] {
+            let mut s = setting([Mode::Apply, Mode::Off, Mode::Off]);
+            (s.fs, s.edition) = (1000.0, edition);
+            self.op(CONFIG, &[], setting_words(&s));
+            self.make(&s);
+            let mut xs = vec![ONE; 2100];
+            for k in [300, 600, 1500, 2050] {
+                xs[k].re = 100.0;
+            }
+            for part in xs.chunks(1000) {
                 self.call(part, true);
             }
             self.read();

@@ -8,6 +8,7 @@ use Rattle.rules.specs.Chain.{Config}
 use Rattle.rules.specs.Refusals.{firstOf, badRate, badSize, badCapacity, makingRefusal}
 use Rattle.iq.specs.View.{calibratedOf}
 use Rattle.stage_mode.specs.View.{modeOf}
+use Rattle.impulse_pause.specs.View.{editionOf}
 use Rattle.chain_config.specs.declared.ConditioningConfig.{ConditioningConfig}
 use Rattle.chain_config.specs.declared.Fitness.{Fitness}
 use Rattle.chain_config.specs.declared.Fitness.the-variants.{Fit, BadRate, BadSize, BadCapacity, BadLength}
@@ -24,6 +25,7 @@ configOf c =
       calibration = calibratedOf (c .calibration);
       spans = c .spans;
       repairs = c .repairs;
+      edition = editionOf (c .edition);
     }
 
 -- 'all off'
@@ -48,6 +50,7 @@ withModes c impulse dc =
       calibration = c .calibration;
       spans = c .spans;
       repairs = c .repairs;
+      edition = c .edition;
     }
 
 -- the impulse and DC stages forced, all else as it was

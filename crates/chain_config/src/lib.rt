@@ -4,6 +4,7 @@ ghost use mathlib.Core.Path.{_≡_};
 ghost use lib.Dec.{eqb};
 ghost use Rattle.stage_mode.specs.View.{modeOf};
 ghost use Rattle.chain_config.specs.Config.{configOf, allOff, forced, observed, numberOf, settingRefusal, refusal};
+use impulse_pause::PauseEdition;
 use iq::Calibration;
 use iq_monitor::ImageMonitor;
 use stage_mode::StageMode;
@@ -15,8 +16,8 @@ pub const SPAN_LIMIT: usize = 256;
 
 pub const REPAIR_LIMIT: usize = 4096;
 
-// Which stages run, the receiver's rate and centre, the channels of a hop, the calibration, and how
-// many spans a ring and how many repairs the log holds.
+// Which stages run, the receiver's rate and centre, the channels of a hop, the calibration, how many
+// spans a ring and how many repairs the log holds, and the edition of the pause rule.
 pub struct ConditioningConfig {
     pub impulse: StageMode,
     pub dc: StageMode,
@@ -27,6 +28,7 @@ pub struct ConditioningConfig {
     pub calibration: Calibration,
     pub spans: usize,
     pub repairs: usize,
+    pub edition: PauseEdition,
 }
 
 // Whether a configuration may be made with the stores that are lent.
@@ -111,6 +113,7 @@ impl ConditioningConfig {
         let dc = self.dc;
         let iq = self.iq;
         let calibration = self.calibration;
+        let edition = self.edition;
         ConditioningConfig {
             impulse: forced(impulse),
             dc: forced(dc),
@@ -121,6 +124,7 @@ impl ConditioningConfig {
             calibration,
             spans: self.spans,
             repairs: self.repairs,
+            edition,
         }
     }
 

@@ -49,7 +49,7 @@ freshState g =
     record {
       settings = freshSettings g;
       counts = record { seen = 0; released = 0; held = 0; clamped = 0 };
-      suppressor = impulse.fresh (settingOf (configOf g));
+      suppressor = impulse.fresh (settingOf (configOf g)) (g .edition);
       blocker = blockerOf (corner (g .fs)) firstLevel;
       monitor = image.fresh;
       notes = freshNotes;

@@ -69,11 +69,12 @@ fn fresh_settings(config: ConditioningConfig) -> Settings
 }
 
 fn fresh_suppressor(config: ConditioningConfig) -> ImpulseSuppressor
-    ensures { λ r. ⌜ r ≡ fresh (settingOf (configOf config)) ⌝ }
+    ensures { λ r. ⌜ r ≡ fresh (settingOf (configOf config)) (config .edition) ⌝ }
 {
     let mode = config.impulse;
+    let edition = config.edition;
     let blocklen = ieee::round_half_away(config.fs);
-    ImpulseSuppressor::fresh(blocklen, mode.applies())
+    ImpulseSuppressor::fresh(blocklen, mode.applies(), edition)
 }
 
 // The state before any sample, whatever the configuration.

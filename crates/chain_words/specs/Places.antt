@@ -33,8 +33,11 @@ coefficient = iq + 1
 abbrev pub apply : ℕ
 apply = coefficient + 2
 
+abbrev pub edition : ℕ
+edition = apply + 1
+
 abbrev pub blockLength : ℕ
-blockLength = apply + 1
+blockLength = edition + 1
 
 abbrev pub received : ℕ
 received = blockLength + 1

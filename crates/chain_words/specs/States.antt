@@ -8,6 +8,7 @@ use lib.Ieee.{Float, binary32, binary64, ofBits}
 use Rattle.complex.specs.declared.Complex64.{Complex64}
 use Rattle.stage_mode.specs.declared.StageMode.{StageMode}
 use Rattle.stage_mode.specs.declared.StageMode.the-variants as mode
+use Rattle.impulse_pause.specs.View.{numbered}
 use Rattle.log.specs.declared.Ring.{Ring}
 use Rattle.log.specs.declared.Log.{Log}
 use Rattle.log.specs.declared.Notes.{Notes}
@@ -86,7 +87,8 @@ settingsIn ws =
     }
 
 abbrev pub gateSettingsIn : List ℕ → GateSettings
-gateSettingsIn ws = record { apply = flagOf (word ws place.apply); blocklen = word ws place.blockLength }
+gateSettingsIn ws =
+    record { apply = flagOf (word ws place.apply); edition = numbered (word ws place.edition); blocklen = word ws place.blockLength }
 
 abbrev pub mendingIn : List ℕ → Mending
 mendingIn ws =

@@ -5,6 +5,7 @@ use Prim.Native.Nat.{ℕ}
 use lib.Ieee.{Float, binary32, binary64, toBits}
 use Rattle.stage_mode.specs.declared.StageMode.{StageMode}
 use Rattle.stage_mode.specs.declared.StageMode.the-variants as mode
+use Rattle.impulse_pause.specs.View.{numberOf}
 use Rattle.log.specs.declared.Ring.{Ring}
 use Rattle.log.specs.declared.Log.{Log}
 use Rattle.log.specs.declared.Notes.{Notes}
@@ -79,7 +80,7 @@ settingsWords s =
     toBits binary64 (s .fs) ∷ s .n ∷ s .spans ∷ s .repairs ∷ flagWord (s .impulse) ∷ modeWord (s .dc) ∷ iqWords (s .iq)
 
 abbrev pub gateSettingsWords : GateSettings → List ℕ
-gateSettingsWords s = flagWord (s .apply) ∷ s .blocklen ∷ []
+gateSettingsWords s = flagWord (s .apply) ∷ numberOf (s .edition) ∷ s .blocklen ∷ []
 
 abbrev pub mendingWords : Mending → List ℕ
 mendingWords m = runWords (m .run) ++ leftWords (m .left)

@@ -28,6 +28,7 @@ use impulse::Left;
 use impulse::Mending;
 use impulse::Open;
 use impulse::Run;
+use impulse_pause::PauseEdition;
 use iq::Iq;
 use iq_monitor::Begun;
 use iq_monitor::ImageMonitor;
@@ -57,7 +58,9 @@ pub const COEFFICIENT: usize = IQ + 1;
 // The gate: its settings; what it received; the run, four words, and the sample before it, two; the block.
 pub const APPLY: usize = COEFFICIENT + 2;
 
-const BLOCK_LENGTH: usize = APPLY + 1;
+const EDITION: usize = APPLY + 1;
+
+const BLOCK_LENGTH: usize = EDITION + 1;
 
 pub const RECEIVED: usize = BLOCK_LENGTH + 1;
 
@@ -287,10 +290,11 @@ fn read_settings(words: &[u64; STATE_WORDS]) -> Settings
     }
 }
 
-fn gate_settings_words(s: GateSettings) -> [u64; 2]
+fn gate_settings_words(s: GateSettings) -> [u64; 3]
     ensures { λ r. ⌜ r ≡ gateSettingsWords s ⌝ }
 {
-    [flag_word(s.apply), s.blocklen]
+    let edition = s.edition;
+    [flag_word(s.apply), edition.number(), s.blocklen]
 }
 
 fn read_gate_settings(words: &[u64; STATE_WORDS]) -> GateSettings
@@ -298,6 +302,7 @@ fn read_gate_settings(words: &[u64; STATE_WORDS]) -> GateSettings
 {
     GateSettings {
         apply: flag_of(words[APPLY]),
+        edition: PauseEdition::numbered(words[EDITION]),
         blocklen: words[BLOCK_LENGTH],
     }
 }
@@ -337,7 +342,7 @@ fn read_block(words: &[u64; STATE_WORDS]) -> Block
     }
 }
 
-fn gate_words(g: Gate) -> [u64; 12]
+fn gate_words(g: Gate) -> [u64; 13]
     ensures { λ r. ⌜ r ≡ gateWords g ⌝ }
 {
     let settings = g.settings;
@@ -349,6 +354,7 @@ fn gate_words(g: Gate) -> [u64; 12]
     [
         s[0],
         s[1],
+        s[2],
         g.received,
         m[0],
         m[1],

@@ -7,7 +7,10 @@ use lib.ListN.{getD, set, take, replicate}
 use lib.Ieee.{Float, nan}
 use Rattle.complex.specs.Complex.{wordOf, sampleOf}
 use Rattle.rules.specs.Constants.{zeroF}
-use Rattle.rules.specs.Impulse.{Setting, standard, width, lookahead, powerOf, standsOut, pauses, mendable, between}
+use Rattle.rules.specs.Pauses.{pauses}
+use Rattle.rules.specs.Impulse.{Setting, standard, width, lookahead, powerOf, standsOut, mendable, between}
+use Rattle.impulse_pause.specs.declared.PauseEdition.{PauseEdition}
+use Rattle.impulse_pause.specs.View.{editionOf}
 use Rattle.impulse_window.specs.Ordered.{ordered, mean}
 use Rattle.impulse.specs.declared.Run.{Run}
 use Rattle.impulse.specs.declared.Open.{Open}
@@ -26,9 +29,9 @@ use Rattle.impulse.specs.declared.Answer.the-variants.{Released, Nothing
 abbrev pub settingOf : Gate → Setting
 settingOf g = standard (g .settings .blocklen) (g .settings .apply)
 
--- what a gate has of a setting
-abbrev pub gateSettings : Setting → GateSettings
-gateSettings s = record { apply = s .apply; blocklen = s .block }
+-- what a gate has of a setting, and its edition
+abbrev pub gateSettings : Setting → PauseEdition → GateSettings
+gateSettings s e = record { apply = s .apply; edition = e; blocklen = s .block }
 
 -- ---- the beginning
 
@@ -38,10 +41,10 @@ noRun = record { run = Closed; left = Missing }
 abbrev pub firstBlock : Block
 firstBlock = record { number = 0; flagged = 0; paused = false }
 
-abbrev pub fresh : Setting → ImpulseSuppressor
-fresh s =
+abbrev pub fresh : Setting → PauseEdition → ImpulseSuppressor
+fresh s e =
     record {
-      gate = record { settings = gateSettings s; received = 0; mending = noRun; block = firstBlock };
+      gate = record { settings = gateSettings s e; received = 0; mending = noRun; block = firstBlock };
       window = replicate (width s) zeroF;
       sorted = replicate (width s) zeroF;
       pending = replicate (lookahead s) 0;
@@ -61,7 +64,9 @@ withBlock g b = record { settings = g .settings; received = g .received; mending
 
 -- the block that follows the gate's, with no sample judged yet
 abbrev pub nextBlock : Gate → ℕ → Block
-nextBlock g number = record { number = number; flagged = 0; paused = pauses (g .settings .blocklen) (g .block .paused) (g .block .flagged) }
+nextBlock g number =
+    let s = g .settings in
+    record { number = number; flagged = 0; paused = pauses (editionOf (s .edition)) (s .blocklen) (g .block .paused) (g .block .flagged) }
 
 -- sample j comes to be judged: the gate in its block
 unfoldable pub entered : Gate → ℕ → Gate

@@ -7,7 +7,7 @@ ghost use mathlib.Core.Path.{_≡_};
 ghost use mathlib.Core.Bool.{true};
 ghost use Prim.Native.Nat.{_+_, _-_, _^_, _≤_, _<_, min};
 ghost use lib.ListN.{length};
-ghost use Rattle.rules.specs.Impulse.{windowSize, lookaheadSize, trimSize, standard, nextJudged, pauses};
+ghost use Rattle.rules.specs.Impulse.{windowSize, lookaheadSize, trimSize, standard, nextJudged};
 ghost use Rattle.impulse.specs.Machine.{settingOf, fresh, grown, arrived, withMending, withBlock, entered, withRun, withNeighbour, closing};
 ghost use Rattle.impulse.specs.Machine.{closingPending, ending, endingPending, flaggedBy, judge, verdict, released, push};
 ghost use Rattle.impulse.specs.View.{suppressorOf, endedOf, judgedOf, pushedOf};
@@ -16,6 +16,7 @@ ghost use Rattle.impulse_window.specs.Rising.{Rising};
 
 mod runs;
 
+use impulse_pause::PauseEdition;
 use log::Repair;
 
 // An open run of flagged samples. `paused`: one of them lies in a paused block.
@@ -36,9 +37,11 @@ pub enum Left {
     Missing,
 }
 
-// What making settled.
+// What making settled. The edition stands beside the other small field: behind the block length it would
+// cost one more copy wherever a gate moves.
 pub struct GateSettings {
     pub apply: bool,
+    pub edition: PauseEdition,
     pub blocklen: u64,
 }
 
@@ -107,14 +110,16 @@ impl ImpulseSuppressor {
     pub const MAX_RUN: usize = 4;
     // How many samples an applying suppressor holds back: half a window, a run and its neighbour.
     pub const LOOKAHEAD: usize = ImpulseSuppressor::HALF_WINDOW + ImpulseSuppressor::MAX_RUN + 1;
-    // Of a block's samples, how many may be flagged before the next is paused.
-    pub const PAUSE_FRACTION: f64 = 0.001;
 
-    pub fn fresh(blocklen: u64, apply: bool) -> ImpulseSuppressor
-        ensures { λ r. ⌜ r ≡ fresh (standard blocklen apply) ⌝ }
+    pub fn fresh(blocklen: u64, apply: bool, edition: PauseEdition) -> ImpulseSuppressor
+        ensures { λ r. ⌜ r ≡ fresh (standard blocklen apply) edition ⌝ }
     {
         let gate = Gate {
-            settings: GateSettings { apply, blocklen },
+            settings: GateSettings {
+                apply,
+                edition,
+                blocklen,
+            },
             received: 0,
             mending: Mending {
                 run: Open::Closed,
@@ -133,14 +138,6 @@ impl ImpulseSuppressor {
             pending: [0u64; ImpulseSuppressor::LOOKAHEAD],
         }
     }
-}
-
-// Whether the next block is paused: its length, whether the last one was, and how many of that were flagged.
-pub fn pauses(blocklen: u64, was: bool, flagged: u64) -> bool
-    ensures { λ b. ⌜ b ≡ pauses blocklen was flagged ⌝ }
-{
-    std::num::nearest_u64_to_f64(flagged)
-        > ImpulseSuppressor::PAUSE_FRACTION * std::num::nearest_u64_to_f64(blocklen)
 }
 
 // The next sample to be judged, of so many received: half a window before the next that comes.
@@ -244,11 +241,9 @@ impl Gate {
         if number == self.block.number {
             return self;
         }
-        let paused = pauses(
-            self.settings.blocklen,
-            self.block.paused,
-            self.block.flagged,
-        );
+        let settings = self.settings;
+        let edition = settings.edition;
+        let paused = edition.pauses(settings.blocklen, self.block.paused, self.block.flagged);
         let block = Block {
             number,
             flagged: 0,

@@ -1,6 +1,6 @@
--- Document 01, 'The replay program reads standard input', with document 02's R-4 and R-7: a recording's header and its samples. Bytes are
+-- Document 01, 'The replay program reads standard input', with document 02's R-4, R-6 and R-7: a recording's header and its samples. Bytes are
 -- numbers. Definitions only.
-use mathlib.Core.Bool.{Bool, not, _&&_}
+use mathlib.Core.Bool.{Bool, cond, not, _&&_, _||_}
 use mathlib.Core.List.{List, [], _∷_}
 use Prim.Native.Nat.{ℕ, zero, suc, _+_, _*_, _/_, _%_}
 use lib.Dec.{leb, eqb}
@@ -9,6 +9,7 @@ use lib.Ieee.{Float, binary64, ofBits}
 use Rattle.rules.specs.Lists.{at, upTo}
 use Rattle.rules.specs.Iq.{Calibration, Calibrated, none, with}
 use Rattle.rules.specs.Mode.{Mode, off, observe, apply}
+use Rattle.rules.specs.Pauses.{Edition, first, second}
 use Rattle.rules.specs.Chain.{Config}
 use Rattle.rules.specs.Refusals.{Cause, firstOf}
 
@@ -28,9 +29,21 @@ headerSize = 49
 -- ---- the header: 'mark CND, u16 version 1, mode bytes impulse, DC, IQ (0 off, 1 observe, 2 apply), calibration present (0 or 1), then f64 fs, centre, gain,
 -- phase, calibrated centre'
 
--- 'mark CND, u16 version 1'
+-- 'mark CND'
 abbrev pub markFits : List ℕ → Bool
-markFits input = eqb (at input 0) 67 && eqb (at input 1) 78 && eqb (at input 2) 68 && eqb (at input 3) 1 && eqb (at input 4) 0
+markFits input = eqb (at input 0) 67 && eqb (at input 1) 78 && eqb (at input 2) 68
+
+-- 'u16 version'
+abbrev pub versionIn : List ℕ → ℕ
+versionIn input = littleEndian (at input 3 ∷ at input 4 ∷ [])
+
+-- 1, and R-6's 2
+abbrev pub versionFits : ℕ → Bool
+versionFits version = eqb version 1 || eqb version 2
+
+-- R-6: 'The replay header's version 2 selects it; version 1 keeps the old rule.'
+abbrev pub editionBy : ℕ → Edition
+editionBy version = cond (eqb version 2) second first
 
 -- 'mode bytes impulse, DC, IQ (0 off, 1 observe, 2 apply), calibration present (0 or 1)'
 abbrev pub modesFit : List ℕ → Bool
@@ -38,7 +51,7 @@ modesFit input = leb (at input 5) 2 && leb (at input 6) 2 && leb (at input 7) 2 
 
 -- not: 'replay header under 49 bytes, or mark, version, mode or present byte not as above'
 abbrev pub headerFits : List ℕ → Bool
-headerFits input = leb headerSize (length input) && markFits input && modesFit input
+headerFits input = leb headerSize (length input) && markFits input && versionFits (versionIn input) && modesFit input
 
 abbrev pub badHeader : List ℕ → Cause
 badHeader input = record { holds = not (headerFits input); number = 14 }
@@ -72,6 +85,7 @@ configIn input =
       calibration = calibrationIn input;
       spans = 256;
       repairs = 1024;
+      edition = editionBy (versionIn input);
     }
 
 -- ---- 'then pairs of f32': each pair is a sample's word

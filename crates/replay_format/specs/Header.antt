@@ -4,9 +4,12 @@ use mathlib.Core.List.{List}
 use Prim.Native.Nat.{ℕ}
 use Rattle.rules.specs.Iq.{Calibrated, none, with}
 use Rattle.rules.specs.Mode.{Mode, off, observe, apply}
+use Rattle.rules.specs.Pauses.{Edition, first, second}
 use Rattle.rules.specs.Chain.{Config}
 use Rattle.stage_mode.specs.declared.StageMode.{StageMode}
 use Rattle.stage_mode.specs.declared.StageMode.the-variants as mode
+use Rattle.impulse_pause.specs.declared.PauseEdition.{PauseEdition}
+use Rattle.impulse_pause.specs.declared.PauseEdition.the-variants as edition
 use Rattle.iq.specs.declared.Calibration.{Calibration}
 use Rattle.iq.specs.declared.Calibration.the-variants.{Absent, Present}
 use Rattle.chain_config.specs.declared.ConditioningConfig.{ConditioningConfig}
@@ -39,6 +42,10 @@ modeFrom off = mode.Off
 modeFrom observe = mode.Observe
 modeFrom apply = mode.Apply
 
+abbrev pub editionFrom : Edition → PauseEdition
+editionFrom first = edition.First
+editionFrom second = edition.Second
+
 abbrev pub calibrationFrom : Calibrated → Calibration
 calibrationFrom none = Absent
 calibrationFrom (with c) = Present (record { gain = c .gain; phase = c .phase; centre = c .centre })
@@ -55,4 +62,5 @@ configFrom c =
       calibration = calibrationFrom (c .calibration);
       spans = c .spans;
       repairs = c .repairs;
+      edition = editionFrom (c .edition);
     }

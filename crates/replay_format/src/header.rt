@@ -4,9 +4,10 @@ ghost use mathlib.Core.Path.{_≡_};
 ghost use Prim.Native.Nat.{_<_, _≤_};
 ghost use lib.ListN.{length};
 ghost use Rattle.iq.specs.View.{calibratedOf};
+ghost use Rattle.impulse_pause.specs.View.{editionOf};
 ghost use Rattle.stage_mode.specs.View.{modeOf};
 ghost use Rattle.chain_config.specs.Config.{configOf};
-ghost use Rattle.replay_format.specs.Format.{markFits, modesFit, modeBy, realAt, calibrationIn, configIn};
+ghost use Rattle.replay_format.specs.Format.{markFits, versionIn, versionFits, editionBy, modesFit, modeBy, realAt, calibrationIn, configIn};
 ghost use Rattle.replay_format.specs.Header.{saidHeader, headerNumber, headerSaid};
 use crate::CHANNELS;
 use crate::HeaderRead;
@@ -14,13 +15,14 @@ use crate::REPAIRS;
 use crate::SPANS;
 use crate::words;
 use chain_config::ConditioningConfig;
+use impulse_pause::PauseEdition;
 use iq::Calibration;
 use iq::IqCalibration;
 use stage_mode::StageMode;
 
 const HEADER_SIZE: usize = 49;
 
-// Mark CND, and version 1.
+// Mark CND.
 fn mark_fits(bytes: &[u8]) -> bool
     requires { ⌜ 49 ≤ length (now bytes) ⌝ }
     ensures { λ r. ⌜ r ≡ markFits (now (bytes .entry)) ⌝ }
@@ -31,13 +33,34 @@ fn mark_fits(bytes: &[u8]) -> bool
     if bytes[1] != b'N' {
         return false;
     }
-    if bytes[2] != b'D' {
-        return false;
+    bytes[2] == b'D'
+}
+
+// A little-endian u16.
+fn version(bytes: &[u8]) -> u64
+    requires { ⌜ 49 ≤ length (now bytes) ⌝ }
+    ensures { λ r. ⌜ r ≡ versionIn (now (bytes .entry)) ⌝ }
+{
+    let low = words::wide(bytes[3]);
+    let high = words::wide(bytes[4]);
+    low + 256 * high
+}
+
+// Version 1 or 2.
+fn version_fits(version: u64) -> bool
+    ensures { λ r. ⌜ r ≡ versionFits version ⌝ }
+{
+    if version == 1 {
+        return true;
     }
-    if bytes[3] != 1 {
-        return false;
-    }
-    bytes[4] == 0
+    version == 2
+}
+
+// The version is the number of the pause rule's edition.
+fn edition_by(version: u64) -> PauseEdition
+    ensures { λ r. ⌜ editionOf r ≡ editionBy version ⌝ }
+{
+    PauseEdition::numbered(version)
 }
 
 // The mode bytes, and the byte that says whether a calibration is present.
@@ -104,6 +127,7 @@ fn config(bytes: &[u8]) -> ConditioningConfig
     let fs = real_at(bytes, 0);
     let centre = real_at(bytes, 1);
     let calibration = calibration(bytes);
+    let edition = edition_by(version(bytes));
     ConditioningConfig {
         impulse,
         dc,
@@ -114,6 +138,7 @@ fn config(bytes: &[u8]) -> ConditioningConfig
         calibration,
         spans: SPANS,
         repairs: REPAIRS,
+        edition,
     }
 }
 
@@ -125,6 +150,9 @@ pub fn header(bytes: &[u8]) -> HeaderRead
         return HeaderRead::Bad;
     }
     if !mark_fits(bytes) {
+        return HeaderRead::Bad;
+    }
+    if !version_fits(version(bytes)) {
         return HeaderRead::Bad;
     }
     if !modes_fit(bytes) {

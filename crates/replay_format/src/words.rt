@@ -11,7 +11,7 @@ pub const SAMPLE_SIZE: usize = 8;
 // Document 02's number of a recording whose last sample is broken.
 const BROKEN_TAIL: u64 = 17;
 
-fn wide(byte: u8) -> u64
+pub fn wide(byte: u8) -> u64
     ensures { λ r. ⌜ (r ≡ byte) × (r < 256) ⌝ }
 {
     byte as u64

@@ -2,6 +2,7 @@
 use mathlib.Core.List.{List}
 use Prim.Native.Nat.{ℕ}
 use Rattle.rules.specs.Constants.{zeroF}
+use Rattle.impulse_pause.specs.declared.PauseEdition.the-variants as edition
 use Rattle.stage_mode.specs.declared.StageMode.the-variants as mode
 use Rattle.iq.specs.declared.Calibration.the-variants.{Absent}
 use Rattle.chain_config.specs.declared.ConditioningConfig.{ConditioningConfig}
@@ -38,6 +39,7 @@ idle =
       calibration = Absent;
       spans = 0;
       repairs = 0;
+      edition = edition.First;
     }
 
 -- the header's configuration; beside 14 the idle one

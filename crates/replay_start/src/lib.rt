@@ -8,6 +8,7 @@ ghost use Rattle.replay_start.specs.Starting.{idle, saidStart, startSaid
 use chain_config::ConditioningConfig;
 use chain_make::MakingAnswer;
 use chain_state::InputConditioner;
+use impulse_pause::PauseEdition;
 use iq::Calibration;
 use replay_format::HeaderRead;
 use stage_mode::StageMode;
@@ -40,6 +41,7 @@ fn idle() -> ConditioningConfig
         calibration: Calibration::Absent,
         spans: 0,
         repairs: 0,
+        edition: PauseEdition::First,
     }
 }
 

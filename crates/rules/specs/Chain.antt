@@ -1,10 +1,11 @@
--- Document 01, 'Chain' and 'Lists of calls', and document 02, R-1: what the rules give for a whole input, all the samples and all the hops. Definitions only.
+-- Document 01, 'Chain' and 'Lists of calls', and document 02, R-1 and R-6: what the rules give for a whole input, all the samples and all the hops. Definitions only.
 use mathlib.Core.Bool.{cond}
 use mathlib.Core.List.{List, [], _∷_, map}
 use Prim.Native.Nat.{ℕ}
 use lib.ListN.{length}
 use lib.Ieee.{Float}
 use Rattle.complex.specs.Complex.{Complex}
+use Rattle.rules.specs.Pauses.{Edition, always}
 use Rattle.rules.specs.Impulse.{Setting, standard, blockLength, Event, happened, handedOn, held}
 use Rattle.rules.specs.Dc.{corner, firstLevel, levelAfter, blockedAll, clampedSteps}
 use Rattle.rules.specs.Iq.{Calibrated, Settled, Off, Observing, Withheld, Correcting, settled, correctedBy}
@@ -23,18 +24,23 @@ pub record Config : Type 0 where
   pub calibration : Calibrated
   pub spans : ℕ
   pub repairs : ℕ
+  pub edition : Edition
 
 abbrev pub settingOf : Config → Setting
 settingOf c = standard (blockLength (c .fs)) (isApply (c .impulseMode))
+
+-- the edition that each block begins with
+abbrev pub editionsOf : Config → ℕ → Edition
+editionsOf c = always (c .edition)
 
 -- ---- 'Stages run impulse, DC, IQ.'
 
 -- what happened in the impulse stage, and what it handed on
 unfoldable pub impulseEvents : Config → List ℕ → List Event
-impulseEvents c xs = cond (runs (c .impulseMode)) (happened (settingOf c) xs) []
+impulseEvents c xs = cond (runs (c .impulseMode)) (happened (settingOf c) (editionsOf c) xs) []
 
 unfoldable pub afterImpulse : Config → List ℕ → List ℕ
-afterImpulse c xs = cond (runs (c .impulseMode)) (handedOn (settingOf c) xs) xs
+afterImpulse c xs = cond (runs (c .impulseMode)) (handedOn (settingOf c) (editionsOf c) xs) xs
 
 -- 'Applying writes y and marks Corrected; observing leaves the sample.'
 unfoldable pub afterDc : Config → List ℕ → List ℕ

@@ -42,8 +42,12 @@ abbrev pub impulseRatio : Float
 impulseRatio = ofBits binary64 0x4062_0000_0000_0000
 
 -- 0.001
-abbrev pub pauseFraction : Float
-pauseFraction = ofBits binary64 0x3f50_624d_d2f1_a9fc
+abbrev pub entryFraction : Float
+entryFraction = ofBits binary64 0x3f50_624d_d2f1_a9fc
+
+-- 0.0005
+abbrev pub exitFraction : Float
+exitFraction = ofBits binary64 0x3f40_624d_d2f1_a9fc
 
 -- 6.283185307179586
 abbrev pub tau : Float

@@ -9,9 +9,10 @@ use lib.ListN.{length, take, drop}
 use lib.Ieee.{Float, binary32, binary64, add, mul, div, lt, ofInt}
 use Rattle.ieee.specs.Whole.{roundDiv, wholeBy}
 use Rattle.complex.specs.Complex.{Complex, sum, difference, scaled, power, wordOf, sampleOf}
-use Rattle.rules.specs.Constants.{zeroF, impulseRatio, pauseFraction}
+use Rattle.rules.specs.Constants.{zeroF, impulseRatio}
 use Rattle.rules.specs.Lists.{upTo, count, at}
 use Rattle.rules.specs.Sort.{sort}
+use Rattle.rules.specs.Pauses.{Edition, paused}
 
 -- ---- the setting: half window, longest run, trim; the block length; whether the stage applies or observes
 
@@ -88,7 +89,7 @@ standsOut r p = lt zeroF r && lt (mul binary64 impulseRatio r) p
 unfoldable pub flagged : Setting → List ℕ → ℕ → Bool
 flagged s xs j = standsOut (reference s (window s xs j)) (powerOf (at xs j))
 
--- ---- blocks and pauses; from here on by any flags F
+-- ---- blocks; from here on by any flags F
 
 -- 'block length, fs rounded half away from zero'
 unfoldable pub blockLength : Float → ℕ
@@ -98,14 +99,6 @@ blockLength fs = wholeBy roundDiv fs
 abbrev pub blockOf : Setting → ℕ → ℕ
 blockOf s j = j / s .block
 
--- 'A block is paused exactly if the one before had more than 0.001 × block length flagged (f64).' Whether that one was paused plays no part.
-unfoldable pub pauses : ℕ → Bool → ℕ → Bool
-pauses block was n = lt (mul binary64 pauseFraction (ofInt binary64 (pos block))) (ofInt binary64 (pos n))
-
-unfoldable pub paused : ℕ → (ℕ → Bool) → ℕ → Bool
-paused block F zero = false
-paused block F (suc b) = pauses block (paused block F b) (count F (b * block) block)
-
 -- the block of the newest judged sample, when j are judged
 abbrev pub newestBlock : Setting → ℕ → ℕ
 newestBlock s j = blockOf s (j - 1)
@@ -114,7 +107,7 @@ newestBlock s j = blockOf s (j - 1)
 abbrev pub flagsIn : Setting → (ℕ → Bool) → ℕ → ℕ → ℕ
 flagsIn s F b j = count F (b * s .block) (j - b * s .block)
 
--- ---- what happens when j is judged: Log says what each of these marks
+-- ---- what happens when j is judged, by any paused blocks P: Log says what each of these marks
 
 pub data Event : Type 0 where
   -- sample j lies in a paused block
@@ -126,7 +119,7 @@ pub data Event : Type 0 where
 
 -- 'Each judged j of a paused block is marked Uncertain.'
 abbrev pub doubtAt : Setting → (ℕ → Bool) → ℕ → List Event
-doubtAt s F j = cond (paused (s .block) F (blockOf s j)) (uncertain j ∷ []) []
+doubtAt s P j = cond (P (blockOf s j)) (uncertain j ∷ []) []
 
 -- ---- runs
 
@@ -145,8 +138,8 @@ closes F j = not (F j) && ltb 0 (before F j)
 
 -- 'with any sample in a paused block': one of the n from a on
 unfoldable pub touches : Setting → (ℕ → Bool) → ℕ → ℕ → Bool
-touches s F a zero = false
-touches s F a (suc n) = touches s F a n || paused (s .block) F (blockOf s (a + n))
+touches s P a zero = false
+touches s P a (suc n) = touches s P a n || P (blockOf s (a + n))
 
 -- applying, not over 4, and with no sample in a paused block
 abbrev pub mendable : Setting → Bool → ℕ → Bool
@@ -158,19 +151,19 @@ abbrev pub ending : Setting → Bool → ℕ → ℕ → List ℕ → Event
 ending s touched a n originals = cond (mendable s touched n) (mended a n originals) (kept a n (ltb (s .run) n))
 
 -- the run that ends at j, if one does: 'A run still open is unmarked.'
-abbrev pub endAt : Setting → (ℕ → Bool) → List ℕ → ℕ → List Event
-endAt s F xs j =
+abbrev pub endAt : Setting → (ℕ → Bool) → (ℕ → Bool) → List ℕ → ℕ → List Event
+endAt s F P xs j =
     let a = start F j in
     let n = before F j in
-    cond (closes F j) (ending s (touches s F a n) a n (take n (drop a xs)) ∷ []) []
+    cond (closes F j) (ending s (touches s P a n) a n (take n (drop a xs)) ∷ []) []
 
 -- all that happens when j is judged, and when the first j are
-unfoldable pub eventsAt : Setting → (ℕ → Bool) → List ℕ → ℕ → List Event
-eventsAt s F xs j = doubtAt s F j ++ endAt s F xs j
+unfoldable pub eventsAt : Setting → (ℕ → Bool) → (ℕ → Bool) → List ℕ → ℕ → List Event
+eventsAt s F P xs j = doubtAt s P j ++ endAt s F P xs j
 
-unfoldable pub events : Setting → (ℕ → Bool) → List ℕ → ℕ → List Event
-events s F xs zero = []
-events s F xs (suc j) = events s F xs j ++ eventsAt s F xs j
+unfoldable pub events : Setting → (ℕ → Bool) → (ℕ → Bool) → List ℕ → ℕ → List Event
+events s F P xs zero = []
+events s F P xs (suc j) = events s F P xs j ++ eventsAt s F P xs j
 
 -- ---- mending
 
@@ -191,8 +184,8 @@ unfoldable pub mendedAt : (ℕ → Bool) → List ℕ → ℕ → ℕ → ℕ
 mendedAt F xs j k = wordOf (between (sampleOf (leftOf xs (start F j) (at xs j))) (sampleOf (at xs j)) (k - start F j) (before F j))
 
 -- the run that ends at j is mended
-unfoldable pub mends : Setting → (ℕ → Bool) → ℕ → Bool
-mends s F j = closes F j && mendable s (touches s F (start F j) (before F j)) (before F j)
+unfoldable pub mends : Setting → (ℕ → Bool) → (ℕ → Bool) → ℕ → Bool
+mends s F P j = closes F j && mendable s (touches s P (start F j) (before F j)) (before F j)
 
 -- where the run that k lies in ends: at the first from k on that is not flagged, or nowhere before J
 unfoldable pub endFrom : (ℕ → Bool) → ℕ → ℕ → ℕ
@@ -200,29 +193,32 @@ endFrom F zero k = k
 endFrom F (suc t) k = let later = endFrom F t (suc k) in cond (F k) later k
 
 -- sample k when J are judged: mended if it lies in a run that is mended, else raw
-unfoldable pub mendedOrRaw : Setting → (ℕ → Bool) → List ℕ → ℕ → ℕ → ℕ
-mendedOrRaw s F xs J k =
+unfoldable pub mendedOrRaw : Setting → (ℕ → Bool) → (ℕ → Bool) → List ℕ → ℕ → ℕ → ℕ
+mendedOrRaw s F P xs J k =
     let j = endFrom F (J - k) k in
-    cond (F k && (ltb j J && mends s F j)) (mendedAt F xs j k) (at xs k)
+    cond (F k && (ltb j J && mends s F P j)) (mendedAt F xs j k) (at xs k)
 
 -- k lies in the run that ends at j
 abbrev pub covers : (ℕ → Bool) → ℕ → ℕ → Bool
 covers F j k = leb (start F j) k && ltb k j
 
 -- the same, `mendedOrRaw`, by the runs that end before J, one after the other (`value-is` in Values)
-unfoldable pub value : Setting → (ℕ → Bool) → List ℕ → ℕ → ℕ → ℕ
-value s F xs zero k = at xs k
-value s F xs (suc j) k = let raw = value s F xs j k in cond (mends s F j && covers F j k) (mendedAt F xs j k) raw
+unfoldable pub value : Setting → (ℕ → Bool) → (ℕ → Bool) → List ℕ → ℕ → ℕ → ℕ
+value s F P xs zero k = at xs k
+value s F P xs (suc j) k = let raw = value s F P xs j k in cond (mends s F P j && covers F j k) (mendedAt F xs j k) raw
 
--- ---- the whole input
+-- ---- the whole input, by the edition that each block begins with
+
+abbrev pub pausedIn : Setting → (ℕ → Edition) → List ℕ → ℕ → Bool
+pausedIn s E xs = paused E (s .block) (flagged s xs)
 
 -- all that happened
-unfoldable pub happened : Setting → List ℕ → List Event
-happened s xs = events s (flagged s xs) xs (judged s (length xs))
+unfoldable pub happened : Setting → (ℕ → Edition) → List ℕ → List Event
+happened s E xs = events s (flagged s xs) (pausedIn s E xs) xs (judged s (length xs))
 
 -- 'If applying, sample k is released when k+21 arrives, otherwise with its own call.'
-unfoldable pub handedOn : Setting → List ℕ → List ℕ
-handedOn s xs = cond (s .apply) (upTo (value s (flagged s xs) xs (judged s (length xs))) (length xs - lookahead s)) xs
+unfoldable pub handedOn : Setting → (ℕ → Edition) → List ℕ → List ℕ
+handedOn s E xs = cond (s .apply) (upTo (value s (flagged s xs) (pausedIn s E xs) xs (judged s (length xs))) (length xs - lookahead s)) xs
 
 -- 'held min(21, seen) if impulse applies, else 0'
 abbrev pub held : Setting → ℕ → ℕ

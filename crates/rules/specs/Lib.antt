@@ -4,6 +4,7 @@ pub mod Lists
 pub mod Sort
 pub mod Mode
 pub mod Guard
+pub mod Pauses
 pub mod Impulse
 pub mod Dc
 pub mod Iq

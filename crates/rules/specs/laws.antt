@@ -12,4 +12,5 @@ pub mod EventLaws
 -- closed cases
 pub mod ByFlags
 pub mod Computing
+pub mod EditionCases
 pub mod Cases

@@ -3,9 +3,9 @@
 // that did not leave as it was what it must.
 //
 // Standard input has a line for each: the letter of a chain, the cause, and the words that the chain is given,
-// as `a|block length 1001 of rate 1000.5|0=408f440000000000 10=3e9`. A word is its place in decimal and its bits in
-// hexadecimal. `chain_words` has the places of a state; 171 to 218 is the span store, 219 to 250 the monitor's, 251 to
-// 262 the repair store.
+// as `a|block length 1001 of rate 1000.5|0=408f440000000000 11=3e9`. A word is its place in decimal and its bits in
+// hexadecimal. `chain_words` has the places of a state; 172 to 219 is the span store, 220 to 251 the monitor's, 252 to
+// 263 the repair store.
 
 use crate::bench::Bench;
 use crate::bench::Tried;
@@ -166,10 +166,10 @@ fn given(r: Reading) -> Bench {
     let word = r.hexadecimal;
     let mut out = r.bench;
     match place {
-        0..=170 => out.state[place] = word,
-        171..=218 => out.spans[place - 171] = word,
-        219..=250 => out.monitor[place - 219] = ieee::from_bits64(word),
-        251..=262 => out.repairs[place - 251] = word,
+        0..=171 => out.state[place] = word,
+        172..=219 => out.spans[place - 172] = word,
+        220..=251 => out.monitor[place - 220] = ieee::from_bits64(word),
+        252..=263 => out.repairs[place - 252] = word,
         _ => {}
     }
     out

@@ -3,6 +3,7 @@
 
 use chain_config::ConditioningConfig;
 use chain_words::mode_at;
+use impulse_pause::PauseEdition;
 use iq::Calibration;
 use iq::IqCalibration;
 
@@ -138,5 +139,6 @@ pub fn configuration(seed: u64) -> ConditioningConfig {
         calibration: any_calibration(seed),
         spans: any_word(seed, 123, 2) as usize,
         repairs: any_word(seed, 124, 2) as usize,
+        edition: PauseEdition::numbered(drawn(seed, 132) % 4),
     }
 }

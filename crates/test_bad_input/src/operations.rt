@@ -10,6 +10,7 @@ use crate::bench::ended;
 use crate::bench::same_behind;
 use chain_config::ConditioningConfig;
 use chain_words::STATE_WORDS;
+use impulse_pause::PauseEdition;
 use iq::Calibration;
 use stage_mode::StageMode;
 use test_operations::ACCEPTED;
@@ -74,6 +75,7 @@ pub fn fresh(impulse: StageMode, fs: f64) -> Bench {
         calibration: Calibration::Absent,
         spans: 2,
         repairs: 2,
+        edition: PauseEdition::First,
     };
     let made = make(empty(), config, asked());
     made.bench

@@ -13,13 +13,14 @@ use chain_config::ConditioningConfig;
 use chain_words::STATE_WORDS;
 use chain_words::mode_at;
 use chain_words::mode_word;
+use impulse_pause::PauseEdition;
 use iq::Calibration;
 use iq::IqCalibration;
 use stage_mode::StageMode;
 use test_operations::Lent;
 use test_operations::plain;
 
-// ---- a configuration of twelve words
+// ---- a configuration of thirteen words
 
 fn calibration(w: &[u64]) -> Calibration {
     if word(w, 6) == 0 {
@@ -43,6 +44,7 @@ fn configuration(w: &[u64]) -> ConditioningConfig {
         calibration: calibration(w),
         spans: word(w, 10) as usize,
         repairs: word(w, 11) as usize,
+        edition: PauseEdition::numbered(word(w, 12)),
     }
 }
 
@@ -63,6 +65,7 @@ fn write_configuration(c: ConditioningConfig) {
     let dc = c.dc;
     let iq = c.iq;
     let calibration = c.calibration;
+    let edition = c.edition;
     let front = [
         mode_word(impulse),
         mode_word(dc),
@@ -72,7 +75,7 @@ fn write_configuration(c: ConditioningConfig) {
         c.n as u64,
     ];
     let middle = calibration_words(calibration);
-    let back = [c.spans as u64, c.repairs as u64];
+    let back = [c.spans as u64, c.repairs as u64, edition.number()];
     write_words(&front);
     write_words(&middle);
     write_words(&back);
@@ -81,7 +84,7 @@ fn write_configuration(c: ConditioningConfig) {
 // Whether all is off, and `observing`.
 pub fn config(input: &[u64]) {
     let c = configuration(input);
-    write_front([2, c.is_off() as u64, 0, 0, 0, 0, 0, 12]);
+    write_front([2, c.is_off() as u64, 0, 0, 0, 0, 0, 13]);
     write_configuration(c.observing());
 }
 
@@ -128,6 +131,7 @@ pub fn first() -> [u64; STATE_WORDS] {
         calibration: Calibration::Absent,
         spans: 2,
         repairs: 2,
+        edition: PauseEdition::First,
     };
     let mut state = [0u64; STATE_WORDS];
     let mut spans = [0u64; 48];

@@ -89,7 +89,7 @@ pub fn log(state: &[u64; STATE_WORDS]) {
 
 // The settings, but for the coefficient; the stages' numbers; the suppressor's arrays.
 pub fn state(state: &[u64; STATE_WORDS]) {
-    write_front([6, 0, 0, 0, 0, 0, 0, 113]);
+    write_front([6, 0, 0, 0, 0, 0, 0, 114]);
     write_between(state, 0, COEFFICIENT);
     write_between(state, APPLY, SEEN);
     write_between(state, WINDOW, RINGS);

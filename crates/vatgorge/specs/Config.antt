@@ -4,6 +4,7 @@ use mathlib.Core.List.{List, [], _∷_}
 use Prim.Native.Nat.{ℕ, _+_}
 use lib.Dec.{eqb}
 use lib.Ieee.{binary64, toBits, ofBits}
+use Rattle.impulse_pause.specs.View.{numberOf, numbered}
 use Rattle.iq.specs.declared.Calibration.{Calibration}
 use Rattle.iq.specs.declared.Calibration.the-variants.{Absent, Present}
 use Rattle.chain_config.specs.declared.ConditioningConfig.{ConditioningConfig}
@@ -51,9 +52,12 @@ spanCapacity = calibrationCentre + 1
 abbrev pub repairCapacity : ℕ
 repairCapacity = spanCapacity + 1
 
+abbrev pub edition : ℕ
+edition = repairCapacity + 1
+
 -- how many words there are
 abbrev pub configWordCount : ℕ
-configWordCount = repairCapacity + 1
+configWordCount = edition + 1
 
 -- ---- the configuration that words say
 
@@ -63,7 +67,7 @@ calibrationAt w gain phase centre =
     cond (eqb w 0) Absent
     (Present (record { gain = ofBits binary64 gain; phase = ofBits binary64 phase; centre = ofBits binary64 centre }))
 
--- of the modes 0 is off, 1 observes, and every other applies
+-- of the modes 0 is off, 1 observes, and every other applies; of the editions 2 is the second, and every other the first
 unfoldable pub configIn : List ℕ → ConditioningConfig
 configIn ws =
     record {
@@ -76,6 +80,7 @@ configIn ws =
       calibration = calibrationAt (word ws calibrated) (word ws gain) (word ws phase) (word ws calibrationCentre);
       spans = word ws spanCapacity;
       repairs = word ws repairCapacity;
+      edition = numbered (word ws edition);
     }
 
 -- ---- a configuration as words
@@ -103,6 +108,7 @@ configWords g =
     ∷ p .3
     ∷ g .spans
     ∷ g .repairs
+    ∷ numberOf (g .edition)
     ∷ []
 
 -- ---- what the types of the code say of its floats

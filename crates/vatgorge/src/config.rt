@@ -6,6 +6,7 @@ ghost use Rattle.chain_words.specs.Words.{flagWord};
 ghost use Rattle.vatgorge.specs.Config.{configWordCount, calibrationAt, calibrationWords, configIn, configWords, CalibrationTyped, ConfigTyped};
 ghost use Rattle.vatgorge.specs.Config.{observedIn};
 use chain_config::ConditioningConfig;
+use impulse_pause::PauseEdition;
 use iq::Calibration;
 use iq::IqCalibration;
 
@@ -36,8 +37,11 @@ const SPAN_CAPACITY: usize = CALIBRATION_CENTRE + 1;
 
 const REPAIR_CAPACITY: usize = SPAN_CAPACITY + 1;
 
+// The edition of the pause rule: 2 is the second, and every other the first.
+const EDITION: usize = REPAIR_CAPACITY + 1;
+
 // How many words a configuration has.
-pub const CONFIG_WORDS: usize = REPAIR_CAPACITY + 1;
+pub const CONFIG_WORDS: usize = EDITION + 1;
 
 #[no_mangle]
 pub extern "C" fn vg_config_words() -> u64
@@ -80,6 +84,7 @@ pub fn read_config(words: &[u64; CONFIG_WORDS]) -> ConditioningConfig
         ),
         spans: words[SPAN_CAPACITY] as usize,
         repairs: words[REPAIR_CAPACITY] as usize,
+        edition: PauseEdition::numbered(words[EDITION]),
     }
 }
 
@@ -107,6 +112,7 @@ fn config_words(config: ConditioningConfig) -> [u64; CONFIG_WORDS]
     let iq = config.iq;
     let calibration = config.calibration;
     let calibrated = calibration_words(calibration);
+    let edition = config.edition;
     [
         chain_words::mode_word(impulse),
         chain_words::mode_word(dc),
@@ -120,6 +126,7 @@ fn config_words(config: ConditioningConfig) -> [u64; CONFIG_WORDS]
         calibrated[3],
         config.spans as u64,
         config.repairs as u64,
+        edition.number(),
     ]
 }
 
@@ -165,7 +172,7 @@ pub extern "C" fn vg_is_off(config: &[u64; CONFIG_WORDS]) -> u64
 }
 
 // The impulse and DC stages observe where they were off. Every word is written: the modes become 0, 1 or
-// 2, and the numbers of a calibration that there is none of become 0.
+// 2, the edition 1 or 2, and the numbers of a calibration that there is none of become 0.
 #[no_mangle]
 pub extern "C" fn vg_observing(config: &mut [u64; CONFIG_WORDS])
     ensures words { λ _. ⌜ now (config .exit) ≡ configWords (observedIn (now (config .entry))) ⌝ }

@@ -5,6 +5,7 @@ use chain_config::ConditioningConfig;
 use chain_log::SpanRead;
 use chain_state::InputConditioner;
 use complex::Complex32;
+use impulse_pause::PauseEdition;
 use iq::Calibration;
 use libc::STDOUT_FILENO;
 use log::Mark;
@@ -28,6 +29,7 @@ fn configuration() -> ConditioningConfig {
         calibration: Calibration::Absent,
         spans: 4,
         repairs: 4,
+        edition: PauseEdition::First,
     }
 }
 

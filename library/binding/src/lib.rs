@@ -2,8 +2,8 @@
 //! and length. What each takes, answers and leaves is said at it in `crates/vatgorge/src`.
 
 /// The words of a state and of a configuration, and those lent for the values of a call, a hop, a span and the log.
-pub const STATE_WORDS: usize = 171;
-pub const CONFIG_WORDS: usize = 12;
+pub const STATE_WORDS: usize = 172;
+pub const CONFIG_WORDS: usize = 13;
 pub const CONDITION_WORDS: usize = 2;
 pub const HOP_WORDS: usize = 9;
 pub const SPAN_WORDS: usize = 2;

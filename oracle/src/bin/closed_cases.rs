@@ -156,6 +156,7 @@ fn stage(name: &str, fs: f64, samples: &[Complex32], spans: usize) {
         impulse: rules::Mode::Apply,
         dc: rules::Mode::Off,
         iq: rules::Mode::Off,
+        edition: rules::Edition::First,
         calibration: None,
         spans,
         repairs: 3,
@@ -188,6 +189,11 @@ fn stage(name: &str, fs: f64, samples: &[Complex32], spans: usize) {
         "List Bool",
         &list(&flags, bool::to_string),
     );
+    define(
+        &format!("{name}Blocks"),
+        "ℕ → Bool",
+        &format!("paused (always first) ({name}Setting .block) (look {name}Flags)"),
+    );
     case(
         &format!("{name}-flags"),
         &format!(
@@ -198,7 +204,7 @@ fn stage(name: &str, fs: f64, samples: &[Complex32], spans: usize) {
     );
     let all = "floats impulseRules logRules";
     let given = format!(
-        "{name}Setting (look {name}Flags) {name}Input {}",
+        "{name}Setting (look {name}Flags) {name}Blocks {name}Input {}",
         flags.len()
     );
     let known = |part: &str, text: &str, of: &str| {
@@ -213,14 +219,14 @@ fn stage(name: &str, fs: f64, samples: &[Complex32], spans: usize) {
         &format!("upTo (value {given}) {}", released.len()),
     );
     println!(
-        "pub {name}-handed : handedOn {name}Setting {name}Input ≡ {}",
+        "pub {name}-handed : handedOn {name}Setting (always first) {name}Input ≡ {}",
         words(&released)
     );
-    println!("{name}-handed = handed-by {name}Setting {name}Input (look {name}Flags) {name}-flags ∙ {name}-handed-known\n");
+    println!("{name}-handed = handed-by {name}Setting (always first) {name}Input (look {name}Flags) {name}-flags ∙ {name}-handed-known\n");
     let told = |part: &str, text: &str, what: &str| {
         known(part, text, &format!("{what} (events {given})"));
-        println!("pub {name}-{part} : {what} (happened {name}Setting {name}Input) ≡ {text}");
-        println!("{name}-{part} = ap (λ (es : List Event). {what} es) (happened-by {name}Setting {name}Input (look {name}Flags) {name}-flags) ∙ {name}-{part}-known\n");
+        println!("pub {name}-{part} : {what} (happened {name}Setting (always first) {name}Input) ≡ {text}");
+        println!("{name}-{part} = ap (λ (es : List Event). {what} es) (happened-by {name}Setting (always first) {name}Input (look {name}Flags) {name}-flags) ∙ {name}-{part}-known\n");
     };
     told(
         "repairs",
@@ -240,8 +246,8 @@ fn stage(name: &str, fs: f64, samples: &[Complex32], spans: usize) {
             &text,
             &format!("marked {spans} (marksOf {mark} (events {given}))"),
         );
-        println!("pub {name}-{part} : marked {spans} (marksOf {mark} (happened {name}Setting {name}Input)) ≡ {text}");
-        println!("{name}-{part} = ap (λ (es : List Event). marked {spans} (marksOf {mark} es)) (happened-by {name}Setting {name}Input (look {name}Flags) {name}-flags) ∙ {name}-{part}-known\n");
+        println!("pub {name}-{part} : marked {spans} (marksOf {mark} (happened {name}Setting (always first) {name}Input)) ≡ {text}");
+        println!("{name}-{part} = ap (λ (es : List Event). marked {spans} (marksOf {mark} es)) (happened-by {name}Setting (always first) {name}Input (look {name}Flags) {name}-flags) ∙ {name}-{part}-known\n");
     }
     let text = ring(&record.repairs);
     known(
@@ -250,9 +256,9 @@ fn stage(name: &str, fs: f64, samples: &[Complex32], spans: usize) {
         &format!("repaired 3 (repairsOf (events {given}))"),
     );
     println!(
-        "pub {name}-ring : repaired 3 (repairsOf (happened {name}Setting {name}Input)) ≡ {text}"
+        "pub {name}-ring : repaired 3 (repairsOf (happened {name}Setting (always first) {name}Input)) ≡ {text}"
     );
-    println!("{name}-ring = ap (λ (es : List Event). repaired 3 (repairsOf es)) (happened-by {name}Setting {name}Input (look {name}Flags) {name}-flags) ∙ {name}-ring-known\n");
+    println!("{name}-ring = ap (λ (es : List Event). repaired 3 (repairsOf es)) (happened-by {name}Setting (always first) {name}Input (look {name}Flags) {name}-flags) ∙ {name}-ring-known\n");
 }
 
 fn stages() {
@@ -291,7 +297,7 @@ fn beside() {
     case(
         "beside-handed",
         &format!(
-            "upTo (value (standard 48000 true) (look besideFlags) besideInput {}) {} ≡ {}",
+            "upTo (value (standard 48000 true) (look besideFlags) (λ b. false) besideInput {}) {} ≡ {}",
             flags.len(),
             released.len(),
             words(&released)

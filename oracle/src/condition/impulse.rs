@@ -107,7 +107,13 @@ pub struct ImpulseSuppressor {
     pub block: u64,
     pub block_flagged: u64,
     pub paused: bool,
+    // CHANGED: another pause rule (document 02, R-6). `None` is the original's.
+    pub pause_rule: Option<PauseRule>,
 }
+
+// CHANGED: whether a block is paused, by whether the one before was, how many of that were flagged,
+// and the block length.
+pub type PauseRule = fn(bool, u64, u64) -> bool;
 
 impl ImpulseSuppressor {
     /// A suppressor at sample rate `fs`; `apply` repairs, otherwise it only
@@ -126,6 +132,7 @@ impl ImpulseSuppressor {
             block: 0,
             block_flagged: 0,
             paused: false,
+            pause_rule: None,
         }
     }
 
@@ -159,8 +166,11 @@ impl ImpulseSuppressor {
     fn judge(&mut self, j: u64, log: &mut ConditioningLog) {
         let block = j / self.block_len;
         if block != self.block {
-            self.paused =
-                self.block_flagged as f64 > IMPULSE_PAUSE_FRACTION * self.block_len as f64;
+            // CHANGED: where another rule is set, it decides.
+            self.paused = match self.pause_rule {
+                Some(pauses) => pauses(self.paused, self.block_flagged, self.block_len),
+                None => self.block_flagged as f64 > IMPULSE_PAUSE_FRACTION * self.block_len as f64,
+            };
             self.block = block;
             self.block_flagged = 0;
         }

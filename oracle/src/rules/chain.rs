@@ -51,6 +51,7 @@ pub fn marks(
     s: &Setting,
     settled: Settled,
     flags: &[bool],
+    paused: &[bool],
     block: u64,
     released: u64,
     hops: &[Hop],
@@ -59,9 +60,9 @@ pub fn marks(
     let given = |stage: usize, mark: usize| -> Vec<Span> {
         match (log::STAGES[stage], log::MARKS[mark]) {
             ("impulse", _) if s.impulse == Mode::Off => Vec::new(),
-            ("impulse", "repaired") => impulse::repaired(flags, block, applies),
-            ("impulse", "flagged") => impulse::kept(flags, block, applies),
-            ("impulse", "uncertain") => impulse::uncertain(flags, block),
+            ("impulse", "repaired") => impulse::repaired(flags, paused, block, applies),
+            ("impulse", "flagged") => impulse::kept(flags, paused, block, applies),
+            ("impulse", "uncertain") => impulse::uncertain(flags, paused, block),
             // "Applying writes y and marks Corrected; observing leaves the sample."
             ("dc", "corrected") if s.dc == Mode::Apply => vec![(0, released)],
             // "Correcting marks released samples Corrected, withheld Uncertain."
@@ -88,18 +89,20 @@ pub fn whole(s: &Setting, xs: &[Sample], hops: &[Hop]) -> Record {
     let applies = s.impulse == Mode::Apply;
     let settled = iq::settled(s);
     let block = impulse::block_length(s.fs);
-    let flags = if s.impulse == Mode::Off {
-        Vec::new()
+    let (flags, paused) = if s.impulse == Mode::Off {
+        (Vec::new(), Vec::new())
     } else {
-        impulse::flags(xs)
+        let flags = impulse::flags(xs);
+        let paused = impulse::paused(|_| s.edition, &flags, block);
+        (flags, paused)
     };
     let released = impulse::released(applies, xs.len());
-    let marks = marks(s, settled, &flags, block, released as u64, hops);
+    let marks = marks(s, settled, &flags, &paused, block, released as u64, hops);
 
     // "Stages run impulse, DC, IQ." Only released samples reach the later two.
     let mended: Vec<Sample> = if applies {
         (0..released)
-            .map(|k| impulse::value(xs, &flags, block, k))
+            .map(|k| impulse::value(xs, &flags, &paused, block, k))
             .collect()
     } else {
         xs[..released].to_vec()

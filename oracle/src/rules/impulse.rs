@@ -1,11 +1,11 @@
-//! **Impulse** (half window 16, window 33, trim 8, longest run 4, lookahead 21).
+//! **Impulse** (half window 16, window 33, trim 8, longest run 4, lookahead 21), and the second
+//! edition of its pause rule (document 02, R-6).
 //!
 //! `xs` are all samples so far, numbered from 0; `flags` is [`flags`] of them, a value for each
-//! judged sample; `block` is the block length. One more sample changes none of what was said.
+//! judged sample; `block` is the block length; `paused` is [`paused`] of the flags, a value for
+//! each block with a judged sample. One more sample changes none of what was said.
 
-use std::ops::Range;
-
-use super::Sample;
+use super::{Edition, Sample};
 
 pub const HALF: usize = 16;
 pub const TRIM: usize = 8;
@@ -79,35 +79,60 @@ pub fn block_length(fs: f64) -> u64 {
     fs.round() as u64
 }
 
-/// The judged samples of block `b`.
-fn block_places(flags: &[bool], block: u64, b: u64) -> Range<usize> {
-    let judged = flags.len() as u64;
-    let start = b.saturating_mul(block).min(judged);
-    let end = start.saturating_add(block).min(judged);
-    start as usize..end as usize
+/// How many samples are flagged in each block with a judged sample.
+fn counts(flags: &[bool], block: u64) -> Vec<usize> {
+    flags
+        .chunks(block as usize)
+        .map(|places| places.iter().filter(|&&f| f).count())
+        .collect()
 }
 
-/// "A block is paused exactly if the one before had more than 0.001 × block length flagged
-/// (f64)."
-pub fn paused(flags: &[bool], block: u64, b: u64) -> bool {
-    // The first block has none before it.
-    let Some(previous) = b.checked_sub(1) else {
-        return false;
-    };
-    let count = block_places(flags, block, previous)
-        .filter(|&j| flags[j])
-        .count();
-    count as f64 > 0.001 * block as f64
+/// The entry limit: "more than 0.001 × block length flagged (f64)".
+fn over_entry(flagged: usize, block: u64) -> bool {
+    flagged as f64 > 0.001 * block as f64
 }
 
-/// "Block of j: j divided by block length"; whether it is paused.
-pub fn pauses(flags: &[bool], block: u64, j: u64) -> bool {
-    paused(flags, block, j / block)
+/// The exit limit (document 02, R-6): "at most 0.0005 × block length flagged (f64)".
+fn within_exit(flagged: usize, block: u64) -> bool {
+    flagged as f64 <= 0.0005 * block as f64
+}
+
+/// Whether a block that begins with `edition` is paused, by the one before: whether that
+/// `was_paused`, and how many it had `flagged`.
+///
+/// Edition 1: "A block is paused exactly if the one before had more than 0.001 × block length
+/// flagged (f64)."
+///
+/// Edition 2 (document 02, R-6): "Edition 2 pauses as now, but a paused stretch ends after its
+/// first block with at most 0.0005 × block length flagged (f64)." That block is still paused, and
+/// the one after it is not.
+pub fn begins_paused(edition: Edition, was_paused: bool, flagged: usize, block: u64) -> bool {
+    match edition {
+        Edition::First => over_entry(flagged, block),
+        Edition::Second if was_paused => !within_exit(flagged, block),
+        Edition::Second => over_entry(flagged, block),
+    }
+}
+
+/// Which blocks with a judged sample are paused, where block `b` begins with `edition(b)`.
+pub fn paused(edition: impl Fn(usize) -> Edition, flags: &[bool], block: u64) -> Vec<bool> {
+    let counts = counts(flags, block);
+    let mut all = Vec::with_capacity(counts.len());
+    for b in 0..counts.len() {
+        // The first block has none before it.
+        all.push(b > 0 && begins_paused(edition(b), all[b - 1], counts[b - 1], block));
+    }
+    all
+}
+
+/// "Block of j: j divided by block length"; whether it is paused, for a judged `j`.
+pub fn pauses(paused: &[bool], block: u64, j: u64) -> bool {
+    paused[(j / block) as usize]
 }
 
 /// A run "with any sample in a paused block".
-pub fn touches_paused(flags: &[bool], block: u64, (start, len): Span) -> bool {
-    len > 0 && (start / block..=(start + len - 1) / block).any(|b| paused(flags, block, b))
+pub fn touches_paused(paused: &[bool], block: u64, (start, len): Span) -> bool {
+    (start..start + len).any(|j| pauses(paused, block, j))
 }
 
 /// A run "Over 4".
@@ -122,10 +147,10 @@ fn runs(flags: &[bool]) -> impl Iterator<Item = Span> + '_ {
 
 /// The run that ends at `j` is neither over 4 nor touches a paused block: it is mended where the
 /// stage applies.
-pub fn mendable(flags: &[bool], block: u64, j: usize) -> Option<Span> {
+pub fn mendable(flags: &[bool], paused: &[bool], block: u64, j: usize) -> Option<Span> {
     closes(flags, j)
         .filter(|&run| !is_long(run))
-        .filter(|&run| !touches_paused(flags, block, run))
+        .filter(|&run| !touches_paused(paused, block, run))
 }
 
 /// "each sample t (0 first) becomes left + (right − left) × ((t+1)/(len+1)) in f32"; "left is the
@@ -146,43 +171,42 @@ pub fn mended(xs: &[Sample], (start, len): Span, t: u64) -> Sample {
 
 /// Sample `k` as an applying stage hands it on: mended if it lies in a mended run, else raw.
 /// "A run still open is unmarked", and unmended.
-pub fn value(xs: &[Sample], flags: &[bool], block: u64, k: usize) -> Sample {
+pub fn value(xs: &[Sample], flags: &[bool], paused: &[bool], block: u64, k: usize) -> Sample {
     if k >= flags.len() || !flags[k] {
         return xs[k];
     }
     // The run's right neighbour; past the judged samples if the run is still open.
     let end = k + flags[k..].iter().take_while(|&&f| f).count();
-    match mendable(flags, block, end) {
+    match mendable(flags, paused, block, end) {
         Some(run) => mended(xs, run, k as u64 - run.0),
         None => xs[k],
     }
 }
 
 /// The marks of the ring Uncertain: "Each judged j of a paused block is marked Uncertain."
-pub fn uncertain(flags: &[bool], block: u64) -> Vec<Span> {
-    (0..(flags.len() as u64).div_ceil(block))
-        .filter(|&b| paused(flags, block, b))
-        .flat_map(|b| block_places(flags, block, b))
-        .map(|j| (j as u64, 1))
+pub fn uncertain(flags: &[bool], paused: &[bool], block: u64) -> Vec<Span> {
+    (0..flags.len() as u64)
+        .filter(|&j| pauses(paused, block, j))
+        .map(|j| (j, 1))
         .collect()
 }
 
 /// The marks of the ring Repaired, which is also the list of mended runs: an ended run that is
 /// not long, where the stage applies and no sample lies in a paused block.
-pub fn repaired(flags: &[bool], block: u64, applies: bool) -> Vec<Span> {
+pub fn repaired(flags: &[bool], paused: &[bool], block: u64, applies: bool) -> Vec<Span> {
     if !applies {
         return Vec::new();
     }
     (0..flags.len())
-        .filter_map(|j| mendable(flags, block, j))
+        .filter_map(|j| mendable(flags, paused, block, j))
         .collect()
 }
 
 /// The marks of the ring Flagged: "Over 4: marked Flagged [..]. Else, observing or with any
 /// sample in a paused block: Flagged."
-pub fn kept(flags: &[bool], block: u64, applies: bool) -> Vec<Span> {
+pub fn kept(flags: &[bool], paused: &[bool], block: u64, applies: bool) -> Vec<Span> {
     runs(flags)
-        .filter(|&run| is_long(run) || !applies || touches_paused(flags, block, run))
+        .filter(|&run| is_long(run) || !applies || touches_paused(paused, block, run))
         .collect()
 }
 

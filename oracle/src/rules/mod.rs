@@ -1,7 +1,7 @@
 //! The second reading: document 01's rules, written from that document's sentences, in files by its
 //! headings. They are functions of the whole list of samples (and of the whole list of hops) and
-//! of an index; nothing is carried from call to call. Where the document itself defines a value
-//! by the one before it (DC level, a ring), so do they. No code is shared with
+//! of an index; nothing is carried from call to call. Where a document itself defines a value by
+//! the one before it (DC level, a ring, a paused block), so do they. No code is shared with
 //! [`crate::condition`] or [`crate::num_complex`]: all arithmetic is written out here.
 //!
 //! A quoted sentence in a comment is document 01's, or document 02's where it is named.
@@ -52,6 +52,14 @@ pub enum Mode {
     Apply,
 }
 
+/// The edition of the pause rule (document 02, R-6): "A configuration names the edition by an enum
+/// of these two."
+#[derive(Debug, Clone, Copy, PartialEq, Eq)]
+pub enum Edition {
+    First,
+    Second,
+}
+
 /// A calibration.
 #[derive(Debug, Clone, Copy)]
 pub struct Calibration {
@@ -72,6 +80,7 @@ pub struct Setting {
     pub impulse: Mode,
     pub dc: Mode,
     pub iq: Mode,
+    pub edition: Edition,
     pub calibration: Option<Calibration>,
     /// Capacity of each of the twelve span rings.
     pub spans: usize,

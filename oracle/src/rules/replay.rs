@@ -1,11 +1,12 @@
 //! The replay program's input and its printed report (**Afterwards**), the refusal that document 02
-//! adds to them (R-4), and the header with no samples that it lets pass (R-7).
+//! adds to them (R-4), the header's version 2 (R-6), and the header with no samples that it lets
+//! pass (R-7).
 
 use super::chain::{self, Record};
 use super::iq::Settled;
 use super::log::{MARKS, STAGES};
 use super::refusals::{self, Answer};
-use super::{guard, Calibration, Mode, Sample, Setting};
+use super::{guard, Calibration, Edition, Mode, Sample, Setting};
 use std::fmt::Write;
 
 /// "samples from byte 49"
@@ -18,6 +19,16 @@ pub const SAMPLE: usize = 8;
 pub const N: usize = 8;
 pub const REPAIRS: usize = 1024;
 pub const SPANS: usize = 256;
+
+/// "u16 version 1"; document 02, R-6: "The replay header's version 2 selects it; version 1 keeps
+/// the old rule."
+fn edition(version: u16) -> Option<Edition> {
+    match version {
+        1 => Some(Edition::First),
+        2 => Some(Edition::Second),
+        _ => None,
+    }
+}
 
 /// "mode bytes [..] (0 off, 1 observe, 2 apply)"
 fn mode(byte: u8) -> Option<Mode> {
@@ -38,13 +49,14 @@ fn wide(input: &[u8], i: usize) -> f64 {
 /// "mark CND, u16 version 1, mode bytes impulse, DC, IQ (0 off, 1 observe, 2 apply), calibration
 /// present (0 or 1), then f64 fs, centre, gain, phase, calibrated centre"; nothing where number
 /// 14 is met: "replay header under 49 bytes, or mark, version, mode or present byte not as above".
+/// Version 2 counts as above too (document 02, R-6).
 pub fn header(input: &[u8]) -> Option<Setting> {
-    let as_above =
-        input.len() >= HEADER && &input[..3] == b"CND" && input[3..5] == [1, 0] && input[8] <= 1;
+    let as_above = input.len() >= HEADER && &input[..3] == b"CND" && input[8] <= 1;
     if !as_above {
         return None;
     }
     Some(Setting {
+        edition: edition(u16::from_le_bytes([input[3], input[4]]))?,
         impulse: mode(input[5])?,
         dc: mode(input[6])?,
         iq: mode(input[7])?,

@@ -1,5 +1,6 @@
-//! The oracle's answer to each operation of a trace: the original's where it decides, the second
-//! reading's refusals, and the second reading's rings, laid out from what the original told its log.
+//! The oracle's answer to each operation of a trace: the original's where it decides, under edition 2 of
+//! the pause rule with the second reading's pauses; the second reading's refusals, and its rings, laid
+//! out from what the original told its log.
 
 use super::*;
 use crate::condition::dc::{revert_dc, DcBlocker};
@@ -10,7 +11,7 @@ use crate::num_complex::Complex64;
 use crate::rules::iq::Coefficient;
 use crate::rules::log::{self, Ring, SpanRing};
 use crate::rules::refusals::{self, Answer as Decided, Refusal};
-use crate::rules::{Calibration, Mode, Sample, Setting};
+use crate::rules::{Calibration, Edition, Mode, Sample, Setting};
 use crate::sample_guard::replace_unusable;
 use crate::sides::{all_c32, config, original, sample, words_c32};
 
@@ -27,6 +28,7 @@ pub fn first() -> Setting {
         impulse: Mode::Apply,
         dc: Mode::Apply,
         iq: Mode::Observe,
+        edition: Edition::First,
         calibration: None,
         spans: 2,
         repairs: 2,
@@ -79,10 +81,25 @@ fn stage_mode_word(mode: StageMode) -> u64 {
     }
 }
 
-/// The configuration of twelve words.
+fn edition(word: u64) -> Edition {
+    match word {
+        2 => Edition::Second,
+        _ => Edition::First,
+    }
+}
+
+pub fn edition_word(edition: Edition) -> u64 {
+    match edition {
+        Edition::First => 1,
+        Edition::Second => 2,
+    }
+}
+
+/// The configuration of thirteen words.
 pub fn setting(words: &[u64]) -> Result<Setting, NoCase> {
-    let &[impulse, dc, iq, fs, centre, n, present, gain, phase, at, spans, repairs] = words else {
-        return Err(NoCase("a configuration has twelve words"));
+    let &[impulse, dc, iq, fs, centre, n, present, gain, phase, at, spans, repairs, which] = words
+    else {
+        return Err(NoCase("a configuration has thirteen words"));
     };
     let calibration = Calibration {
         gain: f64::from_bits(gain),
@@ -96,13 +113,14 @@ pub fn setting(words: &[u64]) -> Result<Setting, NoCase> {
         impulse: mode(impulse),
         dc: mode(dc),
         iq: mode(iq),
+        edition: edition(which),
         calibration: (present != 0).then_some(calibration),
         spans: spans as usize,
         repairs: repairs as usize,
     })
 }
 
-/// The twelve words of a configuration.
+/// The thirteen words of a configuration.
 pub fn setting_words(s: &Setting) -> Vec<u64> {
     let c = s.calibration.unwrap_or(Calibration {
         gain: 0.0,
@@ -122,6 +140,7 @@ pub fn setting_words(s: &Setting) -> Vec<u64> {
         bits(c.centre),
         s.spans as u64,
         s.repairs as u64,
+        edition_word(s.edition),
     ]
 }
 
@@ -568,7 +587,7 @@ impl Machine {
         words.push(self.iq_words()[0]);
         let fresh = ImpulseSuppressor::new(s.fs, false);
         let imp = self.chain.impulse.as_ref().unwrap_or(&fresh);
-        words.extend(gate_words(imp));
+        words.extend(gate_words(imp, s.edition));
         let fresh = DcBlocker::new(s.fs);
         let dc = self.chain.dc.as_ref().unwrap_or(&fresh);
         words.extend([bits(dc.a), dc.n, bits(dc.dc.re), bits(dc.dc.im)]);
@@ -615,10 +634,11 @@ impl Machine {
 
 // ---- parts of a state
 
-fn gate_words(imp: &ImpulseSuppressor) -> Vec<u64> {
+fn gate_words(imp: &ImpulseSuppressor, edition: Edition) -> Vec<u64> {
     let run = imp.run;
     vec![
         u64::from(imp.apply),
+        edition_word(edition),
         imp.block_len,
         imp.received,
         u64::from(run.is_some()),
@@ -668,6 +688,7 @@ fn config_answer(o: &Operation) -> Result<Answer, NoCase> {
     if words[6] == 0 {
         words[7..10].fill(0);
     }
+    words[12] = edition_word(s.edition);
     let mut answer = plain(u64::from(config(&s).is_off()));
     answer.words = words;
     Ok(answer)

@@ -22,8 +22,9 @@
 //! | 14 write | store, place, word | | |
 //!
 //! With `how` 1 slices and stores are answered by a digest of theirs, and `s` is a slice's length.
-//! A configuration is twelve words: modes of impulse, DC, IQ (0 off, 1 observe, 2 apply), fs, centre, n,
-//! whether there is a calibration, its gain, phase, centre, and the capacities of spans and repairs.
+//! A configuration is thirteen words: modes of impulse, DC, IQ (0 off, 1 observe, 2 apply), fs, centre, n,
+//! whether there is a calibration, its gain, phase, centre, the capacities of spans and repairs, and the
+//! edition of the pause rule (1, 2).
 //! A call's slice has `c` places in front of the new samples, or as many as are held where `c` is all
 //! ones; a NaN stands in each. Where `d` is not 0, the call is handed a state that has seen so many
 //! samples, and the state before it stays. Operation 14 writes a word of the span store, the repair

@@ -30,7 +30,7 @@ const ARGUMENTS: [&[&str]; 15] = [
     &["store", "place", "word"],
 ];
 
-const CONFIGURATION: [&str; 12] = [
+const CONFIGURATION: [&str; 13] = [
     "impulse",
     "dc",
     "iq",
@@ -43,6 +43,7 @@ const CONFIGURATION: [&str; 12] = [
     "calibrated centre",
     "spans",
     "repairs",
+    "edition",
 ];
 
 const EVIDENCE: [&str; 7] = [
@@ -170,6 +171,7 @@ fn word_name(op: u64, front: &[u64; FRONT], i: usize) -> String {
             "dc",
             "iq",
             "apply",
+            "edition",
             "block length",
             "received",
             "open run",
@@ -190,10 +192,10 @@ fn word_name(op: u64, front: &[u64; FRONT], i: usize) -> String {
             "window end",
         ];
         match i {
-            _ if i < 26 => names[i].to_string(),
-            26..=58 => format!("power {} of the window", i - 26),
-            59..=91 => format!("sorted power {}", i - 59),
-            _ => format!("pending sample {}", i - 92),
+            _ if i < 27 => names[i].to_string(),
+            27..=59 => format!("power {} of the window", i - 27),
+            60..=92 => format!("sorted power {}", i - 60),
+            _ => format!("pending sample {}", i - 93),
         }
     };
     let stores = |i: usize| {
@@ -207,7 +209,7 @@ fn word_name(op: u64, front: &[u64; FRONT], i: usize) -> String {
         }
     };
     match op {
-        CONFIG => CONFIGURATION[i.min(11)].to_string(),
+        CONFIG => CONFIGURATION[i.min(12)].to_string(),
         HOP => EVIDENCE[i.min(6)].to_string(),
         LOG => log(i),
         STATE => state(i),

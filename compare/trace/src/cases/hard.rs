@@ -3,9 +3,9 @@
 
 use super::*;
 use oracle::rules::refusals::{within, TOTAL};
-use oracle::rules::{dc, guard, impulse};
+use oracle::rules::{dc, guard, impulse, Edition};
 
-pub const IMPULSE: [&str; 14] = [
+pub const IMPULSE: [&str; 15] = [
     "sparse clicks",
     "dense clicks",
     "pauses, block 1000",
@@ -20,6 +20,7 @@ pub const IMPULSE: [&str; 14] = [
     "first samples",
     "powers near the ratio",
     "falling powers",
+    "pauses, block 2000",
 ];
 
 pub const LEVEL: [&str; 9] = [
@@ -104,6 +105,7 @@ fn clicks(kind: usize) -> Clicks {
         (20.0, 9, 5, 12.5, 70),
         (3_000.0, 1_000_000, 1, 1.0, 3_000),
         (5_000.0, 90, 4, 40.0, 6_000),
+        (2_000.0, 1_000, 1, 80.0, 24_000),
     ][kind];
     Clicks {
         block,
@@ -160,6 +162,14 @@ fn signal(rng: &mut Rng, kind: usize) -> Vec<Sample> {
     }
     assert!(xs.iter().all(|&x| guard::usable(x)));
     xs
+}
+
+/// How many blocks edition 2 of the pause rule pauses and edition 1 does not.
+fn only_second(xs: &[Sample], fs: f64) -> u64 {
+    let flags = impulse::flags(xs);
+    let paused = |edition| impulse::paused(|_| edition, &flags, impulse::block_length(fs));
+    let [first, second] = [Edition::First, Edition::Second].map(paused);
+    first.iter().zip(second).filter(|&(&a, b)| !a && b).count() as u64
 }
 
 /// How many samples have a power within a millionth of the flag's limit.
@@ -385,6 +395,9 @@ impl Drawing<'_> {
             let xs = signal(self.rng, kind);
             if kind == 11 || kind == 12 {
                 self.near_ratio += near_ratio(&xs);
+            }
+            if (kind == 2 || kind == 14) && s.edition == Edition::Second {
+                self.only_second += only_second(&xs, s.fs);
             }
             let longest = self.rng.pick(&[1, 40, 700, 700, 3000]).max(xs.len() / 400);
             self.fed(&xs, longest, 40);

@@ -20,7 +20,7 @@ unfolding blockLength
 returns c =
     let b = c .before .before .round-half-away .ensures in
     let p = c .before .applies .ensures in
-    c .fresh .ensures ∙ (λ i. fresh (standard (b i) (p i)))
+    c .fresh .ensures ∙ (λ i. fresh (standard (b i) (p i)) (c .before .before .before .args .config .edition))
 
 pub fresh-suppressor-spec : {M : Type 1} → statement M
 fresh-suppressor-spec =

@@ -10,12 +10,13 @@ use lib.ListN.{length, take, drop}
 use lib.Seq.{take-length}
 use Rattle.rules.specs.Answers.{accepted}
 use Rattle.rules.specs.Lists.{at, All}
-use Rattle.rules.specs.Impulse.{Setting, flagged, judged, value, events, handedOn, happened, longestRun}
+use Rattle.rules.specs.Pauses.{Edition}
+use Rattle.rules.specs.Impulse.{Setting, flagged, judged, value, events, pausedIn, handedOn, happened, longestRun}
 use Rattle.rules.specs.Log as rules
 use Rattle.rules.specs.Log.{repairWidth, repaired, repairsOf}
 use Rattle.rules.specs.Undo.{heldRecords, undoneAll}
 use Rattle.rules.specs.laws.RingReading.{AllWide, appended, appended-all, held-entries, repaired-entries, repaired-all, repaired-sound}
-use Rattle.rules.specs.Chain.{Config, settingOf, impulseEvents, afterImpulse, repairRing}
+use Rattle.rules.specs.Chain.{Config, settingOf, editionsOf, impulseEvents, afterImpulse, repairRing}
 use Rattle.rules.specs.Mode.{runs}
 use Rattle.rules.specs.laws.EventLaws.{repairs-wide}
 use Rattle.rules.specs.Constants.{totalLimit}
@@ -80,24 +81,25 @@ all-fit xs [] h o = tt
 all-fit xs (e ∷ es) h o = (record { some = o .0 .some; short = o .0 .short; early = omega (arith, o .0 .inside) }, all-fit xs es h (o .1))
 
 -- their records fit
-pub repairs-fit : (s : Setting) → s .run ≤ longestRun → (xs : List ℕ) → length xs ≤ totalLimit → All Fit (repairsOf (happened s xs))
+pub repairs-fit : (s : Setting) → s .run ≤ longestRun → (E : ℕ → Edition) (xs : List ℕ) → length xs ≤ totalLimit → All Fit (repairsOf (happened s E xs))
 unfolding happened
-repairs-fit s r xs h =
-    all-fit xs (repairsOf (events s (flagged s xs) xs (judged s (length xs)))) h (all-original s (flagged s xs) xs r (judged s (length xs)) (omega arith))
+repairs-fit s r E xs h =
+    all-fit xs (repairsOf (events s (flagged s xs) (pausedIn s E xs) xs (judged s (length xs)))) h
+    (all-original s (flagged s xs) (pausedIn s E xs) xs r (judged s (length xs)) (omega arith))
 
 -- a state whose repair ring stands as the rules say for an input
-module _ (c : InputConditioner) (repairs xs : List ℕ) (s : Setting) (r : s .run ≤ longestRun) (long : length xs ≤ totalLimit) (f : stateFits c ≡ true)
-    (ring : ringIn (c .notes .repairs) repairs ≡ repaired (c .settings .repairs) (repairsOf (happened s xs))) where
-  stage-made : Made c repairs (repairsOf (happened s xs))
-  stage-made = record { fits = f; ring = ring; wide = repairs-wide (happened s xs); each = repairs-fit s r xs long }
+module _ (c : InputConditioner) (repairs xs : List ℕ) (s : Setting) (r : s .run ≤ longestRun) (E : ℕ → Edition) (long : length xs ≤ totalLimit) (f : stateFits c ≡ true)
+    (ring : ringIn (c .notes .repairs) repairs ≡ repaired (c .settings .repairs) (repairsOf (happened s E xs))) where
+  stage-made : Made c repairs (repairsOf (happened s E xs))
+  stage-made = record { fits = f; ring = ring; wide = repairs-wide (happened s E xs); each = repairs-fit s r E xs long }
 
   -- no repair was dropped: any slice of what the stage hands on becomes that of the input
-  pub slice-returns : length (repairsOf (happened s xs)) ≤ c .settings .repairs → (ys : List ℕ) (first : ℕ) → first + length ys ≤ length xs
-      → ((i : ℕ) → i < length ys → at ys i ≡ value s (flagged s xs) xs (judged s (length xs)) (first + i))
+  pub slice-returns : length (repairsOf (happened s E xs)) ≤ c .settings .repairs → (ys : List ℕ) (first : ℕ) → first + length ys ≤ length xs
+      → ((i : ℕ) → i < length ys → at ys i ≡ value s (flagged s xs) (pausedIn s E xs) xs (judged s (length xs)) (first + i))
       → undoOf c repairs ys first ≡ record { said = accepted tt; samples = take (length ys) (drop first xs) }
   slice-returns h ys first w same =
-      made-undone c repairs (repairsOf (happened s xs)) stage-made h ys first
-      ∙ ap (λ (l : List ℕ). record { said = accepted tt; samples = l }) (undo-slice s r xs ys first w same)
+      made-undone c repairs (repairsOf (happened s E xs)) stage-made h ys first
+      ∙ ap (λ (l : List ℕ). record { said = accepted tt; samples = l }) (undo-slice s r E xs ys first w same)
 
 -- ---- a chain, by its configuration
 
@@ -106,8 +108,8 @@ chain-fit : (k : Config) (xs : List ℕ) → length xs ≤ totalLimit → All Fi
 unfolding impulseEvents repairsOf
 chain-fit k xs long = go (runs (k .impulseMode))
   where
-    go : (b : Bool) → All Fit (repairsOf (cond b (happened (settingOf k) xs) []))
-    go true = repairs-fit (settingOf k) (lit≤ tt) xs long
+    go : (b : Bool) → All Fit (repairsOf (cond b (happened (settingOf k) (editionsOf k) xs) []))
+    go true = repairs-fit (settingOf k) (lit≤ tt) (editionsOf k) xs long
     go false = tt
 
 chain-back : (k : Config) (xs : List ℕ) → undoneAll 0 (repairsOf (impulseEvents k xs)) (afterImpulse k xs) ≡ take (length (afterImpulse k xs)) xs
@@ -115,9 +117,9 @@ unfolding impulseEvents afterImpulse repairsOf undoneAll
 chain-back k xs = go (runs (k .impulseMode))
   where
     go : (b : Bool)
-        → undoneAll 0 (repairsOf (cond b (happened (settingOf k) xs) [])) (cond b (handedOn (settingOf k) xs) xs)
-        ≡ take (length (cond b (handedOn (settingOf k) xs) xs)) xs
-    go true = undo-handed (settingOf k) (lit≤ tt) xs
+        → undoneAll 0 (repairsOf (cond b (happened (settingOf k) (editionsOf k) xs) [])) (cond b (handedOn (settingOf k) (editionsOf k) xs) xs)
+        ≡ take (length (cond b (handedOn (settingOf k) (editionsOf k) xs) xs)) xs
+    go true = undo-handed (settingOf k) (lit≤ tt) (editionsOf k) xs
     go false = sym (take-length xs)
 
 -- a state whose repair ring stands as the rules say for a configuration and an input

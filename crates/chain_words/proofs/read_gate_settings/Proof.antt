@@ -9,12 +9,25 @@ element-copy-out-flag-of c = search needs
 flag-of-requires : tie.Need-flag-of-requires
 flag-of-requires c κs = search needs
 
-element-copy-out-t8 : tie.Need-element-copy-out-t8
-element-copy-out-t8 c = search needs
+element-copy-out-numbered : tie.Need-element-copy-out-numbered
+element-copy-out-numbered c = search needs
+
+numbered-requires : tie.Need-numbered-requires
+numbered-requires c κs = search needs
+
+element-copy-out-t12 : tie.Need-element-copy-out-t12
+element-copy-out-t12 c = search needs
 
 returns : tie.Need-returns
 returns c = cc
 
 pub read-gate-settings-spec : {M : Type 1} → statement M
 read-gate-settings-spec =
-    tie.close (tie.spec element-copy-out-flag-of flag-of-requires element-copy-out-t8 returns)
+    tie.close
+    (tie.spec
+    element-copy-out-flag-of
+    flag-of-requires
+    element-copy-out-numbered
+    numbered-requires
+    element-copy-out-t12
+    returns)

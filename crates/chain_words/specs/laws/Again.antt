@@ -14,6 +14,9 @@ use Rattle.rules.specs.laws.ListLaws.{length-map}
 use Rattle.impulse_window.specs.Rising.{Held}
 use Rattle.stage_mode.specs.declared.StageMode.{StageMode}
 use Rattle.stage_mode.specs.declared.StageMode.the-variants as mode
+use Rattle.impulse_pause.specs.declared.PauseEdition.{PauseEdition}
+use Rattle.impulse_pause.specs.declared.PauseEdition.the-variants as edition
+use Rattle.impulse_pause.specs.View.{numberOf, numbered}
 use Rattle.complex.specs.declared.Complex64.{Complex64}
 use Rattle.impulse.specs.declared.Open.{Open}
 use Rattle.impulse.specs.declared.Open.the-variants.{Running, Closed}
@@ -40,6 +43,10 @@ pub mode-again : (m : StageMode) → modeAt (modeWord m) ≡ m
 mode-again mode.Off = refl
 mode-again mode.Observe = refl
 mode-again mode.Apply = refl
+
+pub edition-again : (e : PauseEdition) → numbered (numberOf e) ≡ e
+edition-again edition.First = refl
+edition-again edition.Second = refl
 
 pub double-again : (x : Float) → Double x → ofBits binary64 (toBits binary64 x) ≡ x
 double-again x h = ofBits-toBits binary64 x h
@@ -175,7 +182,8 @@ module _ (s : InputConditioner) (t : Typed s) where
             record {
               gate =
                   record {
-                    settings = record { apply = flag-again (g .settings .apply) i; blocklen = g .settings .blocklen };
+                    settings =
+                        record { apply = flag-again (g .settings .apply) i; edition = edition-again (g .settings .edition) i; blocklen = g .settings .blocklen };
                     received = g .received;
                     mending = record { run = run-again (g .mending .run) i; left = left-again (g .mending .left) i };
                     block = record { number = g .block .number; flagged = g .block .flagged; paused = flag-again (g .block .paused) i };

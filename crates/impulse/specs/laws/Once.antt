@@ -7,7 +7,7 @@ use Prim.Native.Nat.{ℕ, zero, suc, _+_, _-_, _≤_}
 use native.Mathlib.Omega.{arith}
 use lib.Dec.{ltb}
 use lib.ListN.{take, drop}
-use Rattle.rules.specs.Impulse.{Setting, before, start, closes, blockOf, paused, touches, mendable, Event, uncertain, kept, mended, eventsAt, events}
+use Rattle.rules.specs.Impulse.{Setting, before, start, closes, blockOf, touches, mendable, Event, uncertain, kept, mended, eventsAt, events}
 use Rattle.rules.specs.laws.Runs.{before-le, before-off, start-on}
 use Rattle.rules.specs.laws.EventLaws.{marks-append}
 use Rattle.rules.specs.Log.{Span, Mark, Repaired, Flagged, Corrected, Uncertain, marksOf}
@@ -45,10 +45,10 @@ bound Flagged F j = start F j
 bound Corrected F j = 0
 bound Uncertain F j = j
 
-module _ (s : Setting) (F : ℕ → Bool) (xs : List ℕ) where
+module _ (s : Setting) (F P : ℕ → Bool) (xs : List ℕ) where
   pub record Once (r : Mark) (j : ℕ) : Type 0 where
-    pub climb : Climbs 0 (marksOf r (events s F xs j))
-    pub ended : endOf 0 (marksOf r (events s F xs j)) ≤ bound r F j
+    pub climb : Climbs 0 (marksOf r (events s F P xs j))
+    pub ended : endOf 0 (marksOf r (events s F P xs j)) ≤ bound r F j
 
   -- the marks at j, for a ring
   abbrev doubts : Bool → ℕ → List Event
@@ -110,10 +110,10 @@ module _ (s : Setting) (F : ℕ → Bool) (xs : List ℕ) where
   once Uncertain zero = record { climb = tt; ended = omega arith }
   once r (suc j) =
       let i = once r j in
-      let ps = marksOf r (events s F xs j) in
-      let qs = marksOf r (eventsAt s F xs j) in
-      let more = marks-append r (events s F xs j) (eventsAt s F xs j) in
-      let t = at-step r j (endOf 0 ps) (paused (s .block) F (blockOf s j)) (closes F j) (mendable s (touches s F (start F j) (before F j)) (before F j)) refl
+      let ps = marksOf r (events s F P xs j) in
+      let qs = marksOf r (eventsAt s F P xs j) in
+      let more = marks-append r (events s F P xs j) (eventsAt s F P xs j) in
+      let t = at-step r j (endOf 0 ps) (P (blockOf s j)) (closes F j) (mendable s (touches s P (start F j) (before F j)) (before F j)) refl
       (i .ended) in
       record {
         climb = subst (Climbs 0) (sym more) (climbs-append 0 ps qs (i .climb) (t .0));
@@ -122,10 +122,10 @@ module _ (s : Setting) (F : ℕ → Bool) (xs : List ℕ) where
       }
 
   -- so a ring's count is at most the number of judged samples
-  pub counted : (r : Mark) (j : ℕ) → total (marksOf r (events s F xs j)) ≤ j
+  pub counted : (r : Mark) (j : ℕ) → total (marksOf r (events s F P xs j)) ≤ j
   counted r j =
       let i = once r j in
-      let t = total-fits 0 (marksOf r (events s F xs j)) (i .climb) in
+      let t = total-fits 0 (marksOf r (events s F P xs j)) (i .climb) in
       let b = in-all r in
       omega (arith, i .ended)
     where

@@ -15,8 +15,9 @@ use Rattle.rules.specs.Lists.{at, upTo, All}
 use Rattle.rules.specs.laws.ListLaws.{length-upTo, getD-upTo}
 use Rattle.rules.specs.laws.EventLaws.{repairs-append}
 use Rattle.rules.specs.laws.SortLaws.{all-append}
-use Rattle.rules.specs.Impulse.{Setting, lookahead, flagged, judged, before, start, closes, blockOf, paused, touches, mendable, mends, covers, value, uncertain}
-use Rattle.rules.specs.Impulse.{kept, mended, eventsAt, events, handedOn, happened, longestRun}
+use Rattle.rules.specs.Pauses.{Edition}
+use Rattle.rules.specs.Impulse.{Setting, lookahead, flagged, judged, before, start, closes, blockOf, touches, mendable, mends, covers, value, uncertain}
+use Rattle.rules.specs.Impulse.{kept, mended, eventsAt, events, pausedIn, handedOn, happened, longestRun}
 use Rattle.rules.specs.Log.{repairWords, repairsOf}
 use Rattle.rules.specs.Undo.{returned, undone, undoneAll}
 use Rattle.rules.specs.laws.Runs.{before-le, hit-says, value-missed}
@@ -69,14 +70,14 @@ covered-right k (e ∷ es) fs c = inr (covered-right k es fs c)
 
 -- ---- the records of the rules
 
-module _ (s : Setting) (F : ℕ → Bool) (xs : List ℕ) where
+module _ (s : Setting) (F P : ℕ → Bool) (xs : List ℕ) where
   -- the record of the run that ends at j
   abbrev recordAt : ℕ → List ℕ
   recordAt j = repairWords (start F j) (before F j) (take (before F j) (drop (start F j) xs))
 
-  repairs-at : (j : ℕ) → repairsOf (eventsAt s F xs j) ≡ cond (mends s F j) (recordAt j ∷ []) []
+  repairs-at : (j : ℕ) → repairsOf (eventsAt s F P xs j) ≡ cond (mends s F P j) (recordAt j ∷ []) []
   unfolding eventsAt repairsOf mends
-  repairs-at j = go (paused (s .block) F (blockOf s j)) (closes F j) (mendable s (touches s F (start F j) (before F j)) (before F j))
+  repairs-at j = go (P (blockOf s j)) (closes F j) (mendable s (touches s P (start F j) (before F j)) (before F j))
     where
       originals : List ℕ
       originals = take (before F j) (drop (start F j) xs)
@@ -93,18 +94,18 @@ module _ (s : Setting) (F : ℕ → Bool) (xs : List ℕ) where
       go false true false = refl
       go false false m = refl
 
-  repairs-next : (j : ℕ) → repairsOf (events s F xs (suc j)) ≡ repairsOf (events s F xs j) ++ cond (mends s F j) (recordAt j ∷ []) []
+  repairs-next : (j : ℕ) → repairsOf (events s F P xs (suc j)) ≡ repairsOf (events s F P xs j) ++ cond (mends s F P j) (recordAt j ∷ []) []
   unfolding events
-  repairs-next j = repairs-append (events s F xs j) (eventsAt s F xs j) ∙ ap (λ (t : List (List ℕ)). repairsOf (events s F xs j) ++ t) (repairs-at j)
+  repairs-next j = repairs-append (events s F P xs j) (eventsAt s F P xs j) ∙ ap (λ (t : List (List ℕ)). repairsOf (events s F P xs j) ++ t) (repairs-at j)
 
   -- what a mended run is
   record Mends (j : ℕ) : Type 0 where
     some : 0 < before F j
     short : before F j ≤ s .run
 
-  mends-says : (j : ℕ) → mends s F j ≡ true → Mends j
+  mends-says : (j : ℕ) → mends s F P j ≡ true → Mends j
   unfolding mends
-  mends-says j m = go (closes F j) (mendable s (touches s F (start F j) (before F j)) (before F j)) refl refl m
+  mends-says j m = go (closes F j) (mendable s (touches s P (start F j) (before F j)) (before F j)) refl refl m
     where
       run-there : (f b : Bool) → ltb 0 (before F j) ≡ b → not f && b ≡ true → 0 < before F j
       run-there true b e q = absurd (false≢true q)
@@ -116,25 +117,25 @@ module _ (s : Setting) (F : ℕ → Bool) (xs : List ℕ) where
       is-short true false c e q = absurd (false≢true q)
       is-short false false c e q = absurd (false≢true q)
 
-      go : (c n : Bool) → closes F j ≡ c → mendable s (touches s F (start F j) (before F j)) (before F j) ≡ n → c && n ≡ true → Mends j
+      go : (c n : Bool) → closes F j ≡ c → mendable s (touches s P (start F j) (before F j)) (before F j) ≡ n → c && n ≡ true → Mends j
       go true true p q e =
           record {
             some = run-there (F j) (ltb 0 (before F j)) refl p;
-            short = is-short (s .apply) (leb (before F j) (s .run)) (not (touches s F (start F j) (before F j))) refl q;
+            short = is-short (s .apply) (leb (before F j) (s .run)) (not (touches s P (start F j) (before F j))) refl q;
           }
       go true false p q e = absurd (false≢true e)
       go false n p q e = absurd (false≢true e)
 
   -- each record is the input's, where a record has room for the longest run
-  pub all-original : s .run ≤ longestRun → (j : ℕ) → j ≤ length xs → All (Original xs) (repairsOf (events s F xs j))
+  pub all-original : s .run ≤ longestRun → (j : ℕ) → j ≤ length xs → All (Original xs) (repairsOf (events s F P xs j))
   unfolding events repairsOf
   all-original r zero h = tt
   all-original r (suc j) h =
       rw (repairs-next j)
-      (all-append (Original xs) (repairsOf (events s F xs j)) (cond (mends s F j) (recordAt j ∷ []) []) (all-original r j (omega arith))
-      (go (mends s F j) refl))
+      (all-append (Original xs) (repairsOf (events s F P xs j)) (cond (mends s F P j) (recordAt j ∷ []) []) (all-original r j (omega arith))
+      (go (mends s F P j) refl))
     where
-      go : (b : Bool) → mends s F j ≡ b → All (Original xs) (cond b (recordAt j ∷ []) [])
+      go : (b : Bool) → mends s F P j ≡ b → All (Original xs) (cond b (recordAt j ∷ []) [])
       go true e =
           let m = mends-says j e in
           let b = before-le F j in
@@ -146,26 +147,26 @@ module _ (s : Setting) (F : ℕ → Bool) (xs : List ℕ) where
   in-record j k a b = let w = before-le F j in (a, omega arith)
 
   -- a place is as it was received, or a record has it
-  pub raw-or-recorded : (j k : ℕ) → (value s F xs j k ≡ at xs k) ⊎ Covered k (repairsOf (events s F xs j))
+  pub raw-or-recorded : (j k : ℕ) → (value s F P xs j k ≡ at xs k) ⊎ Covered k (repairsOf (events s F P xs j))
   unfolding value events
   raw-or-recorded zero k = inl refl
-  raw-or-recorded (suc j) k = rw (repairs-next j) (go (mends s F j) (covers F j k) refl refl (raw-or-recorded j k))
+  raw-or-recorded (suc j) k = rw (repairs-next j) (go (mends s F P j) (covers F j k) refl refl (raw-or-recorded j k))
     where
-      go : (m c : Bool) → mends s F j ≡ m → covers F j k ≡ c → (value s F xs j k ≡ at xs k) ⊎ Covered k (repairsOf (events s F xs j))
-          → (value s F xs (suc j) k ≡ at xs k) ⊎ Covered k (repairsOf (events s F xs j) ++ cond m (recordAt j ∷ []) [])
+      go : (m c : Bool) → mends s F P j ≡ m → covers F j k ≡ c → (value s F P xs j k ≡ at xs k) ⊎ Covered k (repairsOf (events s F P xs j))
+          → (value s F P xs (suc j) k ≡ at xs k) ⊎ Covered k (repairsOf (events s F P xs j) ++ cond m (recordAt j ∷ []) [])
       go true true e f r =
-          let t = hit-says s F xs j k (rw e f) in
-          inr (covered-right k (repairsOf (events s F xs j)) (recordAt j ∷ []) (inl (in-record j k (t .from) (t .upto))))
+          let t = hit-says s F P xs j k (rw e f) in
+          inr (covered-right k (repairsOf (events s F P xs j)) (recordAt j ∷ []) (inl (in-record j k (t .from) (t .upto))))
       go true false e f (inl q) = inl (rw (e, f) q)
-      go true false e f (inr q) = inr (covered-left k (repairsOf (events s F xs j)) (recordAt j ∷ []) q)
+      go true false e f (inr q) = inr (covered-left k (repairsOf (events s F P xs j)) (recordAt j ∷ []) q)
       go false c e f (inl q) = inl (rw e q)
-      go false c e f (inr q) = inr (covered-left k (repairsOf (events s F xs j)) [] q)
+      go false c e f (inr q) = inr (covered-left k (repairsOf (events s F P xs j)) [] q)
 
   -- nothing is mended while observing
-  pub value-observed : s .apply ≡ false → (j k : ℕ) → value s F xs j k ≡ at xs k
+  pub value-observed : s .apply ≡ false → (j k : ℕ) → value s F P xs j k ≡ at xs k
   unfolding value
   value-observed off zero k = refl
-  value-observed off (suc j) k = value-missed s F xs j k (λ t. false≢true (sym off ∙ t .applies)) ∙ value-observed off j k
+  value-observed off (suc j) k = value-missed s F P xs j k (λ t. false≢true (sym off ∙ t .applies)) ∙ value-observed off j k
 
 -- ---- undoing
 
@@ -254,30 +255,30 @@ module _ (xs : List ℕ) (first : ℕ) where
       all-at es o ys i k (d i k) ∙ sym (getD-take (length ys) (drop first xs) i 0 k ∙ getD-drop first xs i 0))
 
 -- any slice of what the stage hands on
-pub undo-slice : (s : Setting) → s .run ≤ longestRun → (xs ys : List ℕ) (first : ℕ) → first + length ys ≤ length xs
-    → ((i : ℕ) → i < length ys → at ys i ≡ value s (flagged s xs) xs (judged s (length xs)) (first + i))
-    → undoneAll first (repairsOf (happened s xs)) ys ≡ take (length ys) (drop first xs)
+pub undo-slice : (s : Setting) → s .run ≤ longestRun → (E : ℕ → Edition) (xs ys : List ℕ) (first : ℕ) → first + length ys ≤ length xs
+    → ((i : ℕ) → i < length ys → at ys i ≡ value s (flagged s xs) (pausedIn s E xs) xs (judged s (length xs)) (first + i))
+    → undoneAll first (repairsOf (happened s E xs)) ys ≡ take (length ys) (drop first xs)
 unfolding happened
-undo-slice s r xs ys first w same =
-    undo-returns xs first (repairsOf (events s (flagged s xs) xs (judged s (length xs)))) ys
-    (all-original s (flagged s xs) xs r (judged s (length xs)) (omega arith)) w
-    (λ i h. ⊎-elim (λ e. inl (same i h ∙ e)) (λ c. inr c) (raw-or-recorded s (flagged s xs) xs (judged s (length xs)) (first + i)))
+undo-slice s r E xs ys first w same =
+    undo-returns xs first (repairsOf (events s (flagged s xs) (pausedIn s E xs) xs (judged s (length xs)))) ys
+    (all-original s (flagged s xs) (pausedIn s E xs) xs r (judged s (length xs)) (omega arith)) w
+    (λ i h. ⊎-elim (λ e. inl (same i h ∙ e)) (λ c. inr c) (raw-or-recorded s (flagged s xs) (pausedIn s E xs) xs (judged s (length xs)) (first + i)))
 
-pub undo-handed : (s : Setting) → s .run ≤ longestRun → (xs : List ℕ)
-    → undoneAll 0 (repairsOf (happened s xs)) (handedOn s xs) ≡ take (length (handedOn s xs)) xs
+pub undo-handed : (s : Setting) → s .run ≤ longestRun → (E : ℕ → Edition) (xs : List ℕ)
+    → undoneAll 0 (repairsOf (happened s E xs)) (handedOn s E xs) ≡ take (length (handedOn s E xs)) xs
 unfolding handedOn
-undo-handed s r xs = go (s .apply) refl
+undo-handed s r E xs = go (s .apply) refl
   where
     f : ℕ → ℕ
-    f = value s (flagged s xs) xs (judged s (length xs))
+    f = value s (flagged s xs) (pausedIn s E xs) xs (judged s (length xs))
 
     n : ℕ
     n = length xs - lookahead s
 
-    go : (a : Bool) → s .apply ≡ a → undoneAll 0 (repairsOf (happened s xs)) (cond a (upTo f n) xs) ≡ take (length (cond a (upTo f n) xs)) xs
+    go : (a : Bool) → s .apply ≡ a → undoneAll 0 (repairsOf (happened s E xs)) (cond a (upTo f n) xs) ≡ take (length (cond a (upTo f n) xs)) xs
     go true e =
         let len = length-upTo f n in
-        undo-slice s r xs (upTo f n) 0 (omega arith) (λ i h. getD-upTo 0 f n i (omega arith) ∙ ap f (let q : i ≡ 0 + i = omega arith in q))
+        undo-slice s r E xs (upTo f n) 0 (omega arith) (λ i h. getD-upTo 0 f n i (omega arith) ∙ ap f (let q : i ≡ 0 + i = omega arith in q))
     go false e =
-        undo-slice s r xs xs 0 (omega arith)
-        (λ i h. ap (at xs) (let q : i ≡ 0 + i = omega arith in q) ∙ sym (value-observed s (flagged s xs) xs e (judged s (length xs)) (0 + i)))
+        undo-slice s r E xs xs 0 (omega arith)
+        (λ i h. ap (at xs) (let q : i ≡ 0 + i = omega arith in q) ∙ sym (value-observed s (flagged s xs) (pausedIn s E xs) xs e (judged s (length xs)) (0 + i)))

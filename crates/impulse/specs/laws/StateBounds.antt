@@ -21,6 +21,7 @@ use Rattle.rules.specs.laws.SortLaws.{all-take, all-getD, Ordered, insert-comm,
 use Rattle.rules.specs.Impulse.{Setting, width, lookahead, powerOf, flagged, judged, before, start, mends, between, leftOf, mendedAt, covers, value}
 use Rattle.rules.specs.Impulse.{newestBlock}
 use Rattle.rules.specs.laws.Runs.{before-le, count-le, hit-says}
+use Rattle.impulse_pause.specs.declared.PauseEdition.{PauseEdition}
 use Rattle.impulse.specs.declared.Run.{Run}
 use Rattle.impulse.specs.declared.Open.{Open}
 use Rattle.impulse.specs.declared.Open.the-variants.{Running, Closed}
@@ -28,7 +29,7 @@ use Rattle.impulse.specs.declared.Left.{Left}
 use Rattle.impulse.specs.declared.Left.the-variants.{Neighbour, Missing}
 use Rattle.impulse.specs.Circle.{circle}
 use Rattle.impulse.specs.laws.CircleLaws.{circle-length, circle-read-any, circle-blank, around}
-use Rattle.impulse.specs.State.{runBefore, openAt, leftAt, newestPowers, padded, stateAt}
+use Rattle.impulse.specs.State.{runBefore, openAt, leftAt, newestPowers, padded, pausedBy, stateAt}
 use Rattle.impulse.specs.laws.Step.{Fine, newest-length, window-grows, window-moves}
 use Rattle.impulse.specs.laws.Theorem.{Clean, fine-all}
 use Rattle.impulse.specs.Sound.{PowerWithin, Sound}
@@ -152,52 +153,52 @@ module _ (good : Float → Type 0) (o : Ordered lt good) (zero-good : good zeroF
 
 -- ---- the open run and the left neighbour
 
-open-ends : (s : Setting) (F : ℕ → Bool) (j : ℕ) (r : Run) → openAt s F j ≡ Running r → (0 < r .len) × (r .start + r .len ≡ j)
+open-ends : (s : Setting) (F P : ℕ → Bool) (j : ℕ) (r : Run) → openAt s F P j ≡ Running r → (0 < r .len) × (r .start + r .len ≡ j)
 unfolding openAt
-open-ends s F j r = go (ltb 0 (before F j)) refl
+open-ends s F P j r = go (ltb 0 (before F j)) refl
   where
     out : Open → Run
     out Closed = r
     out (Running q) = q
 
-    go : (b : Bool) → ltb 0 (before F j) ≡ b → cond b (Running (runBefore s F j)) Closed ≡ Running r → (0 < r .len) × (r .start + r .len ≡ j)
+    go : (b : Bool) → ltb 0 (before F j) ≡ b → cond b (Running (runBefore s F P j)) Closed ≡ Running r → (0 < r .len) × (r .start + r .len ≡ j)
     go true t e =
         let h = ltb-true 0 (before F j) t in
         let b = before-le F j in
-        let same : runBefore s F j ≡ r = ap out e in
+        let same : runBefore s F P j ≡ r = ap out e in
         subst (λ (q : Run). (0 < q .len) × (q .start + q .len ≡ j)) same (h, omega arith)
     go false t e = let z : _≡_ {A = ℕ} 0 1 = cc in absurd (omega arith)
 
-left-keeps : (P : ℕ → Type 0) (F : ℕ → Bool) (xs : List ℕ) → ((i : ℕ) → i < length xs → P (at xs i)) → (j : ℕ) → j ≤ length xs → (x : ℕ)
-    → leftAt F xs j ≡ Neighbour x → P x
+left-keeps : (A : ℕ → Type 0) (F : ℕ → Bool) (xs : List ℕ) → ((i : ℕ) → i < length xs → A (at xs i)) → (j : ℕ) → j ≤ length xs → (x : ℕ)
+    → leftAt F xs j ≡ Neighbour x → A x
 unfolding leftAt
-left-keeps P F xs each j h x = go (eqb (start F j) 0) refl
+left-keeps A F xs each j h x = go (eqb (start F j) 0) refl
   where
     out : Left → ℕ
     out Missing = x
     out (Neighbour q) = q
 
-    go : (b : Bool) → eqb (start F j) 0 ≡ b → cond b Missing (Neighbour (at xs (start F j - 1))) ≡ Neighbour x → P x
+    go : (b : Bool) → eqb (start F j) 0 ≡ b → cond b Missing (Neighbour (at xs (start F j - 1))) ≡ Neighbour x → A x
     go true t e = let z : _≡_ {A = ℕ} 0 1 = cc in absurd (omega arith)
-    go false t e = let d = eqb-false (start F j) 0 t in subst P (ap out e) (each (start F j - 1) (omega (arith, d)))
+    go false t e = let d = eqb-false (start F j) 0 t in subst A (ap out e) (each (start F j - 1) (omega (arith, d)))
 
 -- ---- what is handed on, from what is received
 
-pub value-keeps : (P Q : ℕ → Type 0) (s : Setting) (F : ℕ → Bool) (xs : List ℕ) → ((x : ℕ) → P x → Q x)
-    → ((l r t n : ℕ) → P l → P r → t < n → n ≤ s .run → Q (wordOf (between (sampleOf l) (sampleOf r) t n)))
-    → ((i : ℕ) → i < length xs → P (at xs i)) → (j k : ℕ) → j ≤ length xs → k < length xs → Q (value s F xs j k)
+pub value-keeps : (A B : ℕ → Type 0) (s : Setting) (F P : ℕ → Bool) (xs : List ℕ) → ((x : ℕ) → A x → B x)
+    → ((l r t n : ℕ) → A l → A r → t < n → n ≤ s .run → B (wordOf (between (sampleOf l) (sampleOf r) t n)))
+    → ((i : ℕ) → i < length xs → A (at xs i)) → (j k : ℕ) → j ≤ length xs → k < length xs → B (value s F P xs j k)
 unfolding value mendedAt
-value-keeps P Q s F xs up mends-well each zero k h w = up (at xs k) (each k w)
-value-keeps P Q s F xs up mends-well each (suc j) k h w =
-    go (mends s F j && covers F j k) refl (value-keeps P Q s F xs up mends-well each j k (omega arith) w)
+value-keeps A B s F P xs up mends-well each zero k h w = up (at xs k) (each k w)
+value-keeps A B s F P xs up mends-well each (suc j) k h w =
+    go (mends s F P j && covers F j k) refl (value-keeps A B s F P xs up mends-well each j k (omega arith) w)
   where
-    left-well : (b : Bool) → P (cond b (at xs j) (at xs (start F j - 1)))
+    left-well : (b : Bool) → A (cond b (at xs j) (at xs (start F j - 1)))
     left-well true = each j h
     left-well false = each (start F j - 1) (omega arith)
 
-    go : (b : Bool) → mends s F j && covers F j k ≡ b → Q (value s F xs j k) → Q (cond b (mendedAt F xs j k) (value s F xs j k))
+    go : (b : Bool) → mends s F P j && covers F j k ≡ b → B (value s F P xs j k) → B (cond b (mendedAt F xs j k) (value s F P xs j k))
     go true e q =
-        let t = hit-says s F xs j k e in
+        let t = hit-says s F P xs j k e in
         mends-well (leftOf xs (start F j) (at xs j)) (at xs j) (k - start F j) (before F j) (left-well (eqb (start F j) 0)) (each j h)
         (omega (arith, t .from, t .upto)) (t .short)
     go false e q = q
@@ -212,24 +213,24 @@ zero-within : WordWithin (2 ^ 59) 0
 unfolding sampleOf ofBits
 zero-within = (lit≤ tt, lit≤ tt)
 
-pub state-sound : (s : Setting) → s .run ≤ 32 → (xs : List ℕ) → All (λ w. T (usable w)) xs → (n : ℕ) → n ≤ length xs → Sound s n (stateAt s xs n)
+pub state-sound : (s : Setting) → s .run ≤ 32 → (ed : PauseEdition) (xs : List ℕ) → All (λ w. T (usable w)) xs → (n : ℕ) → n ≤ length xs → Sound s n (stateAt s ed xs n)
 unfolding stateAt
-state-sound s short xs good n h =
+state-sound s short ed xs good n h =
     record {
       apply = refl;
       blocklen = refl;
       received = refl;
       block = let d = div-le-self (judged s n - 1) (s .block) in omega arith;
       flags = let c = count-le F (newestBlock s (judged s n) * s .block) (judged s n - newestBlock s (judged s n) * s .block) in omega arith;
-      run = open-ends s F (judged s n);
+      run = open-ends s F P (judged s n);
       left = λ x e. within-more (2 ^ 57) (2 ^ 59) x (lit≤ tt) (left-keeps (WordWithin (2 ^ 57)) F xs each (judged s n) (omega arith) x e);
-      pending = all-circle (WordWithin (2 ^ 59)) 0 (lookahead s) n (value s F xs (judged s n)) zero-within
-          (λ k q. value-keeps (WordWithin (2 ^ 57)) (WordWithin (2 ^ 59)) s F xs (λ x w. within-more (2 ^ 57) (2 ^ 59) x (lit≤ tt) w)
+      pending = all-circle (WordWithin (2 ^ 59)) 0 (lookahead s) n (value s F P xs (judged s n)) zero-within
+          (λ k q. value-keeps (WordWithin (2 ^ 57)) (WordWithin (2 ^ 59)) s F P xs (λ x w. within-more (2 ^ 57) (2 ^ 59) x (lit≤ tt) w)
           (λ l r t m wl wr a b. mended-within l r t m a (omega arith) wl wr) each (judged s n) k (omega arith) (omega arith));
       powers = all-circle PowerWithin zeroF (width s) n (λ k. powerOf (at xs k)) zero-sound (λ k q. power-sound (at xs k) (each k (omega arith)));
       sorted = ap (padded (width s)) (sym (window-sorted (Plain binary32) (plain-order binary32) (zero-sound .1) s xs (fine-all xs (cleans xs good)) n h));
       no-power = λ i a b. circle-blank zeroF (width s) n (λ k. powerOf (at xs k)) i a b;
-      no-sample = λ i a b. circle-blank 0 (lookahead s) n (value s F xs (judged s n)) i a b;
+      no-sample = λ i a b. circle-blank 0 (lookahead s) n (value s F P xs (judged s n)) i a b;
       window-length = circle-length zeroF (width s) n (λ k. powerOf (at xs k));
       sorted-length =
           let a = length-append (sort lt (newestPowers s xs n)) (replicate (width s - length (sort lt (newestPowers s xs n))) zeroF) in
@@ -237,11 +238,14 @@ state-sound s short xs good n h =
           let c = sort-length lt (newestPowers s xs n) in
           let d = newest-length s xs n h in
           omega arith;
-      pending-length = circle-length 0 (lookahead s) n (value s F xs (judged s n));
+      pending-length = circle-length 0 (lookahead s) n (value s F P xs (judged s n));
     }
   where
     F : ℕ → Bool
     F = flagged s xs
+
+    P : ℕ → Bool
+    P = pausedBy s ed xs
 
     each : (i : ℕ) → i < length xs → WordWithin (2 ^ 57) (at xs i)
     each i q = usable-within (at xs i) (all-getD (λ w. T (usable w)) xs i 0 good q)

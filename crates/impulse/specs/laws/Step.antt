@@ -17,10 +17,13 @@ use Rattle.rules.specs.Lists.{at, indicator, All}
 use Rattle.rules.specs.laws.ListLaws.{length-map}
 use Rattle.rules.specs.Sort.{insert, remove, sort}
 use Rattle.rules.specs.laws.SortLaws.{all-take, all-drop, all-getD, all-map, map-snoc, Ordered, sort-length, insert-length, sort-snoc, remove-insert}
-use Rattle.rules.specs.Impulse.{Setting, width, lookahead, powerOf, reference, standsOut, window, flagged, judged, before, start, blockOf, paused, touches}
+use Rattle.rules.specs.Pauses.{always}
+use Rattle.rules.specs.Impulse.{Setting, width, lookahead, powerOf, reference, standsOut, window, flagged, judged, before, start, blockOf, touches}
 use Rattle.rules.specs.Impulse.{mendable, mends, leftOf, mendedAt, covers, value, newestBlock, flagsIn}
 use Rattle.rules.specs.laws.Runs.{before-le, before-on, before-off, start-on, start-off, enter-paused, enter-flags, tally-flags, touches-more, hit-says}
 use Rattle.rules.specs.laws.Runs.{value-hit, value-miss, value-raw, value-fixed}
+use Rattle.impulse_pause.specs.declared.PauseEdition.{PauseEdition}
+use Rattle.impulse_pause.specs.View.{editionOf}
 use Rattle.impulse.specs.declared.Run.{Run}
 use Rattle.impulse.specs.declared.Open.the-variants.{Running, Closed}
 use Rattle.impulse.specs.declared.Left.the-variants.{Neighbour, Missing}
@@ -34,7 +37,8 @@ use Rattle.impulse.specs.Machine.{windowWith, sortedWith, pendingWith, v
 use Rattle.impulse.specs.Circle.{circle}
 use Rattle.impulse.specs.laws.CircleLaws.{circle-push, circle-length, circle-read, circle-read-any, circle-blank, circle-is, circle-same, around, apart}
 use Rattle.impulse.specs.laws.RunLaws.{read-run, write-length, write-other, write-in}
-use Rattle.impulse.specs.State.{runBefore, openAt, leftAt, blockAt, gateIn, gateAt, endingAt, newestPowers, padded, stateAt, answerAt, outcomeAt}
+use Rattle.impulse.specs.State.{runBefore, openAt, leftAt, blockAt, gateIn, gateAt, endingAt, newestPowers, padded, pausedBy, stateAt}
+use Rattle.impulse.specs.State.{answerAt, outcomeAt}
 
 -- ---- the window
 
@@ -168,26 +172,26 @@ flag-is s xs n j e h =
     ∙ ap (λ (k : ℕ). take (k - s .trim) (sort lt W)) (sym len)
     ∙ ap (λ (l : List Float). take (length l - s .trim) (sort lt l)) same)
 
--- ---- the run and its left neighbour, for any flags
+-- ---- the run and its left neighbour, for any flags and any paused blocks
 
-module _ (s : Setting) (F : ℕ → Bool) (xs : List ℕ) where
-  open-some : (j : ℕ) → 0 < before F j → openAt s F j ≡ Running (runBefore s F j)
+module _ (s : Setting) (F P : ℕ → Bool) (xs : List ℕ) where
+  open-some : (j : ℕ) → 0 < before F j → openAt s F P j ≡ Running (runBefore s F P j)
   unfolding openAt
   open-some j h = rw (lt-ltb 0 (before F j) h)
 
-  open-none : (j : ℕ) → before F j ≡ 0 → openAt s F j ≡ Closed
+  open-none : (j : ℕ) → before F j ≡ 0 → openAt s F P j ≡ Closed
   unfolding openAt
   open-none j e = rw (le-ltb 0 (before F j) (omega arith))
 
-  grown-is : (j : ℕ) → F j ≡ true → grown (openAt s F j) j (paused (s .block) F (blockOf s j)) ≡ runBefore s F (suc j)
+  grown-is : (j : ℕ) → F j ≡ true → grown (openAt s F P j) j (P (blockOf s j)) ≡ runBefore s F P (suc j)
   unfolding openAt touches
-  grown-is j e = go (before-on F j e) (start-on F j e) (touches-more s F j e) (ltb 0 (before F j)) refl
+  grown-is j e = go (before-on F j e) (start-on F j e) (touches-more s F P j e) (ltb 0 (before F j)) refl
     where
       Target : Bool → Type 0
-      Target t = grown (cond t (Running (runBefore s F j)) Closed) j (paused (s .block) F (blockOf s j)) ≡ runBefore s F (suc j)
+      Target t = grown (cond t (Running (runBefore s F P j)) Closed) j (P (blockOf s j)) ≡ runBefore s F P (suc j)
 
       go : before F (suc j) ≡ suc (before F j) → start F (suc j) ≡ start F j
-          → touches s F (start F (suc j)) (before F (suc j)) ≡ touches s F (start F j) (before F j) || paused (s .block) F (blockOf s j)
+          → touches s P (start F (suc j)) (before F (suc j)) ≡ touches s P (start F j) (before F j) || P (blockOf s j)
           → (t : Bool) → ltb 0 (before F j) ≡ t → Target t
       go b a more true t =
           let n : before F j + 1 ≡ before F (suc j) = omega arith in
@@ -197,8 +201,8 @@ module _ (s : Setting) (F : ℕ → Bool) (xs : List ℕ) where
           let none-yet : before F j ≡ 0 = omega arith in
           let here : j ≡ start F (suc j) = omega arith in
           let n : 1 ≡ before F (suc j) = omega arith in
-          let fresh-run : touches s F (start F j) (before F j) || paused (s .block) F (blockOf s j) ≡ paused (s .block) F (blockOf s j) =
-          ap (λ (k : ℕ). touches s F (start F j) k || paused (s .block) F (blockOf s j)) none-yet in
+          let fresh-run : touches s P (start F j) (before F j) || P (blockOf s j) ≡ P (blockOf s j) =
+          ap (λ (k : ℕ). touches s P (start F j) k || P (blockOf s j)) none-yet in
           λ i. record { start = here i; len = n i; paused = sym (more ∙ fresh-run) i }
 
   left-on : (j : ℕ) → F j ≡ true → leftAt F xs j ≡ leftAt F xs (suc j)
@@ -220,7 +224,7 @@ module _ (s : Setting) (F : ℕ → Bool) (xs : List ℕ) where
       go true = refl
       go false = refl
 
--- ---- judging, for any flags
+-- ---- judging, for any flags and any paused blocks
 
 mended-word : (F : ℕ → Bool) (xs : List ℕ) (j k : ℕ) → mendedAt F xs j k ≡ mendedWord (leftOf xs (start F j) (at xs j)) (at xs j) (k - start F j) (before F j)
 unfolding mendedAt mendedWord
@@ -234,41 +238,26 @@ mendable-short s t n = go (s .apply) (leb n (s .run)) t refl
     go true false c e q = absurd (false≢true q)
     go false false c e q = absurd (false≢true q)
 
-module _ (s : Setting) (F : ℕ → Bool) (xs : List ℕ) (l : 0 < s .block) where
-  -- the gate in the block of j
-  pub entered-is : (n j : ℕ) → entered (gateAt s F xs n j) j ≡ gateIn s F xs n j (blockOf s j)
-  unfolding entered
-  entered-is n j = go (eqb (blockOf s j) (newestBlock s j)) refl
-    where
-      before-it : Gate
-      before-it = gateAt s F xs n j
-
-      go : (b : Bool) → eqb (blockOf s j) (newestBlock s j) ≡ b
-          → cond b before-it (withBlock before-it (nextBlock before-it (blockOf s j))) ≡ gateIn s F xs n j (blockOf s j)
-      go true e = ap (gateIn s F xs n j) (sym (eqb-true (blockOf s j) (newestBlock s j) e))
-      go false e =
-          let differ = eqb-false (blockOf s j) (newestBlock s j) e in
-          λ i. withBlock before-it (record { number = blockOf s j; flagged = sym (enter-flags s F l j differ) i; paused = enter-paused s F l j differ i })
-
+module _ (s : Setting) (ed : PauseEdition) (F P : ℕ → Bool) (xs : List ℕ) where
   -- what stands in pending when n + 1 have come and j are judged
   abbrev pend : ℕ → ℕ → List ℕ
-  pend n j = circle 0 (lookahead s) (suc n) (value s F xs j)
+  pend n j = circle 0 (lookahead s) (suc n) (value s F P xs j)
 
   -- no run, or one that is kept, leaves what is pending
-  pend-same : (n j : ℕ) → mends s F j ≡ false → pend n j ≡ pend n (suc j)
+  pend-same : (n j : ℕ) → mends s F P j ≡ false → pend n j ≡ pend n (suc j)
   unfolding value
-  pend-same n j e = circle-same 0 (lookahead s) (suc n) (value s F xs j) (value s F xs (suc j)) (λ k h w. rw e)
+  pend-same n j e = circle-same 0 (lookahead s) (suc n) (value s F P xs j) (value s F P xs (suc j)) (λ k h w. rw e)
 
   -- a run that is mended
   module _ (n j : ℕ) (here : n ≡ j + s .half) (inside : n < length xs) where
     pend-read : (k : ℕ) → before F j ≤ s .run → j ≤ k + before F j → k ≤ n → getD (pend n j) (k % lookahead s) 0 ≡ at xs k
     pend-read k short h w =
         let b = before-le F j in
-        circle-read 0 (lookahead s) (suc n) (value s F xs j) k (omega arith) (omega arith) ∙ value-raw s F xs j k h
+        circle-read 0 (lookahead s) (suc n) (value s F P xs j) k (omega arith) (omega arith) ∙ value-raw s F P xs j k h
 
     pend-right : getD (pend n j) (j % lookahead s) 0 ≡ at xs j
     pend-right =
-        circle-read 0 (lookahead s) (suc n) (value s F xs j) j (omega arith) (omega arith) ∙ value-raw s F xs j j (omega arith)
+        circle-read 0 (lookahead s) (suc n) (value s F P xs j) j (omega arith) (omega arith) ∙ value-raw s F P xs j j (omega arith)
 
     pend-run : before F j ≤ s .run → readRun (lookahead s) (pend n j) (start F j) (before F j) ≡ take (before F j) (drop (start F j) xs)
     pend-run short =
@@ -290,46 +279,46 @@ module _ (s : Setting) (F : ℕ → Bool) (xs : List ℕ) (l : 0 < s .block) whe
         side b other (yes g) = apart (lookahead s) k (start F j + i) g (omega arith)
         side b other (no g) = λ e. apart (lookahead s) (start F j + i) k (omega arith) (omega arith) (sym e)
 
-    pend-mended : before F j ≤ s .run → mends s F j ≡ true → written ≡ pend n (suc j)
+    pend-mended : before F j ≤ s .run → mends s F P j ≡ true → written ≡ pend n (suc j)
     pend-mended short m =
-        circle-is 0 (lookahead s) (suc n) (value s F xs (suc j)) written
+        circle-is 0 (lookahead s) (suc n) (value s F P xs (suc j)) written
         (write-length (lookahead s) (pend n j) (leftOf xs (start F j) (at xs j)) (at xs j) (start F j) (before F j) (before F j) ∙ len)
         (λ k h w. reads k h w (covers F j k) refl) blank
       where
         len : length (pend n j) ≡ lookahead s
-        len = circle-length 0 (lookahead s) (suc n) (value s F xs j)
+        len = circle-length 0 (lookahead s) (suc n) (value s F P xs j)
 
-        hits : (k : ℕ) (c : Bool) → covers F j k ≡ c → mends s F j && covers F j k ≡ c
+        hits : (k : ℕ) (c : Bool) → covers F j k ≡ c → mends s F P j && covers F j k ≡ c
         hits k c e = rw m e
 
-        reads : (k : ℕ) → k < suc n → suc n ≤ k + lookahead s → (c : Bool) → covers F j k ≡ c → getD written (k % lookahead s) 0 ≡ value s F xs (suc j) k
+        reads : (k : ℕ) → k < suc n → suc n ≤ k + lookahead s → (c : Bool) → covers F j k ≡ c → getD written (k % lookahead s) 0 ≡ value s F P xs (suc j) k
         reads k h w true c =
-            let t = hit-says s F xs j k (hits k true c) in
+            let t = hit-says s F P xs j k (hits k true c) in
             let b = before-le F j in
             let e : start F j + (k - start F j) ≡ k = omega (arith, t .from) in
             subst (λ (x : ℕ). getD written (x % lookahead s) 0 ≡ mendedWord (leftOf xs (start F j) (at xs j)) (at xs j) (k - start F j) (before F j)) e
             (write-in (lookahead s) (pend n j) (leftOf xs (start F j) (at xs j)) (at xs j) (start F j) (before F j) (before F j) (k - start F j) len
             (omega arith)
             (omega (arith, t .from, t .upto)))
-            ∙ sym (value-hit s F xs j k (hits k true c) ∙ mended-word F xs j k)
+            ∙ sym (value-hit s F P xs j k (hits k true c) ∙ mended-word F xs j k)
         reads k h w false c =
             write-other (lookahead s) (pend n j) (leftOf xs (start F j) (at xs j)) (at xs j) (start F j) (before F j) (before F j) (k % lookahead s)
             (outside k short h w c)
-            ∙ circle-read 0 (lookahead s) (suc n) (value s F xs j) k h w
-            ∙ sym (value-miss s F xs j k (hits k false c))
+            ∙ circle-read 0 (lookahead s) (suc n) (value s F P xs j) k h w
+            ∙ sym (value-miss s F P xs j k (hits k false c))
 
         blank : (p : ℕ) → suc n ≤ p → p < lookahead s → getD written p 0 ≡ 0
         blank p h w =
             let b = before-le F j in
             write-other (lookahead s) (pend n j) (leftOf xs (start F j) (at xs j)) (at xs j) (start F j) (before F j) (before F j) p
             (λ i q. let g : start F j + i < lookahead s = omega arith in let e = mod-eq-of-lt g in omega arith)
-            ∙ circle-blank 0 (lookahead s) (suc n) (value s F xs j) p h w
+            ∙ circle-blank 0 (lookahead s) (suc n) (value s F P xs j) p h w
 
     -- the run that ends at j, which is not flagged
     abbrev able : Bool
-    able = mendable s (touches s F (start F j) (before F j)) (before F j)
+    able = mendable s (touches s P (start F j) (before F j)) (before F j)
 
-    closing-is : F j ≡ false → ltb 0 (before F j) ≡ true → closing s (runBefore s F j) (pend n j) ≡ endingAt s F xs j
+    closing-is : F j ≡ false → ltb 0 (before F j) ≡ true → closing s (runBefore s F P j) (pend n j) ≡ endingAt s F P xs j
     unfolding closing endingAt
     closing-is e t = rw (e, t) (go able refl)
       where
@@ -338,108 +327,111 @@ module _ (s : Setting) (F : ℕ → Bool) (xs : List ℕ) (l : 0 < s .block) whe
             (keptRun (start F j) (before F j) (ltb (s .run) (before F j)))
             ≡ cond b (mendedRun (start F j) (before F j) (take (before F j) (drop (start F j) xs)))
             (keptRun (start F j) (before F j) (ltb (s .run) (before F j)))
-        go true m = ap (mendedRun (start F j) (before F j)) (pend-run (mendable-short s (touches s F (start F j) (before F j)) (before F j) m))
+        go true m = ap (mendedRun (start F j) (before F j)) (pend-run (mendable-short s (touches s P (start F j) (before F j)) (before F j) m))
         go false m = refl
 
-    closing-pending : F j ≡ false → ltb 0 (before F j) ≡ true → closingPending s (runBefore s F j) (leftAt F xs j) (at xs j) (pend n j) ≡ pend n (suc j)
+    closing-pending : F j ≡ false → ltb 0 (before F j) ≡ true → closingPending s (runBefore s F P j) (leftAt F xs j) (at xs j) (pend n j) ≡ pend n (suc j)
     unfolding closingPending mends
     closing-pending e t = go able refl
       where
-        mends-is : (b : Bool) → able ≡ b → mends s F j ≡ b
+        mends-is : (b : Bool) → able ≡ b → mends s F P j ≡ b
         mends-is b m = rw (e, t) m
 
         go : (b : Bool) → able ≡ b
             → cond b (writeRun (lookahead s) (pend n j) (neighbourOr (leftAt F xs j) (at xs j)) (at xs j) (start F j) (before F j) (before F j)) (pend n j)
             ≡ pend n (suc j)
         go true m =
-            ap (λ (x : ℕ). writeRun (lookahead s) (pend n j) x (at xs j) (start F j) (before F j) (before F j)) (left-is s F xs j (at xs j))
-            ∙ pend-mended (mendable-short s (touches s F (start F j) (before F j)) (before F j) m) (mends-is true m)
+            ap (λ (x : ℕ). writeRun (lookahead s) (pend n j) x (at xs j) (start F j) (before F j) (before F j)) (left-is s F P xs j (at xs j))
+            ∙ pend-mended (mendable-short s (touches s P (start F j) (before F j)) (before F j) m) (mends-is true m)
         go false m = pend-same n j (mends-is false m)
 
     -- or none
-    ending-is : F j ≡ false → ending s (openAt s F j) (pend n j) ≡ endingAt s F xs j
+    ending-is : F j ≡ false → ending s (openAt s F P j) (pend n j) ≡ endingAt s F P xs j
     unfolding openAt endingAt
     ending-is e = go (ltb 0 (before F j)) refl
       where
-        go : (b : Bool) → ltb 0 (before F j) ≡ b → ending s (cond b (Running (runBefore s F j)) Closed) (pend n j) ≡ endingAt s F xs j
+        go : (b : Bool) → ltb 0 (before F j) ≡ b → ending s (cond b (Running (runBefore s F P j)) Closed) (pend n j) ≡ endingAt s F P xs j
         go true t = closing-is e t
         go false t = rw (e, t)
 
-    ending-pending : F j ≡ false → endingPending s (openAt s F j) (leftAt F xs j) (at xs j) (pend n j) ≡ pend n (suc j)
+    ending-pending : F j ≡ false → endingPending s (openAt s F P j) (leftAt F xs j) (at xs j) (pend n j) ≡ pend n (suc j)
     unfolding openAt mends
     ending-pending e = go (ltb 0 (before F j)) refl
       where
         go : (b : Bool) → ltb 0 (before F j) ≡ b
-            → endingPending s (cond b (Running (runBefore s F j)) Closed) (leftAt F xs j) (at xs j) (pend n j) ≡ pend n (suc j)
+            → endingPending s (cond b (Running (runBefore s F P j)) Closed) (leftAt F xs j) (at xs j) (pend n j) ≡ pend n (suc j)
         go true t = closing-pending e t
-        go false t = let m : mends s F j ≡ false = rw (e, t) in pend-same n j m
+        go false t = let m : mends s F P j ≡ false = rw (e, t) in pend-same n j m
 
     -- what the rules say of the judging of j
     abbrev judgementAt : Judgement
     judgementAt =
-        record { gate = gateAt s F xs (suc n) (suc j); uncertain = paused (s .block) F (blockOf s j); ended = endingAt s F xs j; pending = pend n (suc j) }
+        record { gate = gateAt s ed F P xs (suc n) (suc j); uncertain = P (blockOf s j); ended = endingAt s F P xs j; pending = pend n (suc j) }
 
     -- the gate in the block of j
     abbrev entering : Gate
-    entering = gateIn s F xs (suc n) j (blockOf s j)
+    entering = gateIn s ed F P xs (suc n) j (blockOf s j)
 
     -- the block when j is judged too, and its flag counted
     block-is : (flag : Bool) (flags : ℕ) → F j ≡ flag → flags ≡ indicator flag + flagsIn s F (blockOf s j) j
-        → withFlagged (entering .block) flags ≡ blockAt s F (suc j) (newestBlock s (suc j))
+        → withFlagged (entering .block) flags ≡ blockAt s F P (suc j) (newestBlock s (suc j))
     block-is flag flags e count =
         let k : j ≡ suc j - 1 = omega arith in
         let t = count ∙ ap (λ (c : Bool). indicator c + flagsIn s F (blockOf s j) j) (sym e) ∙ sym (tally-flags s F j) in
-        ap (withFlagged (entering .block)) t ∙ ap (λ (i : ℕ). blockAt s F (suc j) (blockOf s i)) k
+        ap (withFlagged (entering .block)) t ∙ ap (λ (i : ℕ). blockAt s F P (suc j) (blockOf s i)) k
 
     pub decided-is : (flag : Bool) → F j ≡ flag → decided s entering j (pend n j) flag ≡ judgementAt
     unfolding mends endingAt
     decided-is true e =
-        let m : mends s F j ≡ false = rw e in
-        let going-on : endingAt s F xs j ≡ going = rw e in
+        let m : mends s F P j ≡ false = rw e in
+        let going-on : endingAt s F P xs j ≡ going = rw e in
         let b = before-on F j e in
-        let run = ap (λ (r : Run). Running r) (grown-is s F xs j e) ∙ sym (open-some s F xs (suc j) (omega arith)) in
+        let run = ap (λ (r : Run). Running r) (grown-is s F P xs j e) ∙ sym (open-some s F P xs (suc j) (omega arith)) in
         let block = block-is true (flagsIn s F (blockOf s j) j + 1) e (omega arith) in
         λ i.
         record {
-          gate = withBlock (withMending entering (record { run = run i; left = left-on s F xs j e i })) (block i);
-          uncertain = paused (s .block) F (blockOf s j);
+          gate = withBlock (withMending entering (record { run = run i; left = left-on s F P xs j e i })) (block i);
+          uncertain = P (blockOf s j);
           ended = sym going-on i;
           pending = pend-same n j m i;
         }
     decided-is false e =
         let x = pend-right in
-        let run = sym (open-none s F xs (suc j) (before-off F j e)) in
-        let left = ap (λ (y : ℕ). Neighbour y) x ∙ left-off s F xs j e in
+        let run = sym (open-none s F P xs (suc j) (before-off F j e)) in
+        let left = ap (λ (y : ℕ). Neighbour y) x ∙ left-off s F P xs j e in
         let block = block-is false (flagsIn s F (blockOf s j) j) e (omega arith) in
         λ i.
         record {
           gate = withBlock (withMending entering (record { run = run i; left = left i })) (block i);
-          uncertain = paused (s .block) F (blockOf s j);
+          uncertain = P (blockOf s j);
           ended = ending-is e i;
-          pending = (ap (λ (y : ℕ). endingPending s (openAt s F j) (leftAt F xs j) y (pend n j)) x ∙ ending-pending e) i;
+          pending = (ap (λ (y : ℕ). endingPending s (openAt s F P j) (leftAt F xs j) y (pend n j)) x ∙ ending-pending e) i;
         }
 
 -- ---- the step
 
-module _ (good : Float → Type 0) (o : Ordered lt good) (s : Setting) (l : 0 < s .block) (xs : List ℕ) (fine : All (Fine good) xs) (n : ℕ)
-    (inside : n < length xs) where
+module _ (good : Float → Type 0) (o : Ordered lt good) (s : Setting) (ed : PauseEdition) (l : 0 < s .block) (xs : List ℕ)
+    (fine : All (Fine good) xs) (n : ℕ) (inside : n < length xs) where
   abbrev F : ℕ → Bool
   F = flagged s xs
+
+  abbrev P : ℕ → Bool
+  P = pausedBy s ed xs
 
   abbrev powerAt : ℕ → Float
   powerAt k = powerOf (at xs k)
 
-  window-is : windowWith s (stateAt s xs n) (at xs n) ≡ circle zeroF (width s) (suc n) powerAt
+  window-is : windowWith s (stateAt s ed xs n) (at xs n) ≡ circle zeroF (width s) (suc n) powerAt
   unfolding stateAt
   window-is = circle-push zeroF (width s) n powerAt
 
-  pending-is : pendingWith s (stateAt s xs n) (at xs n) ≡ circle 0 (lookahead s) (suc n) (value s F xs (judged s n))
+  pending-is : pendingWith s (stateAt s ed xs n) (at xs n) ≡ circle 0 (lookahead s) (suc n) (value s F P xs (judged s n))
   unfolding stateAt
   pending-is =
-      ap (set (circle 0 (lookahead s) n (value s F xs (judged s n))) (n % lookahead s)) (sym (value-raw s F xs (judged s n) n (omega arith)))
-      ∙ circle-push 0 (lookahead s) n (value s F xs (judged s n))
+      ap (set (circle 0 (lookahead s) n (value s F P xs (judged s n))) (n % lookahead s)) (sym (value-raw s F P xs (judged s n) n (omega arith)))
+      ∙ circle-push 0 (lookahead s) n (value s F P xs (judged s n))
 
-  pub sorted-is : sortedWith s (stateAt s xs n) (at xs n) ≡ padded (width s) (sort lt (newestPowers s xs (suc n)))
+  pub sorted-is : sortedWith s (stateAt s ed xs n) (at xs n) ≡ padded (width s) (sort lt (newestPowers s xs (suc n)))
   unfolding stateAt
   sorted-is =
       ordered-is good o xs fine s n (getD (circle zeroF (width s) n powerAt) (n % width s) nan) inside
@@ -448,63 +440,79 @@ module _ (good : Float → Type 0) (o : Ordered lt good) (s : Setting) (l : 0 < 
       ap (λ (q : ℕ). getD (circle zeroF (width s) n powerAt) q nan) same
       ∙ circle-read-any zeroF (width s) nan n powerAt (n - width s) (omega arith) (omega arith))
 
-  answer-is : released (lookahead s) (s .apply) n (getD (circle 0 (lookahead s) n (value s F xs (judged s n))) (n % lookahead s) 0) (at xs n) ≡ answerAt s xs n
+  answer-is : released (lookahead s) (s .apply) n (getD (circle 0 (lookahead s) n (value s F P xs (judged s n))) (n % lookahead s) 0) (at xs n) ≡ answerAt s ed xs n
   unfolding released answerAt
   answer-is = ap (λ (a : Answer). cond (s .apply) a (Released (at xs n))) (go (ltb n (lookahead s)) refl)
     where
       go : (b : Bool) → ltb n (lookahead s) ≡ b
-          → cond b Nothing (Released (getD (circle 0 (lookahead s) n (value s F xs (judged s n))) (n % lookahead s) 0))
-          ≡ cond b Nothing (Released (value s F xs (judged s (length xs)) (n - lookahead s)))
+          → cond b Nothing (Released (getD (circle 0 (lookahead s) n (value s F P xs (judged s n))) (n % lookahead s) 0))
+          ≡ cond b Nothing (Released (value s F P xs (judged s (length xs)) (n - lookahead s)))
       go true e = refl
       go false e =
           let w = ltb-false n (lookahead s) e in
           let same = around (lookahead s) (n - lookahead s) n (omega arith) in
-          let read = circle-read 0 (lookahead s) n (value s F xs (judged s n)) (n - lookahead s) (omega arith) (omega arith) in
+          let read = circle-read 0 (lookahead s) n (value s F P xs (judged s n)) (n - lookahead s) (omega arith) (omega arith) in
           let later : judged s n + (length xs - n) ≡ judged s (length xs) = omega arith in
-          let fixed = value-fixed s F xs (length xs - n) (judged s n) (n - lookahead s) (omega arith) in
+          let fixed = value-fixed s F P xs (length xs - n) (judged s n) (n - lookahead s) (omega arith) in
           ap (λ (q : ℕ). Released q)
-          (ap (λ (q : ℕ). getD (circle 0 (lookahead s) n (value s F xs (judged s n))) q 0) same
+          (ap (λ (q : ℕ). getD (circle 0 (lookahead s) n (value s F P xs (judged s n))) q 0) same
           ∙ read
           ∙ sym fixed
-          ∙ ap (λ (q : ℕ). value s F xs q (n - lookahead s)) later)
+          ∙ ap (λ (q : ℕ). value s F P xs q (n - lookahead s)) later)
+
+  -- the gate in the block of j: what knows the pause rule
+  entered-is : (j : ℕ) → entered (gateAt s ed F P xs (suc n) j) j ≡ gateIn s ed F P xs (suc n) j (blockOf s j)
+  unfolding entered
+  entered-is j = go (eqb (blockOf s j) (newestBlock s j)) refl
+    where
+      before-it : Gate
+      before-it = gateAt s ed F P xs (suc n) j
+
+      go : (b : Bool) → eqb (blockOf s j) (newestBlock s j) ≡ b
+          → cond b before-it (withBlock before-it (nextBlock before-it (blockOf s j))) ≡ gateIn s ed F P xs (suc n) j (blockOf s j)
+      go true e = ap (gateIn s ed F P xs (suc n) j) (sym (eqb-true (blockOf s j) (newestBlock s j) e))
+      go false e =
+          let differ = eqb-false (blockOf s j) (newestBlock s j) e in
+          let stops = enter-paused s F l (always (editionOf ed)) j differ in
+          λ i. withBlock before-it (record { number = blockOf s j; flagged = sym (enter-flags s F l j differ) i; paused = stops i })
 
   -- when j is judged
   judge-is : (j : ℕ) → n ≡ j + s .half
-      → judge s (gateAt s F xs (suc n) j) j (powerAt j) (padded (width s) (sort lt (newestPowers s xs (suc n))))
-      (circle 0 (lookahead s) (suc n) (value s F xs j))
+      → judge s (gateAt s ed F P xs (suc n) j) j (powerAt j) (padded (width s) (sort lt (newestPowers s xs (suc n))))
+      (circle 0 (lookahead s) (suc n) (value s F P xs j))
       ≡ record {
-        gate = gateAt s F xs (suc n) (suc j);
-        uncertain = paused (s .block) F (blockOf s j);
-        ended = endingAt s F xs j;
+        gate = gateAt s ed F P xs (suc n) (suc j);
+        uncertain = P (blockOf s j);
+        ended = endingAt s F P xs j;
         pending =
-            circle 0 (lookahead s) (suc n) (value s F xs (suc j));
+            circle 0 (lookahead s) (suc n) (value s F P xs (suc j));
       }
   unfolding judge
   judge-is j here =
       let sorted = padded (width s) (sort lt (newestPowers s xs (suc n))) in
-      let pending = circle 0 (lookahead s) (suc n) (value s F xs j) in
-      ap (λ (g : Gate). decided s g j pending (flaggedBy (width s) (s .trim) (g .received) sorted (powerAt j))) (entered-is s F xs l (suc n) j)
-      ∙ ap (decided s (gateIn s F xs (suc n) j (blockOf s j)) j pending) (flag-is s xs n j here inside)
-      ∙ decided-is s F xs l n j here inside (F j) refl
+      let pending = circle 0 (lookahead s) (suc n) (value s F P xs j) in
+      ap (λ (g : Gate). decided s g j pending (flaggedBy (width s) (s .trim) (g .received) sorted (powerAt j))) (entered-is j)
+      ∙ ap (decided s (gateIn s ed F P xs (suc n) j (blockOf s j)) j pending) (flag-is s xs n j here inside)
+      ∙ decided-is s ed F P xs n j here inside (F j) refl
 
   abbrev verdictAt : Bool → Judgement
   verdictAt b =
       record {
-        gate = gateAt s F xs (suc n) (judged s (suc n));
-        uncertain = cond b false (paused (s .block) F (blockOf s (n - s .half)));
-        ended = cond b going (endingAt s F xs (n - s .half));
-        pending = circle 0 (lookahead s) (suc n) (value s F xs (judged s (suc n)));
+        gate = gateAt s ed F P xs (suc n) (judged s (suc n));
+        uncertain = cond b false (P (blockOf s (n - s .half)));
+        ended = cond b going (endingAt s F P xs (n - s .half));
+        pending = circle 0 (lookahead s) (suc n) (value s F P xs (judged s (suc n)));
       }
 
   -- the gate that has received one more
-  received-is : arrived (gateAt s F xs n (judged s n)) ≡ gateAt s F xs (suc n) (judged s n)
+  received-is : arrived (gateAt s ed F P xs n (judged s n)) ≡ gateAt s ed F P xs (suc n) (judged s n)
   received-is =
       let e : n + 1 ≡ suc n = omega arith in
-      ap (λ (k : ℕ). gateAt s F xs k (judged s n)) e
+      ap (λ (k : ℕ). gateAt s ed F P xs k (judged s n)) e
 
   -- of the gate and the arrays with sample n in them
-  verdict-is : verdict s (gateAt s F xs (suc n) (judged s n)) n (circle zeroF (width s) (suc n) powerAt)
-      (padded (width s) (sort lt (newestPowers s xs (suc n)))) (circle 0 (lookahead s) (suc n) (value s F xs (judged s n)))
+  verdict-is : verdict s (gateAt s ed F P xs (suc n) (judged s n)) n (circle zeroF (width s) (suc n) powerAt)
+      (padded (width s) (sort lt (newestPowers s xs (suc n)))) (circle 0 (lookahead s) (suc n) (value s F P xs (judged s n)))
       ≡ verdictAt (ltb n (s .half))
   unfolding verdict
   verdict-is = go (ltb n (s .half)) refl
@@ -513,28 +521,28 @@ module _ (good : Float → Type 0) (o : Ordered lt good) (s : Setting) (l : 0 < 
       sorted = padded (width s) (sort lt (newestPowers s xs (suc n)))
 
       pending : ℕ → List ℕ
-      pending j = circle 0 (lookahead s) (suc n) (value s F xs j)
+      pending j = circle 0 (lookahead s) (suc n) (value s F P xs j)
 
       go : (b : Bool) → ltb n (s .half) ≡ b
-          → cond b (record { gate = gateAt s F xs (suc n) (judged s n); uncertain = false; ended = going; pending = pending (judged s n) })
-          (judge s (gateAt s F xs (suc n) (judged s n)) (n - s .half) (getD (circle zeroF (width s) (suc n) powerAt) ((n - s .half) % width s) nan) sorted
+          → cond b (record { gate = gateAt s ed F P xs (suc n) (judged s n); uncertain = false; ended = going; pending = pending (judged s n) })
+          (judge s (gateAt s ed F P xs (suc n) (judged s n)) (n - s .half) (getD (circle zeroF (width s) (suc n) powerAt) ((n - s .half) % width s) nan) sorted
           (pending (judged s n)))
           ≡ verdictAt b
       go true e =
           let h = ltb-true n (s .half) e in
           let same : n - s .half ≡ suc n - s .half = omega arith in
-          λ i. record { gate = gateAt s F xs (suc n) (same i); uncertain = false; ended = going; pending = pending (same i) }
+          λ i. record { gate = gateAt s ed F P xs (suc n) (same i); uncertain = false; ended = going; pending = pending (same i) }
       go false e =
           let h = ltb-false n (s .half) e in
           let j = n - s .half in
           let next : suc (n - s .half) ≡ suc n - s .half = omega arith in
           let own = circle-read-any zeroF (width s) nan (suc n) powerAt j (omega arith) (omega arith) in
-          ap (λ (p : Float). judge s (gateAt s F xs (suc n) j) j p sorted (pending j)) own
+          ap (λ (p : Float). judge s (gateAt s ed F P xs (suc n) j) j p sorted (pending j)) own
           ∙ judge-is j (omega arith)
           ∙ ap (λ (k : ℕ). record
-          { gate = gateAt s F xs (suc n) k; uncertain = paused (s .block) F (blockOf s j); ended = endingAt s F xs j; pending = pending k }) next
+          { gate = gateAt s ed F P xs (suc n) k; uncertain = P (blockOf s j); ended = endingAt s F P xs j; pending = pending k }) next
 
-  pub push-is : push s (stateAt s xs n) (at xs n) ≡ outcomeAt s xs n
+  pub push-is : push s (stateAt s ed xs n) (at xs n) ≡ outcomeAt s ed xs n
   unfolding push stateAt
   push-is =
       let v = (λ i. verdict s (received-is i) n (window-is i) (sorted-is i) (pending-is i)) ∙ verdict-is in

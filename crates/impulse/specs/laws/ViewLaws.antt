@@ -11,6 +11,7 @@ use lib.Ieee.{Float, nan}
 use borrow.Author.Tests.{leb-true}
 use Rattle.rules.specs.Impulse.{Setting, standard, width, lookahead, mendable, mended, longestRun}
 use Rattle.rules.specs.Log.{repairWords}
+use Rattle.impulse_pause.specs.declared.PauseEdition.{PauseEdition}
 use Rattle.impulse.specs.declared.Run.{Run}
 use Rattle.impulse.specs.declared.Open.{Open}
 use Rattle.impulse.specs.declared.Open.the-variants.{Running, Closed}
@@ -105,6 +106,6 @@ told-same s h m x =
 
 -- ---- the code's setting, and its room
 
-pub setting-is : (block : ℕ) (apply : Bool) (xs : List ℕ) (n : ℕ) → settingOf (stateAt (standard block apply) xs n .gate) ≡ standard block apply
+pub setting-is : (block : ℕ) (apply : Bool) (ed : PauseEdition) (xs : List ℕ) (n : ℕ) → settingOf (stateAt (standard block apply) ed xs n .gate) ≡ standard block apply
 unfolding stateAt
-setting-is block apply xs n = refl
+setting-is block apply ed xs n = refl

@@ -69,16 +69,17 @@ module _ (g : ConditioningConfig) (blocks : 0 < blockLength (g .fs)) (xs : List 
 
   pub impulse-out : impulseOut (freshState g) xs ≡ afterImpulse (configOf g) xs
   unfolding impulseOut afterImpulse freshState freshSettings
-  impulse-out = ap (λ (l : List ℕ). cond (runs (modeOf (g .impulse))) l xs) (stage (settingOf (configOf g)) offered xs u .hands-on)
+  impulse-out = ap (λ (l : List ℕ). cond (runs (modeOf (g .impulse))) l xs) (stage (settingOf (configOf g)) offered (g .edition) xs u .hands-on)
 
   pub impulse-told : impulseTold (freshState g) xs ≡ impulseEvents (configOf g) xs
   unfolding impulseTold impulseEvents freshState freshSettings
-  impulse-told = ap (λ (l : List Event). cond (runs (modeOf (g .impulse))) l []) (stage (settingOf (configOf g)) offered xs u .tells)
+  impulse-told = ap (λ (l : List Event). cond (runs (modeOf (g .impulse))) l []) (stage (settingOf (configOf g)) offered (g .edition) xs u .tells)
 
-  pub impulse-state : impulseAfter (freshState g) xs ≡ cond (runs (modeOf (g .impulse))) (stateOf (settingOf (configOf g)) xs) (fresh (settingOf (configOf g)))
+  pub impulse-state : impulseAfter (freshState g) xs
+      ≡ cond (runs (modeOf (g .impulse))) (stateOf (settingOf (configOf g)) (g .edition) xs) (fresh (settingOf (configOf g)) (g .edition))
   unfolding impulseAfter freshState freshSettings
   impulse-state =
-      ap (λ (m : ImpulseSuppressor). cond (runs (modeOf (g .impulse))) m (fresh (settingOf (configOf g)))) (stage (settingOf (configOf g)) offered xs u .stands)
+      ap (λ (m : ImpulseSuppressor). cond (runs (modeOf (g .impulse))) m (fresh (settingOf (configOf g)) (g .edition))) (stage (settingOf (configOf g)) offered (g .edition) xs u .stands)
 
   -- ---- the DC stage
 

@@ -5,7 +5,8 @@ use mathlib.Core.List.{List, []}
 use Prim.Native.Nat.{ℕ, zero, suc, _-_, _≤_, _<_, min}
 use native.Mathlib.Omega.{arith}
 use lib.ListN.{length}
-use Rattle.rules.specs.Impulse.{Setting, standard, blockLength, handedOn, lookahead, value, flagged, judged}
+use Rattle.rules.specs.Pauses.{Edition}
+use Rattle.rules.specs.Impulse.{Setting, standard, blockLength, pausedIn, handedOn, lookahead, value, flagged, judged}
 use Rattle.rules.specs.Dc.{corner, firstLevel, levelAfter}
 use Rattle.rules.specs.Mode.{Mode, off, observe, apply, isApply, runs}
 use Rattle.rules.specs.Log as rules
@@ -14,7 +15,7 @@ use Rattle.rules.specs.Monitor.{Hop}
 use Rattle.rules.specs.laws.TestLaws.{and-so}
 use Rattle.rules.specs.Lists.{upTo}
 use Rattle.rules.specs.laws.ListLaws.{length-upTo}
-use Rattle.rules.specs.Chain.{Config, settingOf, afterImpulse, settledBy, clampedOf, repairRing, longRunsOf}
+use Rattle.rules.specs.Chain.{Config, settingOf, editionsOf, afterImpulse, settledBy, clampedOf, repairRing, longRunsOf}
 use Rattle.log.specs.View.{Logged, bare, ringIn, marksAt}
 use Rattle.log.specs.Check.{ringFits, ringOf, countOf, logFits, endFits, endsFit}
 use Rattle.log.specs.laws.CheckLaws.{all-of}
@@ -69,24 +70,24 @@ applies-runs observe = refl
 applies-runs apply = refl
 
 -- how many an impulse stage hands on: all but those held
-handed-length : (s : Setting) (xs : List ℕ) → length (handedOn s xs) ≡ length xs - cond (s .apply) (min (lookahead s) (length xs)) 0
+handed-length : (s : Setting) (E : ℕ → Edition) (xs : List ℕ) → length (handedOn s E xs) ≡ length xs - cond (s .apply) (min (lookahead s) (length xs)) 0
 unfolding handedOn
-handed-length s xs = go (s .apply)
+handed-length s E xs = go (s .apply)
   where
     go : (b : Bool)
-        → length (cond b (upTo (value s (flagged s xs) xs (judged s (length xs))) (length xs - lookahead s)) xs)
+        → length (cond b (upTo (value s (flagged s xs) (pausedIn s E xs) xs (judged s (length xs))) (length xs - lookahead s)) xs)
         ≡ length xs - cond b (min (lookahead s) (length xs)) 0
-    go true = length-upTo (value s (flagged s xs) xs (judged s (length xs))) (length xs - lookahead s) ∙ min-less (length xs) (lookahead s)
+    go true = length-upTo (value s (flagged s xs) (pausedIn s E xs) xs (judged s (length xs))) (length xs - lookahead s) ∙ min-less (length xs) (lookahead s)
     go false = omega arith
 
 after-length : (c : Config) (xs : List ℕ) → length (afterImpulse c xs) ≡ length xs - heldBy (isApply (c .impulseMode)) (length xs)
 unfolding afterImpulse
 after-length c xs = go (c .impulseMode) refl
   where
-    go : (m : Mode) → c .impulseMode ≡ m → length (cond (runs m) (handedOn (settingOf c) xs) xs) ≡ length xs - heldBy (isApply m) (length xs)
+    go : (m : Mode) → c .impulseMode ≡ m → length (cond (runs m) (handedOn (settingOf c) (editionsOf c) xs) xs) ≡ length xs - heldBy (isApply m) (length xs)
     go off e = omega arith
-    go observe e = handed-length (settingOf c) xs ∙ ap (λ (m : Mode). length xs - heldBy (isApply m) (length xs)) e
-    go apply e = handed-length (settingOf c) xs ∙ ap (λ (m : Mode). length xs - heldBy (isApply m) (length xs)) e
+    go observe e = handed-length (settingOf c) (editionsOf c) xs ∙ ap (λ (m : Mode). length xs - heldBy (isApply m) (length xs)) e
+    go apply e = handed-length (settingOf c) (editionsOf c) xs ∙ ap (λ (m : Mode). length xs - heldBy (isApply m) (length xs)) e
 
 module _ (g : ConditioningConfig) (f : Fit g) (xs : List ℕ) (hs : List Hop) (r : Reached g xs hs) where
   abbrev mode : Mode
@@ -97,7 +98,7 @@ module _ (g : ConditioningConfig) (f : Fit g) (xs : List ℕ) (hs : List Hop) (r
 
   -- ---- the parts of the state
 
-  suppressor-is : chainAt g xs hs .machine .state .suppressor ≡ cond (runs mode) (stateOf setting xs) (fresh setting)
+  suppressor-is : chainAt g xs hs .machine .state .suppressor ≡ cond (runs mode) (stateOf setting (g .edition) xs) (fresh setting (g .edition))
   unfolding chainAt withHops core process
   suppressor-is = impulse-state g (f .blocks) xs (r .usable)
 
@@ -158,9 +159,9 @@ module _ (g : ConditioningConfig) (f : Fit g) (xs : List ℕ) (hs : List Hop) (r
       (λ i. countsFit (applies-is i) (record { seen = seen-is i; released = released-count i; held = held-is i; clamped = clamped-count i }))
       ∙ counts-good (isApply mode) (length xs) (clampedOf (configOf g) xs) (clamped-most (configOf g) xs) (let l = r .few in omega arith)
 
-  gate-by : (b : Bool) → gateFits (cond b (stateOf setting xs) (fresh setting) .gate) ≡ true
-  gate-by true = gate-good (blockLength (g .fs)) (isApply mode) xs (r .usable) (r .few)
-  gate-by false = fresh-gate-good setting
+  gate-by : (b : Bool) → gateFits (cond b (stateOf setting (g .edition) xs) (fresh setting (g .edition)) .gate) ≡ true
+  gate-by true = gate-good (blockLength (g .fs)) (isApply mode) (g .edition) xs (r .usable) (r .few)
+  gate-by false = fresh-gate-good setting (g .edition)
 
   gate-fit : gateFits (chainAt g xs hs .machine .state .suppressor .gate) ≡ true
   gate-fit = ap (λ (m : ImpulseSuppressor). gateFits (m .gate)) suppressor-is ∙ gate-by (runs mode)
@@ -169,9 +170,9 @@ module _ (g : ConditioningConfig) (f : Fit g) (xs : List ℕ) (hs : List Hop) (r
   unfolding frontFits
   front-fit = and-so _ _ (and-so _ _ settings-fit counts-fit) gate-fit
 
-  suppressor-by : (b : Bool) → suppressorFits (cond b (stateOf setting xs) (fresh setting)) b (length xs) ≡ true
-  suppressor-by true = suppressor-good (blockLength (g .fs)) (isApply mode) xs (r .usable) (r .few)
-  suppressor-by false = fresh-suppressor-good setting (length xs)
+  suppressor-by : (b : Bool) → suppressorFits (cond b (stateOf setting (g .edition) xs) (fresh setting (g .edition))) b (length xs) ≡ true
+  suppressor-by true = suppressor-good (blockLength (g .fs)) (isApply mode) (g .edition) xs (r .usable) (r .few)
+  suppressor-by false = fresh-suppressor-good setting (g .edition) (length xs)
 
   suppressor-fit : let c = chainAt g xs hs .machine .state in suppressorFits (c .suppressor) (c .settings .impulse) (c .counts .seen) ≡ true
   suppressor-fit = (λ i. suppressorFits (suppressor-is i) (running i) (seen-is i)) ∙ suppressor-by (runs mode)

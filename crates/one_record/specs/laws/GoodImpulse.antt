@@ -24,6 +24,7 @@ use Rattle.rules.specs.laws.SortLaws.{all-getD, sort-length}
 use Rattle.rules.specs.Impulse.{Setting, standard, windowSize, nextJudged}
 use Rattle.log.specs.Check.{allTo}
 use Rattle.log.specs.laws.CheckLaws.{all-of}
+use Rattle.impulse_pause.specs.declared.PauseEdition.{PauseEdition}
 use Rattle.impulse.specs.declared.Run.{Run}
 use Rattle.impulse.specs.declared.Open.{Open}
 use Rattle.impulse.specs.declared.Open.the-variants.{Running, Closed}
@@ -117,21 +118,21 @@ module _ (b : ℕ) (a : Bool) (n : ℕ) (m : ImpulseSuppressor) (p : Sound (stan
 
 -- ---- THE STAGE after usable samples, and before any
 
-module _ (b : ℕ) (a : Bool) (xs : List ℕ) (u : Usable xs) (h : length xs ≤ totalLimit) where
-  sound : Sound (standard b a) (length xs) (stateOf (standard b a) xs)
-  sound = state-sound (standard b a) (lit≤ tt) xs u (length xs) (omega arith)
+module _ (b : ℕ) (a : Bool) (ed : PauseEdition) (xs : List ℕ) (u : Usable xs) (h : length xs ≤ totalLimit) where
+  sound : Sound (standard b a) (length xs) (stateOf (standard b a) ed xs)
+  sound = state-sound (standard b a) (lit≤ tt) ed xs u (length xs) (omega arith)
 
-  pub gate-good : gateFits (stateOf (standard b a) xs .gate) ≡ true
-  gate-good = sound-gate b a (length xs) (stateOf (standard b a) xs) sound h
+  pub gate-good : gateFits (stateOf (standard b a) ed xs .gate) ≡ true
+  gate-good = sound-gate b a (length xs) (stateOf (standard b a) ed xs) sound h
 
-  pub suppressor-good : suppressorFits (stateOf (standard b a) xs) true (length xs) ≡ true
-  suppressor-good = sound-suppressor b a (length xs) (stateOf (standard b a) xs) sound h
+  pub suppressor-good : suppressorFits (stateOf (standard b a) ed xs) true (length xs) ≡ true
+  suppressor-good = sound-suppressor b a (length xs) (stateOf (standard b a) ed xs) sound h
 
-pub fresh-gate-good : (s : Setting) → gateFits (fresh s .gate) ≡ true
+pub fresh-gate-good : (s : Setting) (ed : PauseEdition) → gateFits (fresh s ed .gate) ≡ true
 unfolding gateFits
-fresh-gate-good s = let c : counter 0 ≡ true = le-leb 0 (2 ^ 52) (lit≤ tt) in λ i. c i && c i && c i && true && true
+fresh-gate-good s ed = let c : counter 0 ≡ true = le-leb 0 (2 ^ 52) (lit≤ tt) in λ i. c i && c i && c i && true && true
 
 -- the arrays hold nothing yet
-pub fresh-suppressor-good : (s : Setting) (seen : ℕ) → suppressorFits (fresh s) false seen ≡ true
+pub fresh-suppressor-good : (s : Setting) (ed : PauseEdition) (seen : ℕ) → suppressorFits (fresh s ed) false seen ≡ true
 unfolding suppressorFits arraysFit allTo
-fresh-suppressor-good s seen = refl
+fresh-suppressor-good s ed seen = refl

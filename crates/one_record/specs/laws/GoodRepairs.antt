@@ -2,17 +2,17 @@
 use mathlib.Core.Path.{_≡_}
 use mathlib.Core.Bool.{Bool, true, false, cond}
 use mathlib.Core.List.{List, [], _∷_, _++_}
-use Prim.Native.Nat.{ℕ, zero, suc, _+_, _*_, _^_, _≤_, _<_}
+use Prim.Native.Nat.{ℕ, zero, suc, _+_, _*_, _≤_, _<_}
 use native.Mathlib.Omega.{arith}
 use lib.Dec.{ltb}
 use lib.ListN.{length, take, drop, length-append}
-use Rattle.rules.specs.Impulse.{Setting, flagged, judged, before, start, closes, blockOf, paused, touches, mendable, Event, uncertain, kept, mended, eventsAt}
-use Rattle.rules.specs.Impulse.{events, happened}
+use Rattle.rules.specs.Impulse.{Setting, flagged, judged, before, start, closes, blockOf, touches, mendable, Event, uncertain, kept, mended, eventsAt}
+use Rattle.rules.specs.Impulse.{events, pausedIn, happened}
 use Rattle.rules.specs.Log.{Ring, emptyRing, append, repairWidth, repaired, repairsOf, longRuns, Sound}
 use Rattle.rules.specs.laws.RingLaws.{append-sound, append-drops, empty-sound, filled}
 use Rattle.rules.specs.laws.RingReading.{repaired-sound}
 use Rattle.rules.specs.laws.EventLaws.{repairs-append, long-append}
-use Rattle.rules.specs.Chain.{Config, settingOf, impulseEvents, repairRing, longRunsOf}
+use Rattle.rules.specs.Chain.{Config, settingOf, editionsOf, impulseEvents, repairRing, longRunsOf}
 use Rattle.rules.specs.Mode.{runs}
 use Rattle.rules.specs.Constants.{totalLimit}
 use Rattle.log.specs.View.{bare}
@@ -36,9 +36,9 @@ record Few (es : List Event) : Type 0 where
   pub repairs : length (repairsOf es) ≤ 1
   pub longruns : longRuns es ≤ 1
 
-few-at : (s : Setting) (F : ℕ → Bool) (xs : List ℕ) (j : ℕ) → Few (eventsAt s F xs j)
+few-at : (s : Setting) (F P : ℕ → Bool) (xs : List ℕ) (j : ℕ) → Few (eventsAt s F P xs j)
 unfolding eventsAt repairsOf longRuns
-few-at s F xs j = go (paused (s .block) F (blockOf s j)) (closes F j) (mendable s (touches s F (start F j) (before F j)) (before F j))
+few-at s F P xs j = go (P (blockOf s j)) (closes F j) (mendable s (touches s P (start F j) (before F j)) (before F j))
   where
     long : (l : Bool) → cond l 1 0 ≤ 1
     long true = omega arith
@@ -67,14 +67,14 @@ recorded-none : (b : ℕ) → Recorded b []
 unfolding repairsOf longRuns
 recorded-none b = record { repairs = omega arith; longruns = omega arith }
 
-events-recorded : (s : Setting) (F : ℕ → Bool) (xs : List ℕ) (j : ℕ) → Recorded j (events s F xs j)
+events-recorded : (s : Setting) (F P : ℕ → Bool) (xs : List ℕ) (j : ℕ) → Recorded j (events s F P xs j)
 unfolding events
-events-recorded s F xs zero = recorded-none 0
-events-recorded s F xs (suc j) =
-    let es = events s F xs j in
-    let fs = eventsAt s F xs j in
-    let r = events-recorded s F xs j in
-    let f = few-at s F xs j in
+events-recorded s F P xs zero = recorded-none 0
+events-recorded s F P xs (suc j) =
+    let es = events s F P xs j in
+    let fs = eventsAt s F P xs j in
+    let r = events-recorded s F P xs j in
+    let f = few-at s F P xs j in
     let n = length-append (repairsOf es) (repairsOf fs) in
     record {
       repairs = rw (repairs-append es fs) (omega (arith, r .repairs, f .repairs));
@@ -86,8 +86,11 @@ pub impulse-recorded : (c : Config) (xs : List ℕ) → Recorded (length xs) (im
 unfolding impulseEvents happened
 impulse-recorded c xs = go (runs (c .impulseMode))
   where
-    go : (t : Bool) → Recorded (length xs) (cond t (events (settingOf c) (flagged (settingOf c) xs) xs (judged (settingOf c) (length xs))) [])
-    go true = let r = events-recorded (settingOf c) (flagged (settingOf c) xs) xs (judged (settingOf c) (length xs)) in
+    P : ℕ → Bool
+    P = pausedIn (settingOf c) (editionsOf c) xs
+
+    go : (t : Bool) → Recorded (length xs) (cond t (events (settingOf c) (flagged (settingOf c) xs) P xs (judged (settingOf c) (length xs))) [])
+    go true = let r = events-recorded (settingOf c) (flagged (settingOf c) xs) P xs (judged (settingOf c) (length xs)) in
         record { repairs = omega (arith, r .repairs); longruns = omega (arith, r .longruns) }
     go false = recorded-none (length xs)
 

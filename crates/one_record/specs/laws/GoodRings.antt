@@ -6,14 +6,15 @@ use Prim.Native.Nat.{ℕ, _+_, _-_, _^_, _≤_, _<_}
 use native.Mathlib.Omega.{arith}
 use lib.ListN.{length}
 use Rattle.rules.specs.laws.ListLaws.{length-map}
-use Rattle.rules.specs.Impulse.{Setting, flagged, judged, start, events, happened}
+use Rattle.rules.specs.Pauses.{Edition}
+use Rattle.rules.specs.Impulse.{Setting, flagged, judged, start, events, pausedIn, happened}
 use Rattle.rules.specs.Dc.{corner, firstLevel, blockedAll}
 use Rattle.rules.specs.Iq.{Settled, Off, Observing, Withheld, Correcting, correctedBy}
 use Rattle.rules.specs.Monitor.{Hop, hopEnd, reported, Answer, noReport, report, windowLength, windowStart, due, reportOf, answerTo, nextWindow, answers}
 use Rattle.rules.specs.Monitor.{suspectedSpan, suspectedSpans}
 use Rattle.rules.specs.Log.{Span, spanOf, Marks, marked, Stage, impulse, dc, iq, Mark, Repaired, Flagged, Corrected, Uncertain, marksOf}
 use Rattle.rules.specs.laws.MarkLaws.{lengths, AllEndBy, marked-sound, marked-samples, marked-dropped, marked-ends}
-use Rattle.rules.specs.Chain.{Config, settingOf, impulseEvents, afterImpulse, afterDc, settledBy, released, dcMarks, iqMarks, evidence, marksIn, ringOf}
+use Rattle.rules.specs.Chain.{Config, settingOf, editionsOf, impulseEvents, afterImpulse, afterDc, settledBy, released, dcMarks, iqMarks, evidence, marksIn, ringOf}
 use Rattle.rules.specs.Mode.{isApply, runs}
 use Rattle.rules.specs.Constants.{sizeLimit, totalLimit}
 use Rattle.log.specs.View.{bare}
@@ -70,27 +71,28 @@ up-one n b h = ((omega arith, tt), omega arith)
 
 -- ---- the impulse stage
 
-module _ (s : Setting) (F : ℕ → Bool) (xs : List ℕ) where
+module _ (s : Setting) (F P : ℕ → Bool) (xs : List ℕ) where
   bound-in : (r : Mark) (j : ℕ) → bound r F j ≤ j
   bound-in Repaired j = omega arith
   bound-in Flagged j = omega arith
   bound-in Corrected j = omega arith
   bound-in Uncertain j = omega arith
 
-  events-up : (r : Mark) (j : ℕ) → Up 0 j (marksOf r (events s F xs j))
-  events-up r j = let i = once s F xs r j in (i .climb, omega (arith, i .ended, bound-in r j))
+  events-up : (r : Mark) (j : ℕ) → Up 0 j (marksOf r (events s F P xs j))
+  events-up r j = let i = once s F P xs r j in (i .climb, omega (arith, i .ended, bound-in r j))
 
-happened-up : (s : Setting) (xs : List ℕ) (r : Mark) → Up 0 (length xs) (marksOf r (happened s xs))
+happened-up : (s : Setting) (E : ℕ → Edition) (xs : List ℕ) (r : Mark) → Up 0 (length xs) (marksOf r (happened s E xs))
 unfolding happened
-happened-up s xs r =
-    up-later 0 (judged s (length xs)) (length xs) (marksOf r (happened s xs)) (omega arith) (events-up s (flagged s xs) xs r (judged s (length xs)))
+happened-up s E xs r =
+    up-later 0 (judged s (length xs)) (length xs) (marksOf r (happened s E xs)) (omega arith)
+    (events-up s (flagged s xs) (pausedIn s E xs) xs r (judged s (length xs)))
 
 pub impulse-up : (c : Config) (xs : List ℕ) (r : Mark) → Up 0 (length xs) (marksOf r (impulseEvents c xs))
 unfolding impulseEvents marksOf
 impulse-up c xs r = go (runs (c .impulseMode))
   where
-    go : (t : Bool) → Up 0 (length xs) (marksOf r (cond t (happened (settingOf c) xs) []))
-    go true = happened-up (settingOf c) xs r
+    go : (t : Bool) → Up 0 (length xs) (marksOf r (cond t (happened (settingOf c) (editionsOf c) xs) []))
+    go true = happened-up (settingOf c) (editionsOf c) xs r
     go false = up-none (length xs)
 
 -- ---- what is released is no more than what came

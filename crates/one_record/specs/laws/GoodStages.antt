@@ -16,11 +16,12 @@ use Rattle.rules.specs.Lists.{upTo, at, All}
 use Rattle.rules.specs.laws.ListLaws.{length-upTo}
 use Rattle.rules.specs.Guard.{magnitude, usable, Usable}
 use Rattle.rules.specs.laws.SortLaws.{all-as, all-append, all-getD}
-use Rattle.rules.specs.Impulse.{Setting, lookahead, blockLength, flagged, judged, start, value, handedOn}
+use Rattle.rules.specs.Pauses.{Edition}
+use Rattle.rules.specs.Impulse.{Setting, lookahead, blockLength, flagged, judged, start, value, pausedIn, handedOn}
 use Rattle.rules.specs.Dc.{Level, firstLevel, corner, levelAfter, clampedSteps}
 use Rattle.rules.specs.Iq.{Calibrated, none, with, Correcting, Withheld, ranged, coefficient, accepted, correctable, settled}
 use Rattle.rules.specs.Mode.{Mode, off, observe, apply, runs}
-use Rattle.rules.specs.Chain.{Config, settingOf, afterImpulse, clampedOf, settledBy}
+use Rattle.rules.specs.Chain.{Config, settingOf, editionsOf, afterImpulse, clampedOf, settledBy}
 use Rattle.rules.specs.Monitor.{Hop, windowStart, windowLength, openWindow}
 use Rattle.amplitude_limit.specs.Limit.{limited}
 use Rattle.impulse.specs.laws.PartBounds.{usable-within, within-more, mended-within}
@@ -39,10 +40,10 @@ use Rattle.chain_state.specs.Fits.{counter, settingsFit, heldBy, countsFit, blo
 -- ---- the samples that the DC stage gets
 
 -- mended or not
-value-given : (s : Setting) → s .run ≤ 32 → (F : ℕ → Bool) (xs : List ℕ) → ((i : ℕ) → i < length xs → WordWithin (2 ^ 57) (at xs i))
-    → (j k : ℕ) → j ≤ length xs → k < length xs → Given (value s F xs j k)
-value-given s short F xs each =
-    value-keeps (WordWithin (2 ^ 57)) Given s F xs (λ x w. within-more (2 ^ 57) givenMost x (lit≤ tt) w)
+value-given : (s : Setting) → s .run ≤ 32 → (F P : ℕ → Bool) (xs : List ℕ) → ((i : ℕ) → i < length xs → WordWithin (2 ^ 57) (at xs i))
+    → (j k : ℕ) → j ≤ length xs → k < length xs → Given (value s F P xs j k)
+value-given s short F P xs each =
+    value-keeps (WordWithin (2 ^ 57)) Given s F P xs (λ x w. within-more (2 ^ 57) givenMost x (lit≤ tt) w)
     (λ l r t n wl wr a b. mended-within l r t n a (omega arith) wl wr) each
 
 all-up-to : (P : ℕ → Type 0) (f : ℕ → ℕ) (n : ℕ) → ((k : ℕ) → k < n → P (f k)) → All P (upTo f n)
@@ -53,12 +54,12 @@ all-up-to P f (suc n) h = all-append P (upTo f n) (f n ∷ []) (all-up-to P f n 
 usable-given : (xs : List ℕ) → Usable xs → All Given xs
 usable-given xs u = all-as (λ w. T (usable w)) Given (λ w t. within-more (2 ^ 57) givenMost w (lit≤ tt) (usable-within w t)) xs u
 
-handed-given : (s : Setting) → s .run ≤ 32 → (xs : List ℕ) → Usable xs → All Given (handedOn s xs)
+handed-given : (s : Setting) → s .run ≤ 32 → (E : ℕ → Edition) (xs : List ℕ) → Usable xs → All Given (handedOn s E xs)
 unfolding handedOn
-handed-given s short xs u = go (s .apply)
+handed-given s short E xs u = go (s .apply)
   where
     f : ℕ → ℕ
-    f = value s (flagged s xs) xs (judged s (length xs))
+    f = value s (flagged s xs) (pausedIn s E xs) xs (judged s (length xs))
 
     each : (i : ℕ) → i < length xs → WordWithin (2 ^ 57) (at xs i)
     each i q = usable-within (at xs i) (all-getD (λ w. T (usable w)) xs i 0 u q)
@@ -66,15 +67,15 @@ handed-given s short xs u = go (s .apply)
     go : (b : Bool) → All Given (cond b (upTo f (length xs - lookahead s)) xs)
     go true =
         all-up-to Given f (length xs - lookahead s)
-        (λ k l. value-given s short (flagged s xs) xs each (judged s (length xs)) k (omega arith) (omega arith))
+        (λ k l. value-given s short (flagged s xs) (pausedIn s E xs) xs each (judged s (length xs)) k (omega arith) (omega arith))
     go false = usable-given xs u
 
-handed-most : (s : Setting) (xs : List ℕ) → length (handedOn s xs) ≤ length xs
+handed-most : (s : Setting) (E : ℕ → Edition) (xs : List ℕ) → length (handedOn s E xs) ≤ length xs
 unfolding handedOn
-handed-most s xs = go (s .apply)
+handed-most s E xs = go (s .apply)
   where
     f : ℕ → ℕ
-    f = value s (flagged s xs) xs (judged s (length xs))
+    f = value s (flagged s xs) (pausedIn s E xs) xs (judged s (length xs))
 
     go : (b : Bool) → length (cond b (upTo f (length xs - lookahead s)) xs) ≤ length xs
     go true = omega (arith, length-upTo f (length xs - lookahead s))
@@ -84,8 +85,8 @@ pub after-given : (c : Config) (xs : List ℕ) → Usable xs → All Given (afte
 unfolding afterImpulse
 after-given c xs u = go (runs (c .impulseMode))
   where
-    go : (b : Bool) → All Given (cond b (handedOn (settingOf c) xs) xs)
-    go true = handed-given (settingOf c) (lit≤ tt) xs u
+    go : (b : Bool) → All Given (cond b (handedOn (settingOf c) (editionsOf c) xs) xs)
+    go true = handed-given (settingOf c) (lit≤ tt) (editionsOf c) xs u
     go false = usable-given xs u
 
 -- the stage hands on no more than it gets
@@ -93,8 +94,8 @@ pub after-most : (c : Config) (xs : List ℕ) → length (afterImpulse c xs) ≤
 unfolding afterImpulse
 after-most c xs = go (runs (c .impulseMode))
   where
-    go : (b : Bool) → length (cond b (handedOn (settingOf c) xs) xs) ≤ length xs
-    go true = handed-most (settingOf c) xs
+    go : (b : Bool) → length (cond b (handedOn (settingOf c) (editionsOf c) xs) xs) ≤ length xs
+    go true = handed-most (settingOf c) (editionsOf c) xs
     go false = omega arith
 
 -- ---- the DC level

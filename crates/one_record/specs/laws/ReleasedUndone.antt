@@ -7,10 +7,10 @@ use native.Mathlib.Omega.{arith}
 use lib.ListN.{length}
 use lib.Ieee.{Float}
 use Rattle.rules.specs.Chain as rules
-use Rattle.rules.specs.Chain.{Config, settingOf, afterImpulse, afterDc, settledBy}
+use Rattle.rules.specs.Chain.{Config, settingOf, editionsOf, afterImpulse, afterDc, settledBy}
 use Rattle.rules.specs.Dc.{corner, firstLevel, blockedAll}
 use Rattle.rules.specs.Iq.{Settled, Off, Observing, Correcting, Withheld, correctedBy}
-use Rattle.rules.specs.Impulse.{Setting, lookahead, flagged, judged, value, handedOn}
+use Rattle.rules.specs.Impulse.{Setting, lookahead, flagged, judged, value, pausedIn, handedOn}
 use Rattle.rules.specs.Lists.{upTo}
 use Rattle.rules.specs.Mode.{apply, isApply, runs}
 use Rattle.stage_mode.specs.View.{modeOf}
@@ -43,7 +43,7 @@ handed-raw c xs e = go (runs (c .impulseMode))
     s = settingOf c
 
     mended : List ℕ
-    mended = upTo (value s (flagged s xs) xs (judged s (length xs))) (length xs - lookahead s)
+    mended = upTo (value s (flagged s xs) (pausedIn s (editionsOf c) xs) xs (judged s (length xs))) (length xs - lookahead s)
 
     go : (b : Bool) → cond b (cond (isApply (c .impulseMode)) mended xs) xs ≡ xs
     go true = ap (λ (b : Bool). cond b mended xs) e

@@ -1,23 +1,27 @@
 -- A header's bytes by the answers of their tests; a configuration stands in the code's types as in the rules'. Assumes nothing.
 use mathlib.Core.Path.{_≡_, refl, ap}
-use mathlib.Core.Bool.{Bool, true, cond, _&&_}
+use mathlib.Core.Bool.{Bool, true, false, cond, _&&_}
 use mathlib.Core.List.{List}
 use Prim.Native.Nat.{ℕ, zero, suc}
-use lib.Dec.{leb}
+use lib.Dec.{leb, eqb}
 use lib.ListN.{length}
 use Rattle.rules.specs.Iq as rules
 use Rattle.rules.specs.Iq.{with}
 use Rattle.rules.specs.Mode.{apply}
 use Rattle.stage_mode.specs.declared.StageMode.{StageMode}
 use Rattle.stage_mode.specs.declared.StageMode.the-variants as mode
+use Rattle.rules.specs.Pauses.{first, second}
+use Rattle.impulse_pause.specs.declared.PauseEdition.{PauseEdition}
+use Rattle.impulse_pause.specs.declared.PauseEdition.the-variants as edition
+use Rattle.impulse_pause.specs.View.{editionOf, numbered}
 use Rattle.iq.specs.declared.Calibration.{Calibration}
 use Rattle.iq.specs.declared.Calibration.the-variants.{Absent, Present}
 use Rattle.iq.specs.View.{calibratedOf}
 use Rattle.stage_mode.specs.View.{modeOf}
 use Rattle.chain_config.specs.declared.ConditioningConfig.{ConditioningConfig}
 use Rattle.chain_config.specs.Config.{configOf}
-use Rattle.replay_format.specs.Format.{headerSize, markFits, modesFit, headerFits, modeBy, calibrationBy, configIn}
-use Rattle.replay_format.specs.Header.{refused, config, headerSaid, modeFrom, calibrationFrom, configFrom}
+use Rattle.replay_format.specs.Format.{headerSize, markFits, versionIn, versionFits, editionBy, modesFit, headerFits, modeBy, calibrationBy, configIn}
+use Rattle.replay_format.specs.Header.{refused, config, headerSaid, modeFrom, editionFrom, calibrationFrom, configFrom}
 
 -- ---- tests
 
@@ -32,6 +36,14 @@ mode-apply zero h g = absurd (h refl)
 mode-apply (suc zero) h g = absurd (g refl)
 mode-apply (suc (suc b)) h g = refl
 
+-- the edition of a number, in the code's type and in the rules'
+pub edition-by : (version : ℕ) → editionOf (numbered version) ≡ editionBy version
+edition-by version = go (eqb version 2)
+  where
+    go : (b : Bool) → editionOf (cond b edition.Second edition.First) ≡ cond b second first
+    go true = refl
+    go false = refl
+
 pub present : (b : ℕ) (c : rules.Calibration) → (b ≡ 0 → ⊥) → with c ≡ calibrationBy b c
 present zero c h = absurd (h refl)
 present (suc b) c h = refl
@@ -45,12 +57,13 @@ module _ (bytes : List ℕ) where
   said-where fits e = ap (λ (t : Bool). cond t (config (configIn bytes)) (refused 14)) e
 
   -- by the answers of the tests
-  pub said-by : (size mark modes : Bool)
+  pub said-by : (size mark version modes : Bool)
       → leb headerSize (length bytes) ≡ size
       → markFits bytes ≡ mark
+      → versionFits (versionIn bytes) ≡ version
       → modesFit bytes ≡ modes
-      → headerSaid bytes ≡ cond (size && mark && modes) (config (configIn bytes)) (refused 14)
-  said-by size mark modes e f g = said-where (size && mark && modes) (λ i. e i && f i && g i)
+      → headerSaid bytes ≡ cond (size && mark && version && modes) (config (configIn bytes)) (refused 14)
+  said-by size mark version modes e f v g = said-where (size && mark && version && modes) (λ i. e i && f i && v i && g i)
 
 -- ---- a configuration
 
@@ -59,9 +72,14 @@ mode-again mode.Off = refl
 mode-again mode.Observe = refl
 mode-again mode.Apply = refl
 
+edition-again : (e : PauseEdition) → editionFrom (editionOf e) ≡ e
+edition-again edition.First = refl
+edition-again edition.Second = refl
+
 calibration-again : (c : Calibration) → calibrationFrom (calibratedOf c) ≡ c
 calibration-again Absent = refl
 calibration-again (Present c) = refl
 
 pub config-again : (g : ConditioningConfig) → configFrom (configOf g) ≡ g
-config-again g = rw (mode-again (g .impulse), mode-again (g .dc), mode-again (g .iq), calibration-again (g .calibration))
+config-again g =
+    rw (mode-again (g .impulse), mode-again (g .dc), mode-again (g .iq), edition-again (g .edition), calibration-again (g .calibration))

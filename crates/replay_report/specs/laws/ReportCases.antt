@@ -6,6 +6,7 @@ use Rattle.rules.specs.Constants.{one, zeroF}
 use Rattle.rules.specs.Mode.{Mode, off, observe, apply}
 use Rattle.rules.specs.Iq.{none, Off, Withheld, settled}
 use Rattle.rules.specs.Log.{Stage, impulse, Mark, Repaired, spanOf}
+use Rattle.rules.specs.Pauses.{first}
 use Rattle.rules.specs.Chain.{Config, noLevel, levelIs}
 use Rattle.rules.specs.laws.Computing.{floats}
 use Rattle.replay_text.specs.Text.{letters, decimalBy, hexadecimal, line, each}
@@ -44,6 +45,7 @@ headed dc iq =
       calibration = none;
       spans = 256;
       repairs = 1024;
+      edition = first;
     }
 
 pub record Texts : Type 0 where

@@ -15,7 +15,7 @@ use Rattle.rules.specs.Lists.{upTo, at}
 use Rattle.rules.specs.laws.ListLaws.{upTo-same, length-map}
 use Rattle.rules.specs.Guard.{usable, guarded, unusable}
 use Rattle.replay_format.specs.Format.{littleEndian, wordAt, sampleSize, wordsIn, headerSize, markFits, modesFit, headerFits}
-use Rattle.replay_format.specs.Format.{modeBy, calibrationBy, configIn, realAt}
+use Rattle.replay_format.specs.Format.{versionIn, versionFits, editionBy, modeBy, calibrationBy, configIn, realAt}
 use Rattle.replay_theorem.specs.Replay.{Block, joined, lastBytes, Read}
 
 -- ---- words
@@ -58,7 +58,7 @@ no-words = refl
 -- ---- the header
 
 pub too-short : (l : List ℕ) → length l < headerSize → headerFits l ≡ false
-too-short l h = ap (λ (b : Bool). b && markFits l && modesFit l) (lt-leb 49 (length l) h)
+too-short l h = ap (λ (b : Bool). b && markFits l && versionFits (versionIn l) && modesFit l) (lt-leb 49 (length l) h)
 
 module _ (head rest : List ℕ) (long : length head ≡ headerSize) where
   byte : (k : ℕ) → k < 49 → at (head ++ rest) k ≡ at head k
@@ -67,12 +67,15 @@ module _ (head rest : List ℕ) (long : length head ≡ headerSize) where
   real : (k : ℕ) → k < 5 → realAt (head ++ rest) k ≡ realAt head k
   real k h = ap (ofBits binary64) (word-front head rest (9 + 8 * k) (omega arith))
 
+  same-version : versionIn (head ++ rest) ≡ versionIn head
+  same-version = λ i. littleEndian (byte 3 (omega arith) i ∷ byte 4 (omega arith) i ∷ [])
+
   pub same-fits : headerFits (head ++ rest) ≡ headerFits head
   same-fits =
       λ i.
       size i
-      && (eqb (byte 0 (omega arith) i) 67 && eqb (byte 1 (omega arith) i) 78 && eqb (byte 2 (omega arith) i) 68 && eqb (byte 3 (omega arith) i) 1
-      && eqb (byte 4 (omega arith) i) 0)
+      && (eqb (byte 0 (omega arith) i) 67 && eqb (byte 1 (omega arith) i) 78 && eqb (byte 2 (omega arith) i) 68)
+      && versionFits (same-version i)
       && (leb (byte 5 (omega arith) i) 2 && leb (byte 6 (omega arith) i) 2 && leb (byte 7 (omega arith) i) 2 && leb (byte 8 (omega arith) i) 1)
     where
       size : leb headerSize (length (head ++ rest)) ≡ leb headerSize (length head)
@@ -93,6 +96,7 @@ module _ (head rest : List ℕ) (long : length head ≡ headerSize) where
             calibrationBy (byte 8 (omega arith) i) (record { gain = real 2 (omega arith) i; phase = real 3 (omega arith) i; centre = real 4 (omega arith) i });
         spans = 256;
         repairs = 1024;
+        edition = editionBy (same-version i);
       }
 
   pub behind-header : drop headerSize (head ++ rest) ≡ rest

@@ -14,6 +14,7 @@ use Rattle.rules.specs.Answers.{Said, refused}
 use Rattle.rules.specs.Guard.{guarded, unusable, Usable}
 use Rattle.rules.specs.Iq.{Calibrated, none, with}
 use Rattle.rules.specs.Mode.{Mode, off, observe, apply}
+use Rattle.rules.specs.Pauses.{Edition, first, second}
 use Rattle.rules.specs.Log.{Stage, impulse, dc, iq, Mark, Repaired, Flagged, Corrected, Uncertain, Marks, ringNumber, spansOf, storeWidth}
 use Rattle.rules.specs.Log as log
 use Rattle.rules.specs.Refusals.{firstOf, tooMany}
@@ -26,6 +27,7 @@ use Rattle.log.specs.laws.CheckLaws.{InRange, log-range}
 use Rattle.log.specs.View.{marksAt}
 use Rattle.iq.specs.View.{calibratedOf}
 use Rattle.stage_mode.specs.View.{modeOf}
+use Rattle.impulse_pause.specs.View.{editionOf}
 use Rattle.chain_config.specs.declared.ConditioningConfig.{ConditioningConfig}
 use Rattle.chain_config.specs.Config.{configOf, allOff, refusal}
 use Rattle.chain_state.specs.laws.FitsLaws.{state-groups}
@@ -46,7 +48,7 @@ use Rattle.replay_format.specs.Format.{headerFits, headerSize, sampleSize, conf
 use Rattle.replay_format.specs.laws.FormatLaws.{words-many, tail-by, bad-header, good-header}
 use Rattle.replay_format.specs.laws.HeaderLaws.{said-where}
 use Rattle.replay_format.specs.Header as header
-use Rattle.replay_format.specs.Header.{headerNumber, modeFrom, calibrationFrom, configFrom}
+use Rattle.replay_format.specs.Header.{headerNumber, modeFrom, editionFrom, calibrationFrom, configFrom}
 use Rattle.replay_feed.specs.Feeding.{heldIn, newMany, newWords, slice, takenBlock, fed}
 use Rattle.replay_feed.specs.laws.FeedingLaws as feeding
 use Rattle.replay_feed.specs.laws.FeedingLaws.{guarded-usable, slice-long, fed-said, fed-taken}
@@ -73,8 +75,13 @@ config-again c =
       calibration = calibration (c .calibration) i;
       spans = c .spans;
       repairs = c .repairs;
+      edition = edition (c .edition) i;
     }
   where
+    edition : (e : Edition) → editionOf (editionFrom e) ≡ e
+    edition first = refl
+    edition second = refl
+
     mode : (m : Mode) → modeOf (modeFrom m) ≡ m
     mode off = refl
     mode observe = refl

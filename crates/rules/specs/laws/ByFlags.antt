@@ -2,7 +2,7 @@
 use mathlib.Core.Path.{_≡_, refl, sym, ap, _∙_}
 use mathlib.Core.Bool.{Bool, true, false, cond, _&&_}
 use mathlib.Core.List.{List, [], _∷_, _++_, map}
-use Prim.Native.Nat.{ℕ, zero, suc, _+_, _-_, _/_, _≤_, _<_}
+use Prim.Native.Nat.{ℕ, zero, suc, _+_, _*_, _-_, _/_, _≤_, _<_}
 use native.Mathlib.Nat.{div-mul-le-self, add-comm}
 use native.Mathlib.Numerals.{add-one}
 use native.Mathlib.Omega.{arith}
@@ -11,7 +11,9 @@ use lib.Ieee.Fits.{and-l, and-r}
 use lib.ListN.{length, getD, take, drop}
 use lib.Seq.{drop-drop, getD-drop}
 use Rattle.rules.specs.Lists.{at, upTo}
+use Rattle.rules.specs.Pauses.{Edition, paused}
 use Rattle.rules.specs.Impulse.{Setting, lookahead, powerOf, reference, standsOut, flagged, judged, before, eventsAt, events, happened, value, handedOn}
+use Rattle.rules.specs.Impulse.{pausedIn}
 use Rattle.rules.specs.laws.Runs.{before-le}
 use Rattle.rules.specs.laws.Prefix.{before-same, paused-same, touches-same, value-same}
 
@@ -34,7 +36,7 @@ abbrev pub look : List Bool → ℕ → Bool
 look fl j = getD fl j false
 
 -- G gives the flags
-module _ (s : Setting) (xs : List ℕ) (G : ℕ → Bool) (known : flagsOf s xs ≡ from G (judged s (length xs)) 0) where
+module _ (s : Setting) (E : ℕ → Edition) (xs : List ℕ) (G : ℕ → Bool) (known : flagsOf s xs ≡ from G (judged s (length xs)) 0) where
   abbrev J : ℕ
   J = judged s (length xs)
 
@@ -44,7 +46,16 @@ module _ (s : Setting) (xs : List ℕ) (G : ℕ → Bool) (known : flagsOf s xs 
       let e : 0 + i ≡ i = omega arith in
       sym (from-at (flagged s xs) J 0 i false h ∙ ap (flagged s xs) e) ∙ ap (λ (l : List Bool). getD l i false) known ∙ from-at G J 0 i false h ∙ ap G e
 
-  events-same : (j : ℕ) → j ≤ J → events s (flagged s xs) xs j ≡ events s G xs j
+  abbrev P : ℕ → Bool
+  P = pausedIn s E xs
+
+  abbrev Q : ℕ → Bool
+  Q = paused E (s .block) G
+
+  paused-agree : (b : ℕ) → b * s .block ≤ J → P b ≡ Q b
+  paused-agree = paused-same s (flagged s xs) G J agree E
+
+  events-same : (j : ℕ) → j ≤ J → events s (flagged s xs) P xs j ≡ events s G Q xs j
   unfolding events eventsAt
   events-same zero h = refl
   events-same (suc j) h =
@@ -55,20 +66,20 @@ module _ (s : Setting) (xs : List ℕ) (G : ℕ → Bool) (known : flagsOf s xs 
         events-same j (omega arith),
         agree j h,
         before-same s F G J agree j (omega arith),
-        touches-same s F G J agree (j - before G j) (before G j) (omega arith),
-        paused-same s F G J agree (j / s .block) (omega arith),
+        touches-same s P Q J paused-agree (j - before G j) (before G j) (omega arith),
+        paused-agree (j / s .block) (omega arith),
       )
 
-  pub happened-by : happened s xs ≡ events s G xs J
+  pub happened-by : happened s E xs ≡ events s G Q xs J
   unfolding happened
   happened-by = events-same J (omega arith)
 
-  values : (n : ℕ) → upTo (value s (flagged s xs) xs J) n ≡ upTo (value s G xs J) n
+  values : (n : ℕ) → upTo (value s (flagged s xs) P xs J) n ≡ upTo (value s G Q xs J) n
   unfolding upTo
   values zero = refl
-  values (suc n) = rw (values n, value-same s (flagged s xs) G xs xs J agree (λ i h. refl) J n (omega arith) refl)
+  values (suc n) = rw (values n, value-same s (flagged s xs) G P Q xs xs J agree paused-agree (λ i h. refl) J n (omega arith) refl)
 
-  pub handed-by : handedOn s xs ≡ cond (s .apply) (upTo (value s G xs J) (length xs - lookahead s)) xs
+  pub handed-by : handedOn s E xs ≡ cond (s .apply) (upTo (value s G Q xs J) (length xs - lookahead s)) xs
   unfolding handedOn
   handed-by = ap (λ (l : List ℕ). cond (s .apply) l xs) (values (length xs - lookahead s))
 

@@ -55,7 +55,7 @@ besideFlags =
     false ∷ false ∷ false ∷ false ∷ false ∷ false ∷ false ∷ false ∷ false ∷ false ∷ false ∷ false ∷ true ∷ false ∷ true ∷ false ∷ false ∷ false ∷ false ∷
     false ∷ false ∷ false ∷ false ∷ false ∷ []
 
-pub beside-handed : upTo (value (standard 48000 true) (look besideFlags) besideInput 24) 19
+pub beside-handed : upTo (value (standard 48000 true) (look besideFlags) (λ b. false) besideInput 24) 19
     ≡ 0x3f0000003f800000 ∷ 0x3f0000003f820000 ∷ 0x3f0000003f840000 ∷ 0x3f0000003f860000 ∷ 0x3f0000003f880000 ∷ 0x3f0000003f8a0000 ∷ 0x3f0000003f8c0000 ∷
     0x3f0000003f8e0000 ∷ 0x3f0000003f900000 ∷ 0x3f0000003f920000 ∷ 0x3f0000003f940000 ∷ 0x3f0000003f960000 ∷ 0x3f0000003f980000 ∷ 0x3f0000003f9a0000 ∷
     0x3f0000003f9c0000 ∷ 0x3f0000003f9e0000 ∷ 0x3f0000003fa00000 ∷ 0x3f0000003fa20000 ∷ 0x3f0000003fa40000 ∷ []

@@ -1,4 +1,5 @@
--- Laws of the impulse rules, for any flags F: the run before j and its left neighbour, blocks and their counts, and the value of a sample while runs end.
+-- Laws of the impulse rules, for any flags F: the run before j and its left neighbour, blocks and their counts; and for any paused blocks P, the value of a
+-- sample while runs end.
 -- Assumes nothing.
 use mathlib.Core.Path.{_≡_, refl, ap, sym, _∙_}
 use mathlib.Core.Logic.{_⊎_, inl, inr, _≢_}
@@ -11,7 +12,8 @@ use native.Mathlib.Omega.{arith}
 use lib.Dec.{ltb, leb}
 use borrow.Author.Tests.{ltb-true, leb-true}
 use Rattle.rules.specs.Lists.{at, count, indicator}
-use Rattle.rules.specs.Impulse.{Setting, before, start, blockOf, pauses, paused, touches, mends, mendedAt, covers, value, newestBlock, flagsIn}
+use Rattle.rules.specs.Pauses.{Edition, pauses, paused}
+use Rattle.rules.specs.Impulse.{Setting, before, start, blockOf, touches, mends, mendedAt, covers, value, newestBlock, flagsIn}
 
 -- ---- the run right before j
 
@@ -104,10 +106,11 @@ module _ (s : Setting) (F : ℕ → Bool) where
         go (inl e) = absurd (other e)
         go (inr p) = p
 
-    pub enter-paused : (j : ℕ) → blockOf s j ≢ newestBlock s j
-        → pauses (s .block) (paused (s .block) F (newestBlock s j)) (flagsIn s F (newestBlock s j) j) ≡ paused (s .block) F (blockOf s j)
+    pub enter-paused : (E : ℕ → Edition) (j : ℕ) → blockOf s j ≢ newestBlock s j
+        → pauses (E (blockOf s j)) (s .block) (paused E (s .block) F (newestBlock s j)) (flagsIn s F (newestBlock s j) j)
+        ≡ paused E (s .block) F (blockOf s j)
     unfolding paused
-    enter-paused j other =
+    enter-paused E j other =
         let p = next-is j other in
         let u = suc-mul (newestBlock s j) (s .block) in
         let full : j - newestBlock s j * s .block ≡ s .block = omega (arith, p .1) in
@@ -131,10 +134,10 @@ module _ (s : Setting) (F : ℕ → Bool) where
       rw (more, here)
 
   -- a run touches a paused block once one of its samples lies in one
-  pub touches-more : (j : ℕ) → F j ≡ true
-      → touches s F (start F (suc j)) (before F (suc j)) ≡ touches s F (start F j) (before F j) || paused (s .block) F (blockOf s j)
+  pub touches-more : (P : ℕ → Bool) (j : ℕ) → F j ≡ true
+      → touches s P (start F (suc j)) (before F (suc j)) ≡ touches s P (start F j) (before F j) || P (blockOf s j)
   unfolding touches
-  touches-more j e =
+  touches-more P j e =
       let b = before-on F j e in
       let a = start-on F j e in
       let le = before-le F j in
@@ -143,15 +146,15 @@ module _ (s : Setting) (F : ℕ → Bool) where
 
 -- ---- values
 
-module _ (s : Setting) (F : ℕ → Bool) (xs : List ℕ) where
+module _ (s : Setting) (F P : ℕ → Bool) (xs : List ℕ) where
   abbrev hit : ℕ → ℕ → Bool
-  hit j k = mends s F j && covers F j k
+  hit j k = mends s F P j && covers F j k
 
-  pub value-hit : (j k : ℕ) → hit j k ≡ true → value s F xs (suc j) k ≡ mendedAt F xs j k
+  pub value-hit : (j k : ℕ) → hit j k ≡ true → value s F P xs (suc j) k ≡ mendedAt F xs j k
   unfolding value
   value-hit j k e = rw e
 
-  pub value-miss : (j k : ℕ) → hit j k ≡ false → value s F xs (suc j) k ≡ value s F xs j k
+  pub value-miss : (j k : ℕ) → hit j k ≡ false → value s F P xs (suc j) k ≡ value s F P xs j k
   unfolding value
   value-miss j k e = rw e
 
@@ -161,18 +164,18 @@ module _ (s : Setting) (F : ℕ → Bool) (xs : List ℕ) where
     pub some-run : 0 < before F j
     pub applies : s .apply ≡ true
     pub short : before F j ≤ s .run
-    pub free : touches s F (start F j) (before F j) ≡ false
+    pub free : touches s P (start F j) (before F j) ≡ false
     pub from : start F j ≤ k
     pub upto : k < j
 
   pub hit-says : (j k : ℕ) → hit j k ≡ true → Hit j k
   unfolding mends
   hit-says j k =
-      go (F j) (ltb 0 (before F j)) (s .apply) (leb (before F j) (s .run)) (touches s F (start F j) (before F j)) (leb (start F j) k)
+      go (F j) (ltb 0 (before F j)) (s .apply) (leb (before F j) (s .run)) (touches s P (start F j) (before F j)) (leb (start F j) k)
       (ltb k j) refl refl refl refl refl refl refl
     where
       go : (a b c d e f g : Bool) → F j ≡ a → ltb 0 (before F j) ≡ b → s .apply ≡ c → leb (before F j) (s .run) ≡ d
-          → touches s F (start F j) (before F j) ≡ e → leb (start F j) k ≡ f → ltb k j ≡ g
+          → touches s P (start F j) (before F j) ≡ e → leb (start F j) k ≡ f → ltb k j ≡ g
           → not a && b && (c && (d && not e)) && (f && g) ≡ true → Hit j k
       go false true true true false true true p1 p2 p3 p4 p5 p6 p7 q =
           record {
@@ -193,27 +196,27 @@ module _ (s : Setting) (F : ℕ → Bool) (xs : List ℕ) where
       go false true true true false true false p1 p2 p3 p4 p5 p6 p7 q = absurd (false≢true q)
 
   -- where no hit is possible the value stays
-  pub value-missed : (j k : ℕ) → (Hit j k → ⊥) → value s F xs (suc j) k ≡ value s F xs j k
+  pub value-missed : (j k : ℕ) → (Hit j k → ⊥) → value s F P xs (suc j) k ≡ value s F P xs j k
   value-missed j k no-hit = go (hit j k) refl
     where
-      go : (b : Bool) → hit j k ≡ b → value s F xs (suc j) k ≡ value s F xs j k
+      go : (b : Bool) → hit j k ≡ b → value s F P xs (suc j) k ≡ value s F P xs j k
       go true e = absurd (no-hit (hit-says j k e))
       go false e = value-miss j k e
 
   -- in the open run and after it everything is as it was received
-  pub value-raw : (j k : ℕ) → j ≤ k + before F j → value s F xs j k ≡ at xs k
+  pub value-raw : (j k : ℕ) → j ≤ k + before F j → value s F P xs j k ≡ at xs k
   unfolding value
   value-raw zero k h = refl
   value-raw (suc j) k h = go (F j) refl (value-raw j k)
     where
-      go : (b : Bool) → F j ≡ b → (j ≤ k + before F j → value s F xs j k ≡ at xs k) → value s F xs (suc j) k ≡ at xs k
+      go : (b : Bool) → F j ≡ b → (j ≤ k + before F j → value s F P xs j k ≡ at xs k) → value s F P xs (suc j) k ≡ at xs k
       go true e r = let z = before-on F j e in value-missed j k (λ t. false≢true (sym (t .off) ∙ e)) ∙ r (omega arith)
       go false e r = let z = before-off F j e in value-missed j k (λ t. omega (arith, t .upto)) ∙ r (omega arith)
 
   -- a value is fixed once its run has ended for certain
-  pub value-fixed : (d j k : ℕ) → k + s .run < j → value s F xs (j + d) k ≡ value s F xs j k
-  value-fixed zero j k h = ap (λ (n : ℕ). value s F xs n k) (let e : j + 0 ≡ j = omega arith in e)
+  pub value-fixed : (d j k : ℕ) → k + s .run < j → value s F P xs (j + d) k ≡ value s F P xs j k
+  value-fixed zero j k h = ap (λ (n : ℕ). value s F P xs n k) (let e : j + 0 ≡ j = omega arith in e)
   value-fixed (suc d) j k h =
-      ap (λ (n : ℕ). value s F xs n k) (let e : j + suc d ≡ suc (j + d) = omega arith in e)
+      ap (λ (n : ℕ). value s F P xs n k) (let e : j + suc d ≡ suc (j + d) = omega arith in e)
       ∙ value-missed (j + d) k (λ t. omega (arith, t .from, t .upto, t .short))
       ∙ value-fixed d j k h

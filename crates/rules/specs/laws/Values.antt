@@ -61,50 +61,50 @@ module _ (F : ℕ → Bool) where
 
 -- ---- values
 
-module _ (s : Setting) (F : ℕ → Bool) (xs : List ℕ) where
+module _ (s : Setting) (F P : ℕ → Bool) (xs : List ℕ) where
   -- no other run covers k
-  alone : (j d k : ℕ) → F j ≡ false → k < j → value s F xs (suc j + d) k ≡ value s F xs (suc j) k
-  alone j zero k off h = ap (λ (n : ℕ). value s F xs n k) (let e : suc j + 0 ≡ suc j = omega arith in e)
+  alone : (j d k : ℕ) → F j ≡ false → k < j → value s F P xs (suc j + d) k ≡ value s F P xs (suc j) k
+  alone j zero k off h = ap (λ (n : ℕ). value s F P xs n k) (let e : suc j + 0 ≡ suc j = omega arith in e)
   alone j (suc d) k off h =
-      ap (λ (n : ℕ). value s F xs n k) (let e : suc j + suc d ≡ suc (suc j + d) = omega arith in e)
-      ∙ value-missed s F xs (suc j + d) k (λ t. false≢true (sym off ∙ run-flagged F (suc j + d) j (omega (arith, t .from)) (omega arith)))
+      ap (λ (n : ℕ). value s F P xs n k) (let e : suc j + suc d ≡ suc (suc j + d) = omega arith in e)
+      ∙ value-missed s F P xs (suc j + d) k (λ t. false≢true (sym off ∙ run-flagged F (suc j + d) j (omega (arith, t .from)) (omega arith)))
       ∙ alone j d k off h
 
   -- in a mended run
-  pub value-mended : (J j k : ℕ) → j < J → mends s F j ≡ true → start F j ≤ k → k < j → value s F xs J k ≡ mendedAt F xs j k
+  pub value-mended : (J j k : ℕ) → j < J → mends s F P j ≡ true → start F j ≤ k → k < j → value s F P xs J k ≡ mendedAt F xs j k
   value-mended J j k h m a b =
-      let hit : mends s F j && covers F j k ≡ true = rw (m, le-leb (start F j) k a, lt-ltb k j b) in
-      let t = hit-says s F xs j k hit in
-      ap (λ (n : ℕ). value s F xs n k) (let e : J ≡ suc j + (J - suc j) = omega arith in e)
+      let hit : mends s F P j && covers F j k ≡ true = rw (m, le-leb (start F j) k a, lt-ltb k j b) in
+      let t = hit-says s F P xs j k hit in
+      ap (λ (n : ℕ). value s F P xs n k) (let e : J ≡ suc j + (J - suc j) = omega arith in e)
       ∙ alone j (J - suc j) k (t .off) b
-      ∙ value-hit s F xs j k hit
+      ∙ value-hit s F P xs j k hit
 
   -- in none
-  pub value-other : (J k : ℕ) → ((j : ℕ) → j < J → mends s F j ≡ true → start F j ≤ k → k < j → ⊥) → value s F xs J k ≡ at xs k
+  pub value-other : (J k : ℕ) → ((j : ℕ) → j < J → mends s F P j ≡ true → start F j ≤ k → k < j → ⊥) → value s F P xs J k ≡ at xs k
   unfolding value
   value-other zero k none = refl
-  value-other (suc j) k none = go (mends s F j && covers F j k) refl (value-other j k (λ i h. none i (omega arith)))
+  value-other (suc j) k none = go (mends s F P j && covers F j k) refl (value-other j k (λ i h. none i (omega arith)))
     where
       split : (m c : Bool) → m && c ≡ true → m ≡ true
       split true c e = refl
       split false c e = e
 
-      go : (b : Bool) → mends s F j && covers F j k ≡ b → value s F xs j k ≡ at xs k → value s F xs (suc j) k ≡ at xs k
-      go true e r = let t = hit-says s F xs j k e in absurd (none j (omega arith) (split (mends s F j) (covers F j k) e) (t .from) (t .upto))
-      go false e r = value-miss s F xs j k e ∙ r
+      go : (b : Bool) → mends s F P j && covers F j k ≡ b → value s F P xs j k ≡ at xs k → value s F P xs (suc j) k ≡ at xs k
+      go true e r = let t = hit-says s F P xs j k e in absurd (none j (omega arith) (split (mends s F P j) (covers F j k) e) (t .from) (t .upto))
+      go false e r = value-miss s F P xs j k e ∙ r
 
   -- the reader's form
-  pub value-is : (J k : ℕ) → value s F xs J k ≡ mendedOrRaw s F xs J k
+  pub value-is : (J k : ℕ) → value s F P xs J k ≡ mendedOrRaw s F P xs J k
   unfolding mendedOrRaw
-  value-is J k = go (F k && (ltb j J && mends s F j)) refl
+  value-is J k = go (F k && (ltb j J && mends s F P j)) refl
     where
       j : ℕ
       j = endFrom F (J - k) k
 
-      go : (t : Bool) → F k && (ltb j J && mends s F j) ≡ t → value s F xs J k ≡ cond t (mendedAt F xs j k) (at xs k)
+      go : (t : Bool) → F k && (ltb j J && mends s F P j) ≡ t → value s F P xs J k ≡ cond t (mendedAt F xs j k) (at xs k)
       go true e =
-          let p = both (F k) (ltb j J && mends s F j) e in
-          let q = both (ltb j J) (mends s F j) (p .1) in
+          let p = both (F k) (ltb j J && mends s F P j) e in
+          let q = both (ltb j J) (mends s F P j) (p .1) in
           let ended = ltb-true j J (q .0) in
           let on : (i : ℕ) → k ≤ i → i < j → F i ≡ true = λ i. end-flagged F (J - k) k i in
           let some = end-some F (J - k) k (p .0) (omega (arith, end-after F (J - k) k)) in
@@ -112,7 +112,7 @@ module _ (s : Setting) (F : ℕ → Bool) (xs : List ℕ) where
       go false e =
           value-other J k
           (λ i h m a b.
-          let t = hit-says s F xs i k (rw (m, le-leb (start F i) k a, lt-ltb k i b)) in
+          let t = hit-says s F P xs i k (rw (m, le-leb (start F i) k a, lt-ltb k i b)) in
           let same : j ≡ i = end-is F (J - k) k i (omega arith) (omega arith) (λ z c. run-flagged F i z (omega arith)) (t .off) in
-          let all : F k && (ltb j J && mends s F j) ≡ true = rw (same, m, lt-ltb i J h, run-flagged F i k a b) in
+          let all : F k && (ltb j J && mends s F P j) ≡ true = rw (same, m, lt-ltb i J h, run-flagged F i k a b) in
           false≢true (sym e ∙ all))

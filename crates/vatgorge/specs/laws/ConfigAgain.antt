@@ -3,7 +3,7 @@ use mathlib.Core.Path.{_≡_, refl}
 use Rattle.iq.specs.declared.Calibration.{Calibration}
 use Rattle.iq.specs.declared.Calibration.the-variants.{Absent, Present}
 use Rattle.chain_config.specs.declared.ConditioningConfig.{ConditioningConfig}
-use Rattle.chain_words.specs.laws.Again.{mode-again, double-again}
+use Rattle.chain_words.specs.laws.Again.{mode-again, edition-again, double-again}
 use Rattle.vatgorge.specs.Config.{calibrationAt, calibrationParts, configIn, configWords, CalibrationTyped, ConfigTyped}
 
 calibration-again : (k : Calibration) → CalibrationTyped k → (let p = calibrationParts k in calibrationAt (p .0) (p .1) (p .2) (p .3)) ≡ k
@@ -26,4 +26,5 @@ config-again g t = λ i.
       calibration = calibration-again (g .calibration) (t .calibration) i;
       spans = g .spans;
       repairs = g .repairs;
+      edition = edition-again (g .edition) i;
     }

@@ -21,7 +21,7 @@ with-both-requires c κs = search needs
 
 returns-2 : tie.Need-returns-2
 unfolding entered
-returns-2 c = simp (ne-eqb _ _ (c .before .before .before .if1 .left), c .with-both .ensures, c .before .before .pauses .ensures)
+returns-2 c = simp (ne-eqb _ _ (c .before .before .before .before .if1 .left), c .with-both .ensures, c .before .before .pauses .ensures)
 
 pub entered-spec : {M : Type 1} → statement M
 entered-spec = tie.close (tie.spec div-number returns pauses-requires with-both-requires returns-2)

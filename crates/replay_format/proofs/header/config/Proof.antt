@@ -31,16 +31,25 @@ real-at-requires-2 c κs = search needs
 calibration-requires : tie.Need-calibration-requires
 calibration-requires c κs = search needs
 
+version-requires : tie.Need-version-requires
+version-requires c κs = search needs
+
+edition-by-requires : tie.Need-edition-by-requires
+edition-by-requires c κs = search needs
+
 returns : tie.Need-returns
 unfolding configIn
 returns c =
+    let made = c .before .before in
     rw (
-      c .before .before .before .before .before .before .before .mode-by .ensures,
-      c .before .before .before .before .before .mode-by2 .ensures,
-      c .before .before .before .mode-by3 .ensures,
-      c .before .before .real-at .ensures,
-      c .before .real-at2 .ensures,
-      c .calibration .ensures,
+      made .before .before .before .before .before .before .before .mode-by .ensures,
+      made .before .before .before .before .before .mode-by2 .ensures,
+      made .before .before .before .mode-by3 .ensures,
+      made .before .before .real-at .ensures,
+      made .before .real-at2 .ensures,
+      made .calibration .ensures,
+      c .edition-by .ensures,
+      c .before .version .ensures,
     )
 
 pub config-spec : {M : Type 1} → statement M
@@ -56,4 +65,6 @@ config-spec =
     real-at-requires
     real-at-requires-2
     calibration-requires
+    version-requires
+    edition-by-requires
     returns)

@@ -18,35 +18,11 @@ shared-slice-read-if2 c = search needs
 returns-2 : tie.Need-returns-2
 returns-2 c = simp (eq-eqb _ _ (c .before .before .if1 .left), ne-eqb _ _ (c .if2 .taken))
 
-shared-slice-read-if3 : tie.Need-shared-slice-read-if3
-shared-slice-read-if3 c = search needs
-
-returns-3 : tie.Need-returns-3
-returns-3 c = simp (eq-eqb _ _ (c .before .before .before .before .if1 .left), eq-eqb _ _ (c .before .before .if2 .left), ne-eqb _ _ (c .if3 .taken))
-
-shared-slice-read-if4 : tie.Need-shared-slice-read-if4
-shared-slice-read-if4 c = search needs
-
-returns-4 : tie.Need-returns-4
-returns-4 c =
-    simp (
-      eq-eqb _ _ (c .before .before .before .before .before .before .if1 .left),
-      eq-eqb _ _ (c .before .before .before .before .if2 .left),
-      eq-eqb _ _ (c .before .before .if3 .left),
-      ne-eqb _ _ (c .if4 .taken),
-    )
-
 shared-slice-read-result : tie.Need-shared-slice-read-result
 shared-slice-read-result c = search needs
 
-returns-5 : tie.Need-returns-5
-returns-5 c =
-    last-test _ _
-    (and-so _ _
-    (and-so _ _
-    (and-so _ _ (eq-eqb _ _ (c .before .before .before .before .before .before .before .if1 .left))
-    (eq-eqb _ _ (c .before .before .before .before .before .if2 .left))) (eq-eqb _ _
-    (c .before .before .before .if3 .left))) (eq-eqb _ _ (c .before .if4 .left)))
+returns-3 : tie.Need-returns-3
+returns-3 c = last-test _ _ (and-so _ _ (eq-eqb _ _ (c .before .before .before .if1 .left)) (eq-eqb _ _ (c .before .if2 .left)))
 
 pub mark-fits-spec : {M : Type 1} → statement M
 mark-fits-spec =
@@ -56,9 +32,5 @@ mark-fits-spec =
     returns
     shared-slice-read-if2
     returns-2
-    shared-slice-read-if3
-    returns-3
-    shared-slice-read-if4
-    returns-4
     shared-slice-read-result
-    returns-5)
+    returns-3)

@@ -22,25 +22,29 @@ to-bits64-requires c κs = search needs
 to-bits64-requires-2 : tie.Need-to-bits64-requires-2
 to-bits64-requires-2 c κs = search needs
 
-array-read-t16 : tie.Need-array-read-t16
-array-read-t16 c = search needs
+array-read-t17 : tie.Need-array-read-t17
+array-read-t17 c = search needs
 
-array-read-t19 : tie.Need-array-read-t19
-array-read-t19 c = search needs
+array-read-t20 : tie.Need-array-read-t20
+array-read-t20 c = search needs
 
-array-read-t22 : tie.Need-array-read-t22
-array-read-t22 c = search needs
+array-read-t23 : tie.Need-array-read-t23
+array-read-t23 c = search needs
 
-array-read-t25 : tie.Need-array-read-t25
-array-read-t25 c = search needs
+array-read-t26 : tie.Need-array-read-t26
+array-read-t26 c = search needs
+
+number-requires : tie.Need-number-requires
+number-requires c κs = search needs
 
 returns : tie.Need-returns
 unfolding configWords
 returns c =
-    let modes = c .before .before in
+    let modes = c .before .before .before in
     rw (
-      c .to-bits642 .ensures,
-      c .before .to-bits64 .ensures,
+      c .number .ensures,
+      c .before .to-bits642 .ensures,
+      c .before .before .to-bits64 .ensures,
       modes .mode-word3 .ensures,
       modes .before .mode-word2 .ensures,
       modes .before .before .mode-word .ensures,
@@ -57,8 +61,9 @@ config-words-spec =
     mode-word-requires-3
     to-bits64-requires
     to-bits64-requires-2
-    array-read-t16
-    array-read-t19
-    array-read-t22
-    array-read-t25
+    array-read-t17
+    array-read-t20
+    array-read-t23
+    array-read-t26
+    number-requires
     returns)

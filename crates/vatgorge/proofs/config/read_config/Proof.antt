@@ -58,13 +58,21 @@ element-copy-out-t41 c = search needs
 element-copy-out-t45 : tie.Need-element-copy-out-t45
 element-copy-out-t45 c = search needs
 
+element-copy-out-numbered : tie.Need-element-copy-out-numbered
+element-copy-out-numbered c = search needs
+
+numbered-requires : tie.Need-numbered-requires
+numbered-requires c κs = search needs
+
 returns : tie.Need-returns
 unfolding configIn
 returns c =
-    let floats = c .before .before .before .before .before .before .before .before in
+    let calibrated = c .before .before .before .before in
+    let floats = calibrated .before .before .before .before .before .before in
     let modes = floats .before .before .before .before in
     rw (
-      c .before .before .calibration-at .ensures,
+      c .numbered .ensures,
+      calibrated .calibration-at .ensures,
       floats .from-bits642 .ensures,
       floats .before .before .from-bits64 .ensures,
       modes .mode-at3 .ensures,
@@ -94,4 +102,6 @@ read-config-spec =
     calibration-at-requires
     element-copy-out-t41
     element-copy-out-t45
+    element-copy-out-numbered
+    numbered-requires
     returns)
