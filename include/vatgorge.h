@@ -45,14 +45,13 @@ enum {
     VG_BAD_PHASE = 12,       /* its phase is not from -45 to 45 degrees */
     VG_BAD_CENTRE = 13,      /* its centre is not finite and above 0 */
     VG_BAD_HEADER = 14,      /* under 49 bytes, or a mark, version, mode or calibration byte that is none */
-    VG_CLOSED = 16,          /* the recording is closed, and takes neither a call nor a second close */
     VG_BROKEN_TAIL = 17,     /* a recording ends in the middle of a sample */
     VG_NOTHING = 100         /* nothing to do; at its function is said when */
 };
 
 /* ---- sizes, in words of 8 bytes */
 
-#define VG_STATE_WORDS 173
+#define VG_STATE_WORDS 172
 #define VG_CONFIG_WORDS 13
 #define VG_CONDITION_WORDS 2
 #define VG_HOP_WORDS 9
@@ -132,23 +131,15 @@ struct vg_condition_out {
     uint64_t ready; /* samples that are released, from the slice's first place on */
     uint64_t place; /* of the first sample that is not usable */
 };
-VG_SAME(sizeof(struct vg_condition_out), 8 * VG_CONDITION_WORDS, "the words of a call or a close");
+VG_SAME(sizeof(struct vg_condition_out), 8 * VG_CONDITION_WORDS, "the words of a call");
 
 /* A call. The slice has places for the held samples, and behind them the new ones. What stands in the places of the held
  * ones is never read. A sample is usable if no part is above 1.0e17 in size (vg_guard replaces those that are not).
- * Answers 0, 5, 16, 4, 6, 8, 7.
+ * Answers 0, 5, 4, 6, 8, 7.
  * Accepted: state, spans, repairs, out->ready, and the first out->ready places of the slice are written. These are the
  * released samples. The others, length - out->ready of them, are held now: the next slice begins with their places. */
 uint64_t vg_condition(struct vg_state *state, uint64_t *samples, size_t length, uint64_t *spans, size_t span_words,
                       uint64_t *repairs, size_t repair_words, struct vg_condition_out *out);
-
-/* Closes a recording: judges the samples that wait for later ones, as if none came after the last, and releases all that is held. The
- * slice has places for the held samples, and nothing in it is read. A call or a close after it answers 16.
- * Answers 0, 5, 16, 4, 6.
- * Accepted: state, spans, repairs, out->ready, and the first out->ready places of the slice are written. These are the
- * released samples. None is held now. */
-uint64_t vg_close(struct vg_state *state, uint64_t *samples, size_t length, uint64_t *spans, size_t span_words,
-                  uint64_t *repairs, size_t repair_words, struct vg_condition_out *out);
 
 struct vg_hop_out {
     uint64_t reported; /* 1 if there is a report, and 0 else */

@@ -6,8 +6,8 @@ mod sides;
 
 use oracle::num_complex::Complex32;
 use sides::{
-    original, original_hops, original_other, proved, proved_closes, proved_hops, proved_other,
-    word, Other, Ran, Setting, Stages, Stores,
+    original, original_hops, original_other, proved, proved_hops, proved_other, word, Other, Ran,
+    Setting, Stages, Stores,
 };
 use std::hint::black_box;
 
@@ -328,36 +328,6 @@ fn stages() {
         let words = hop_words(&x);
         let t = least(ROUNDS, || hop_round(fs, many, &x, &words));
         println!("{name:24}{:>6} {}", "", t.each(many));
-    }
-    closes(&mut clicks);
-}
-
-/// A close, which the Rust does not have, behind 100,000 samples: of DC alone, of impulse alone, and of all stages.
-fn closes(input: &mut Input) {
-    const CLOSES: usize = 1_000;
-    println!("\n{:24}{:>6} rattle-ns    nanoseconds a close", "", "held");
-    for (name, impulse, all) in [
-        ("close, dc", false, false),
-        ("close, impulse", true, false),
-        ("close, all", true, true),
-    ] {
-        let stages = Stages {
-            impulse,
-            dc: all || !impulse,
-            iq: all,
-        };
-        let s = setting(stages);
-        let mut stores = Stores::new(s.spans, s.repairs, CHANNELS);
-        input.refill(100_000);
-        let (_, state) = proved(s, 1_024, &mut input.words_room[..100_000], &mut stores);
-        let mut room = [0; 21];
-        let mut held = 0;
-        let ns = (0..ROUNDS)
-            .map(|_| {
-                timed(|| held = proved_closes(black_box(&state), CLOSES, &mut room, &mut stores))
-            })
-            .fold(f64::INFINITY, f64::min);
-        println!("{name:24}{held:>6} {:>9.0}", ns / CLOSES as f64);
     }
 }
 

@@ -138,23 +138,6 @@ pub fn proved_hops(fs: f64, hops: usize, x: &[u64], stores: &mut Stores) -> usiz
     reports
 }
 
-/// Closes so many copies of a state, with room for the samples that it holds; answers how many they are.
-pub fn proved_closes(state: &State, closes: usize, room: &mut [u64], stores: &mut Stores) -> usize {
-    let mut out = [0; CONDITION_WORDS];
-    for _ in 0..closes {
-        let mut last = *state;
-        let number = vg_close(
-            &mut last,
-            room,
-            &mut stores.spans,
-            &mut stores.repairs,
-            &mut out,
-        );
-        assert_eq!(number, 0, "a close is refused");
-    }
-    out[0] as usize
-}
-
 // ---- the Rust original
 
 fn mode(applies: bool) -> StageMode {

@@ -86,10 +86,6 @@ static uint64_t condition(size_t length, size_t spans, size_t repairs) {
     return vg_condition(&lent.state, lent.samples, length, lent.spans, spans, lent.repairs, repairs, &lent.call);
 }
 
-static uint64_t finish(size_t length, size_t spans, size_t repairs) {
-    return vg_close(&lent.state, lent.samples, length, lent.spans, spans, lent.repairs, repairs, &lent.call);
-}
-
 static uint64_t hop(size_t length, uint64_t start, size_t spans, size_t monitor) {
     return vg_hop(&lent.state, lent.channels, length, start, lent.spans, spans, lent.monitor, monitor, &lent.hop);
 }
@@ -290,7 +286,7 @@ static void making(void) {
     REFUSES(VG_NOTHING, make(0, 0, 0));
 }
 
-// What a call or a close may write, of a slice of which so many places are ready.
+// What a call may write, of a slice of which so many places are ready.
 static void written_by_call(uint64_t ready) {
     WRITES(state);
     WRITES(call.ready);
@@ -367,106 +363,6 @@ static void calls(void) {
     REFUSES(VG_TOO_MANY, condition(1, SPAN_WORDS, REPAIR_WORDS));
 }
 
-// A closed chain that has seen so many samples: all are released, and it takes neither a call nor a second close.
-static void closed(uint64_t seen) {
-    vg_log(&lent.state, &lent.log);
-    SAME(lent.log.seen, seen);
-    SAME(lent.log.released, seen);
-    SAME(lent.log.held, 0);
-    REFUSES(VG_CLOSED, condition(60, SPAN_WORDS, REPAIR_WORDS));
-    REFUSES(VG_CLOSED, condition(0, 0, 0));
-    REFUSES(VG_CLOSED, finish(60, SPAN_WORDS, REPAIR_WORDS));
-    REFUSES(VG_CLOSED, finish(0, 0, 0));
-}
-
-// Closes behind so many samples, some of which, from a place on, are a click: how many are mended, and how many flagged.
-static void closed_behind(size_t length, size_t click, size_t loud_ones, uint64_t mended, uint64_t flagged) {
-    size_t k;
-    fresh(VG_APPLY, VG_OFF, VG_OFF);
-    fill(lent.samples, length);
-    for (k = 0; k < loud_ones; k++) lent.samples[click + k] = sample(100.0f, 0.0f);
-    SAME(condition(length, SPAN_WORDS, REPAIR_WORDS), VG_ACCEPTED);
-    SAME(finish(HELD, SPAN_WORDS, REPAIR_WORDS), VG_ACCEPTED);
-    vg_log(&lent.state, &lent.log);
-    SAME(lent.log.counts[VG_RING(VG_IMPULSE, VG_REPAIRED)], mended);
-    SAME(lent.log.counts[VG_RING(VG_IMPULSE, VG_FLAGGED)], flagged);
-    SAME(lent.log.long_runs, flagged > 4 ? 1 : 0);
-}
-
-static void closes(void) {
-    size_t k, i;
-    // behind each number of samples; nothing in the slice is read, usable or not
-    for (k = 0; k <= 60; k++) {
-        fresh(VG_APPLY, VG_APPLY, VG_APPLY);
-        fill(lent.samples, 60);
-        SAME(condition(k, SPAN_WORDS, REPAIR_WORDS), VG_ACCEPTED);
-        memset(lent.samples, 0xff, sizeof lent.samples);
-        ANSWERS(VG_ACCEPTED, finish(60, SPAN_WORDS, REPAIR_WORDS));
-        SAME(lent.call.ready, k < HELD ? k : (size_t)HELD);
-        written_by_call(lent.call.ready);
-        closed(k);
-    }
-    // each length of a slice, behind 21 held samples
-    for (k = 0; k <= 60; k++) {
-        sixty();
-        memset(lent.samples, 0xff, sizeof lent.samples);
-        if (k < HELD) {
-            REFUSES(VG_SHORT, finish(k, SPAN_WORDS, REPAIR_WORDS));
-            continue;
-        }
-        ANSWERS(VG_ACCEPTED, finish(k, SPAN_WORDS, REPAIR_WORDS));
-        SAME(lent.call.ready, HELD);
-        for (i = 0; i < HELD; i++) SAME(lent.samples[i], sample(1.0f, 0.0f));
-        written_by_call(HELD);
-        closed(60);
-    }
-    // lengths of the stores
-    sixty();
-    for (k = 0; k <= SPAN_WORDS + 8; k++)
-        if (k != SPAN_WORDS) REFUSES(VG_BAD_LENGTH, finish(51, k, REPAIR_WORDS));
-    for (k = 0; k <= REPAIR_WORDS + 8; k++)
-        if (k != REPAIR_WORDS) REFUSES(VG_BAD_LENGTH, finish(51, SPAN_WORDS, k));
-    REFUSES(VG_BAD_LENGTH, finish(0, 0, 0));
-    // words of the span store, and the word that says whether the chain is closed
-    lent.spans[0] = UINT64_C(1) << 49;
-    REFUSES(VG_BAD_STATE, finish(51, SPAN_WORDS, REPAIR_WORDS));
-    REFUSES(VG_BAD_STATE, finish(0, SPAN_WORDS, REPAIR_WORDS));
-    REFUSES(VG_BAD_LENGTH, finish(51, SPAN_WORDS + 1, REPAIR_WORDS));
-    lent.spans[0] = 20;
-    lent.state.words[VG_STATE_WORDS - 1] = 1;
-    REFUSES(VG_BAD_STATE, finish(51, SPAN_WORDS, REPAIR_WORDS));
-    REFUSES(VG_BAD_STATE, condition(0, 0, 0));
-    lent.state.words[VG_STATE_WORDS - 1] = 0;
-    SAME(finish(51, SPAN_WORDS, REPAIR_WORDS), VG_ACCEPTED);
-    lent.spans[0] = UINT64_C(1) << 49;
-    closed(60);
-    lent.state.words[VG_STATE_WORDS - 1] = 0;
-    REFUSES(VG_BAD_STATE, finish(51, SPAN_WORDS, REPAIR_WORDS));
-    REFUSES(VG_BAD_STATE, condition(0, 0, 0));
-    // clicks: with a right neighbour, without one, too long, and in windows of 8 powers and of 9
-    closed_behind(30, 29, 1, 0, 1);
-    SAME(lent.samples[20], sample(100.0f, 0.0f));
-    closed_behind(30, 26, 4, 0, 4);
-    closed_behind(30, 25, 5, 0, 5);
-    closed_behind(8, 4, 1, 0, 0);
-    closed_behind(9, 4, 1, 1, 0);
-    closed_behind(30, 25, 1, 1, 0);
-    SAME(lent.samples[16], sample(1.0f, 0.0f));
-    ANSWERS(VG_ACCEPTED, undo_repairs(REPAIR_WORDS, HELD, 9));
-    was.samples[16] = sample(100.0f, 0.0f);
-    LEFT();
-    // nothing is held where impulse does not apply
-    for (k = 0; k < 2; k++) {
-        fresh(k, VG_APPLY, VG_OFF);
-        fill(lent.samples, 30);
-        SAME(condition(30, SPAN_WORDS, REPAIR_WORDS), VG_ACCEPTED);
-        ANSWERS(VG_ACCEPTED, finish(0, SPAN_WORDS, REPAIR_WORDS));
-        SAME(lent.call.ready, 0);
-        written_by_call(0);
-        closed(30);
-    }
-}
-
 // At one sample a second a window is full with its second hop. Channel 4 is strong, and 12 is its mirror.
 static void listening(uint64_t iq) {
     size_t k;
@@ -536,8 +432,7 @@ static void hops(void) {
     SAME(span(SPAN_WORDS, VG_IQ, VG_UNCERTAIN, 0), VG_ACCEPTED);
     SAME(lent.span.start, 0);
     SAME(lent.span.length, 8);
-    // on a closed chain, a channel that a call would refuse, and nothing
-    SAME(finish(0, SPAN_WORDS, REPAIR_WORDS), VG_ACCEPTED);
+    // a channel that a call would refuse, and nothing
     lent.channels[0] = sample(loud, loud);
     SAME(hop(CHANNELS, 8, SPAN_WORDS, MONITOR_WORDS), VG_ACCEPTED);
     listening(VG_APPLY);
@@ -920,16 +815,8 @@ static void any(const struct lent *spoilt) {
     memcpy(&lent, spoilt, sizeof lent);
     stand();
     number = condition(51, SPAN_WORDS, REPAIR_WORDS);
-    TRUE(number == VG_ACCEPTED || (VG_BAD_LENGTH <= number && number <= VG_TOO_MANY) || number == VG_CLOSED);
+    TRUE(number == VG_ACCEPTED || (VG_BAD_LENGTH <= number && number <= VG_TOO_MANY));
     if (number == VG_UNUSABLE) WRITES(call.place);
-    if (number == VG_ACCEPTED)
-        written_by_call(lent.call.ready);
-    else
-        LEFT();
-    memcpy(&lent, spoilt, sizeof lent);
-    stand();
-    number = finish(51, SPAN_WORDS, REPAIR_WORDS);
-    TRUE(number == VG_ACCEPTED || (VG_BAD_LENGTH <= number && number <= VG_SHORT) || number == VG_CLOSED);
     if (number == VG_ACCEPTED)
         written_by_call(lent.call.ready);
     else
@@ -980,8 +867,6 @@ static void states(void) {
     each_word();
     sixty();
     each_word();
-    SAME(finish(51, SPAN_WORDS, REPAIR_WORDS), VG_ACCEPTED);
-    each_word();
     // no state: all words alike, and at random
     for (k = 0; k < 1256; k++) {
         memset(&lent.state, (int)(k % 256), sizeof lent.state);
@@ -993,8 +878,6 @@ static void states(void) {
         }
         REFUSES(VG_BAD_STATE, condition(51, SPAN_WORDS, REPAIR_WORDS));
         REFUSES(VG_BAD_STATE, condition(0, 0, 0));
-        REFUSES(VG_BAD_STATE, finish(51, SPAN_WORDS, REPAIR_WORDS));
-        REFUSES(VG_BAD_STATE, finish(0, 0, 0));
         REFUSES(VG_BAD_STATE, hop(CHANNELS, 64, SPAN_WORDS, MONITOR_WORDS));
         REFUSES(VG_BAD_STATE, undo_repairs(REPAIR_WORDS, 51, 9));
     }
@@ -1006,7 +889,6 @@ int main(void) {
     validating();
     making();
     calls();
-    closes();
     hops();
     logs();
     spans();

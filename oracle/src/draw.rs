@@ -243,8 +243,7 @@ pub fn add_limits(rng: &mut Rng, xs: &mut [Sample]) {
     let mut j = rng.below(20);
     while j + impulse::HALF < xs.len() {
         xs[j] = Sample::new(MOST, 0.0);
-        let reference = impulse::reference(xs, j).expect("a window of 17 powers or more");
-        let limit = (144.0 * reference).sqrt() as f32;
+        let limit = (144.0 * impulse::reference(xs, j)).sqrt() as f32;
         let off = rng.from(0, 4) as u32;
         let re = f32::from_bits((limit.to_bits() + 2).saturating_sub(off));
         xs[j] = Sample::new(re.min(MOST), 0.0);

@@ -11,7 +11,7 @@ use oracle::rules::chain::Record;
 use oracle::rules::impulse::{flagged, flags, judged, power, reference, value, window, TRIM};
 use oracle::rules::iq::{corrected, settled, Coefficient, Settled};
 use oracle::rules::monitor::{answers, Hop};
-use oracle::rules::{dc, Calibration, Input, Mode, Sample, Setting};
+use oracle::rules::{dc, Calibration, Mode, Sample, Setting};
 
 const ONE: Sample = Sample { re: 1.0, im: 0.0 };
 const CLICK: Sample = Sample { re: 100.0, im: 0.0 };
@@ -60,7 +60,7 @@ fn twelve_is_unflagged_and_thirteen_flagged() {
 fn all_zeros_but_one_is_unflagged() {
     let mut xs = vec![Sample::ZERO; 60];
     xs[20] = CLICK;
-    assert!(flags(Input::open(&xs)).iter().all(|&f| !f));
+    assert!(flags(&xs).iter().all(|&f| !f));
     let r = agree(&observing(48000.0), &xs);
     assert_eq!(count(&r, Stage::Impulse, Mark::Flagged), 0);
     let r = agree(&applying(48000.0), &xs);
@@ -93,7 +93,7 @@ fn nine_are_unflagged() {
     let xs = among_ones(80, 30, &[CLICK; 9]);
     for j in 30..39 {
         assert_eq!(window(&xs, j).len(), 33);
-        assert_eq!(reference(&xs, j), Some(400.96));
+        assert_eq!(reference(&xs, j), 400.96);
     }
     let r = agree(&observing(48000.0), &xs);
     assert_eq!(count(&r, Stage::Impulse, Mark::Flagged), 0);
@@ -142,7 +142,7 @@ fn block_1000_goes_on_after_one_and_pauses_after_two() {
 fn sixteen_samples_judge_none() {
     let mut xs = vec![CLICK];
     xs.resize(16, ONE);
-    assert_eq!((judged(16, false), judged(17, false)), (0, 1));
+    assert_eq!((judged(16), judged(17)), (0, 1));
     for s in [applying(48000.0), observing(48000.0)] {
         assert!(agree(&s, &xs).rings.iter().all(|ring| ring.count == 0));
     }
@@ -215,7 +215,7 @@ fn mistake_summing_kept_powers_unsorted() {
     xs.extend([Sample::new(2f32.powi(-26), 0.0); 16]);
     assert_eq!(xs.len(), 33);
     assert_eq!(power(xs[16]), 144.0);
-    assert_eq!(reference(&xs, 16), Some(1.0));
+    assert_eq!(reference(&xs, 16), 1.0);
     assert!(!flagged(&xs, 16));
 
     let strong = |p: f32| p > 5.0;
@@ -242,10 +242,7 @@ fn mistake_a_mended_left_neighbour() {
     let r = agree(&applying(48000.0), &xs);
     // The first mends to (1 + 5)/2; a left of 3 would mend the second to 2.
     assert_eq!(re(&r.out[19..24]), [1.0, 3.0, 5.0, 3.0, 1.0]);
-    assert_eq!(
-        value(&xs, &flags(Input::open(&xs)), &[false], 48000, 22).re,
-        3.0
-    );
+    assert_eq!(value(&xs, &flags(&xs), &[false], 48000, 22).re, 3.0);
 }
 
 fn hop_of(start: u64, n: usize, these: &[(usize, f32, f32)]) -> Hop {

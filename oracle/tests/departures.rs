@@ -113,7 +113,7 @@ fn more_than_2048_channels_make_a_chain() {
 fn a_slice_shorter_than_held_is_taken() {
     // One sample is held. The rule: an empty slice is refused with 6 and leaves all.
     assert_eq!(
-        refusals::call(false, 1, 1, &[]),
+        refusals::call(1, 1, &[]),
         Some(Refusal {
             number: 6,
             place: None
@@ -139,7 +139,7 @@ fn a_slice_shorter_than_held_is_taken() {
 fn an_unusable_sample_is_taken() {
     for part in [f32::NAN, f32::INFINITY, 1.0e17f32.next_up(), -2e17] {
         for x in [Sample::new(part, 0.0), Sample::new(0.0, part)] {
-            let refusal = refusals::call(false, 0, 0, &[x]).expect("not usable");
+            let refusal = refusals::call(0, 0, &[x]).expect("not usable");
             assert_eq!((refusal.number, refusal.place), (7, Some(0)));
             let (chain, out) = run_whole(&dc_alone(48000.0), &[x]);
             assert_eq!((chain.log().samples_seen(), out.len()), (1, 1));
@@ -168,7 +168,7 @@ fn one_nan_sample_stays_in_the_ordered_powers() {
     let (chain, _) = run_whole(&impulse_alone(48000.0), &xs);
     assert_eq!(chain.log().count(Stage::Impulse, Mark::Repaired), 8);
     xs[0] = Sample::new(f32::NAN, 0.0);
-    assert!(refusals::call(false, 0, 0, &xs).is_some());
+    assert!(refusals::call(0, 0, &xs).is_some());
     let (chain, _) = run_whole(&impulse_alone(48000.0), &xs);
     assert_eq!(chain.log().count(Stage::Impulse, Mark::Repaired), 0);
 }

@@ -12,7 +12,7 @@ use oracle::num_complex::Complex64;
 use oracle::rules::iq::{Coefficient, Settled};
 use oracle::rules::monitor::{self, Hop};
 use oracle::rules::refusals::{self, Answer, Refusal};
-use oracle::rules::{chain, dc, guard, impulse, iq, Edition, Input, Mode, Sample, Setting};
+use oracle::rules::{chain, dc, guard, impulse, iq, Edition, Mode, Sample, Setting};
 use oracle::sample_guard::replace_unusable;
 
 /// How often what happened, so that a generator that no longer reaches a rule is seen.
@@ -106,7 +106,7 @@ fn case(rng: &mut Rng, s: &Setting, xs: &[Sample], hops_wanted: usize, at: &str,
             tail = vec![Sample::of_word(rng.next()); chain.held];
         }
         assert_eq!(
-            refusals::call(false, seen as u64, tail.len(), &[&tail, new].concat()),
+            refusals::call(seen as u64, tail.len(), &[&tail, new].concat()),
             None
         );
         let ready = call(&mut chain, &tail, new);
@@ -117,13 +117,13 @@ fn case(rng: &mut Rng, s: &Setting, xs: &[Sample], hops_wanted: usize, at: &str,
         seen += len;
         r.calls += 1;
         if rng.below(lengths.len()) == 0 {
-            let record = chain::whole(s, Input::open(&xs[..seen]), &hops);
+            let record = chain::whole(s, &xs[..seen], &hops);
             assert_eq!(words(&out), words(&record.out), "{at}: released at {seen}");
             compare(&chain, s, &record, &hops, &format!("{at}, at {seen}"));
             r.points += 1;
         }
     }
-    let record = chain::whole(s, Input::open(xs), &hops);
+    let record = chain::whole(s, xs, &hops);
     assert_eq!(words(&out), words(&record.out), "{at}: released");
     compare(&chain, s, &record, &hops, at);
     let answers: Vec<_> = monitor::answers(s.fs, s.n, &hops)
@@ -232,7 +232,7 @@ fn editions_differ(s: &Setting, xs: &[Sample]) -> bool {
             edition,
             ..s.clone()
         };
-        chain::whole(&s, Input::open(xs), &[]).rings[3].count
+        chain::whole(&s, xs, &[]).rings[3].count
     };
     uncertain(Edition::First) != uncertain(Edition::Second)
 }
@@ -400,13 +400,7 @@ fn limits_of_a_suspected_window() {
         let e = answers[1].expect("a window");
         assert_eq!((e.floor, e.strongest, e.mirror), (1.0, p, q));
         assert_eq!(e.suspected, suspected, "{p} {q}");
-        compare(
-            &chain,
-            &s,
-            &chain::whole(&s, Input::open(&[]), &hops),
-            &hops,
-            "limits",
-        );
+        compare(&chain, &s, &chain::whole(&s, &[], &hops), &hops, "limits");
         r.cases += 1;
         r.hops += 2;
     }
@@ -522,7 +516,7 @@ fn coefficients_and_decisions() {
         compare(
             &chain,
             &s,
-            &chain::whole(&s, Input::open(&[]), &[]),
+            &chain::whole(&s, &[], &[]),
             &[],
             &format!("{seed}"),
         );

@@ -7,7 +7,7 @@
 //! most 1 ends; with 1000, 2 enter and only 0 ends.
 
 use oracle::rules::chain::{self, Record};
-use oracle::rules::{impulse, log, replay, Edition, Input, Mode, Sample, Setting};
+use oracle::rules::{impulse, log, replay, Edition, Mode, Sample, Setting};
 use oracle::sides;
 
 const EDITIONS: [Edition; 2] = [Edition::First, Edition::Second];
@@ -259,11 +259,6 @@ fn repairs(r: &Record) -> Vec<u64> {
     r.repairs.records().iter().map(|words| words[0]).collect()
 }
 
-/// The record of the samples alone, not closed.
-fn record(s: &Setting, xs: &[Sample]) -> Record {
-    chain::whole(s, Input::open(xs), &[])
-}
-
 /// The places at which a released sample is not (1,0), with its real part.
 fn not_one(r: &Record) -> Vec<(usize, f32)> {
     let reals = r.out.iter().map(|y| y.re).enumerate();
@@ -274,7 +269,7 @@ fn not_one(r: &Record) -> Vec<(usize, f32)> {
 #[test]
 fn applying_the_editions_differ_in_the_blocks_that_only_one_pauses() {
     let [first, second] =
-        EDITIONS.map(|e| record(&setting(e, 1000.0, Mode::Apply), &five_blocks()));
+        EDITIONS.map(|e| chain::whole(&setting(e, 1000.0, Mode::Apply), &five_blocks(), &[]));
     assert_eq!(
         spans(&first),
         [
@@ -304,7 +299,7 @@ fn observing_the_editions_differ_in_uncertain_marks_alone() {
     for (edition, uncertain) in EDITIONS.into_iter().zip([(1000, 1000), (1000, 3000)]) {
         let off = setting(edition, 1000.0, Mode::Off);
         // "`observing` turns off into observe", and the edition stays.
-        let r = record(&off.observing(), &five_blocks());
+        let r = chain::whole(&off.observing(), &five_blocks(), &[]);
         let flagged = clicks.map(|j| (j as u64, 1)).to_vec();
         assert_eq!(spans(&r), [vec![], flagged, vec![uncertain]]);
         assert_eq!(not_one(&r), clicks.map(|j| (j, 100.0)));
@@ -319,7 +314,7 @@ fn the_edition_matters_only_where_the_impulse_stage_runs() {
             dc: Mode::Apply,
             ..setting(e, 1000.0, Mode::Off)
         };
-        format!("{:?}", record(&s, &five_blocks()))
+        format!("{:?}", chain::whole(&s, &five_blocks(), &[]))
     });
     assert_eq!(first, second);
 }
@@ -335,7 +330,8 @@ fn the_edition_matters_only_where_the_impulse_stage_runs() {
 fn a_run_across_two_blocks_is_kept_if_either_is_paused() {
     let mut xs = ones_but(6100, &[300, 600, 1999, 2000, 3000, 5999, 6000]);
     xs[6001].re = 4.0;
-    let [first, second] = EDITIONS.map(|e| record(&setting(e, 2000.0, Mode::Apply), &xs));
+    let [first, second] =
+        EDITIONS.map(|e| chain::whole(&setting(e, 2000.0, Mode::Apply), &xs, &[]));
     assert_eq!(
         spans(&first),
         [

@@ -107,15 +107,15 @@ fn a_call_6_8_7() {
     let nan = Sample::new(0.0, f32::NAN);
     let slice = [nan, nan, ONE, ONE];
     // Held ones are never read.
-    assert_eq!(refusals::call(false, 30, 2, &slice), None);
-    assert_eq!(refusals::call(false, 30, 1, &slice), seven(1));
-    assert_eq!(refusals::call(false, 30, 0, &slice), seven(0));
-    assert_eq!(refusals::call(false, 30, 4, &slice), None);
-    assert_eq!(refusals::call(false, 30, 5, &slice), number(6));
+    assert_eq!(refusals::call(30, 2, &slice), None);
+    assert_eq!(refusals::call(30, 1, &slice), seven(1));
+    assert_eq!(refusals::call(30, 0, &slice), seven(0));
+    assert_eq!(refusals::call(30, 4, &slice), None);
+    assert_eq!(refusals::call(30, 5, &slice), number(6));
     // 8 before 7; at 2^48 a call that brings none is accepted.
-    assert_eq!(refusals::call(false, TOTAL - 3, 1, &slice), seven(1));
-    assert_eq!(refusals::call(false, TOTAL - 2, 1, &slice), number(8));
-    assert_eq!(refusals::call(false, TOTAL, 4, &slice), None);
+    assert_eq!(refusals::call(TOTAL - 3, 1, &slice), seven(1));
+    assert_eq!(refusals::call(TOTAL - 2, 1, &slice), number(8));
+    assert_eq!(refusals::call(TOTAL, 4, &slice), None);
     for (part, usable) in [
         (1.0e17, true),
         (-1.0e17, true),
@@ -126,14 +126,8 @@ fn a_call_6_8_7() {
         (f32::from_bits(1), true),
     ] {
         let answer = if usable { None } else { seven(0) };
-        assert_eq!(
-            refusals::call(false, 0, 0, &[Sample::new(part, 0.0)]),
-            answer
-        );
-        assert_eq!(
-            refusals::call(false, 0, 0, &[Sample::new(0.0, part)]),
-            answer
-        );
+        assert_eq!(refusals::call(0, 0, &[Sample::new(part, 0.0)]), answer);
+        assert_eq!(refusals::call(0, 0, &[Sample::new(0.0, part)]), answer);
     }
 }
 

@@ -1,6 +1,5 @@
 //! Random cases: lists of operations over one chain, drawn so that every answer is met.
 
-pub mod closing;
 pub mod hard;
 
 use oracle::draw::*;
@@ -11,8 +10,7 @@ use oracle::trace::*;
 /// Operations, and the oracle's answers.
 pub type List = Vec<(Operation, Answer)>;
 
-/// What a case is of: a stage, and the number of the signal that it was given, or of the DC stage's mode or the impulse
-/// stage's.
+/// What a case is of: a stage, and the number of the signal that it was given, or of the DC stage's mode.
 #[derive(Clone, Copy, PartialEq, Eq, PartialOrd, Ord)]
 pub enum Kind {
     Any,
@@ -21,29 +19,8 @@ pub enum Kind {
     Iq(usize),
     Hops(usize),
     Carrier(usize),
-    Closing(usize),
     OddUndos,
     Calibrations,
-}
-
-/// How many closes were accepted, and what they did.
-#[derive(Clone, Copy, Default)]
-pub struct Closes {
-    pub made: u64,
-    /// Those that mended a run.
-    pub mended: u64,
-    /// Those that met a run with no right neighbour, and where that was long.
-    pub kept: u64,
-    pub long: u64,
-}
-
-impl Closes {
-    pub fn add(&mut self, others: Closes) {
-        self.made += others.made;
-        self.mended += others.mended;
-        self.kept += others.kept;
-        self.long += others.long;
-    }
 }
 
 /// A case: operations, the first of which makes a chain.
@@ -54,7 +31,6 @@ pub struct Case {
     pub near_ratio: u64,
     /// How many blocks only edition 2 of the pause rule pauses, where a chain has it and that was looked for.
     pub only_second: u64,
-    pub closes: Closes,
 }
 
 /// A case that is being drawn, with the oracle's chain beside it.
@@ -68,13 +44,6 @@ struct Drawing<'a> {
     released: Vec<u64>,
     near_ratio: u64,
     only_second: u64,
-    closes: Closes,
-}
-
-/// How many runs a chain has mended.
-fn mended(machine: &Machine) -> u64 {
-    let repairs = machine.repair_ring();
-    repairs.held as u64 + repairs.dropped
 }
 
 fn words(xs: &[Sample]) -> Vec<u64> {
@@ -139,12 +108,8 @@ impl Drawing<'_> {
         if self.digests {
             o = o.digested();
         }
-        let mended = mended(self.machine);
         if let Ok(answer) = self.machine.answer(&o) {
             self.keep(&answer);
-            if o.op == CLOSE && answer.front[1] == 0 {
-                self.count_close(mended);
-            }
             self.case.push((o, answer));
         }
     }
@@ -192,32 +157,26 @@ impl Drawing<'_> {
         [spans, lent(self.rng, 6 * s.repairs, odd)]
     }
 
-    /// How many places stand in front of the words: as many as are held, or none, where these are in the words
-    /// themselves.
-    fn behind_held(&mut self, words: Vec<u64>) -> (u64, Vec<u64>) {
-        match self.rng.below(8) {
-            0 => {
-                let held = self.machine.held();
-                let filled: Vec<u64> = (0..held).map(|_| self.rng.next()).chain(words).collect();
-                (0, filled)
-            }
-            _ => (AS_HELD, words),
-        }
-    }
-
     fn call(&mut self, new: Vec<u64>, odd: usize) {
         let [spans, repairs] = self.lent_to_call(odd);
-        let (front, new) = self.behind_held(new);
+        let (front, new) = match self.rng.below(8) {
+            // The held places in the words themselves.
+            0 => {
+                let held = self.machine.held();
+                let filled: Vec<u64> = (0..held).map(|_| self.rng.next()).chain(new).collect();
+                (0, filled)
+            }
+            _ => (AS_HELD, new),
+        };
         self.add(Operation::new(CALL, &[spans, repairs, front], new));
     }
 
-    /// What an accepted call or close released, where it was answered in full.
+    /// What an accepted call released, where it was answered in full.
     fn keep(&mut self, a: &Answer) {
         if self.machine.seen() == 0 {
             self.released.clear();
         }
-        let releases = (a.front[0] == CALL || a.front[0] == CLOSE) && a.front[1] == 0;
-        if releases && !self.digests && self.released.len() < 3000 {
+        if a.front[0] == CALL && a.front[1] == 0 && !self.digests && self.released.len() < 3000 {
             self.released.extend(&a.words[..a.front[2] as usize]);
         }
     }
@@ -275,89 +234,6 @@ impl Drawing<'_> {
         self.add(Operation::new(HOP, &[hop.start, spans, monitor], channels));
     }
 
-    // ---- closes
-
-    /// A close. The words behind the held places are any.
-    fn close(&mut self, odd: usize) {
-        let [spans, repairs] = self.lent_to_call(odd);
-        let n = if self.rng.once_in(3) {
-            self.rng.below(8)
-        } else {
-            0
-        };
-        let behind = any_words(self.rng, n);
-        let (front, behind) = self.behind_held(behind);
-        self.add(Operation::new(CLOSE, &[spans, repairs, front], behind));
-    }
-
-    /// A close that is refused: by 6, by 4, or its state by 5.
-    fn odd_close(&mut self) {
-        let s = self.setting();
-        let held = self.machine.held();
-        let rng = &mut *self.rng;
-        let mut args = [24 * s.spans as u64, 6 * s.repairs as u64, AS_HELD, 0];
-        match rng.below(3) {
-            0 if held > 0 => {
-                args[2] = rng.below(held) as u64;
-                args[3] = rng.pick(&[0, 0, 1 << 48, (1 << 48) + 1]);
-            }
-            1 => {
-                let store = rng.below(2);
-                args[store] = lent(rng, args[store] as usize, 1);
-                args[2] = rng.pick(&[AS_HELD, 0]);
-            }
-            _ => args[3] = (1 << 52) + rng.from(0, 3) as u64,
-        }
-        self.add(Operation::new(CLOSE, &args, vec![]));
-    }
-
-    fn count_close(&mut self, mended_before: u64) {
-        let flagged = self.machine.ring(1).spans();
-        let last = flagged
-            .last()
-            .filter(|(start, len)| start + len == self.machine.seen());
-        self.closes.add(Closes {
-            made: 1,
-            mended: u64::from(mended(self.machine) > mended_before),
-            kept: u64::from(last.is_some()),
-            long: u64::from(last.is_some_and(|run| run.1 > 4)),
-        });
-    }
-
-    /// Something behind a close: calls and closes that are refused, and all that works as before.
-    fn behind_close(&mut self) {
-        match self.rng.below(10) {
-            0 | 1 => {
-                let n = self.rng.below(12);
-                let xs = any_words(self.rng, n);
-                self.call(xs, 20);
-            }
-            2 => self.close(20),
-            3 => self.odd_close(),
-            4 => self.odd_call(),
-            5 => self.hop(20),
-            6 => self.undo(),
-            7 => self.span(),
-            8 => self.written(),
-            _ => {
-                self.log();
-                self.state();
-                self.stores();
-            }
-        }
-    }
-
-    /// A close, and up to so many operations behind it.
-    fn closing(&mut self, most: usize) {
-        self.close(30);
-        self.log();
-        self.state();
-        self.stores();
-        for _ in 0..self.rng.from(0, most) {
-            self.behind_close();
-        }
-    }
-
     // ---- words that their owner writes
 
     /// A word of a store is written, operations follow, and the word is written back.
@@ -412,7 +288,6 @@ impl Drawing<'_> {
         let before = self.word_of(store, place);
         self.add(Operation::new(WRITE, &[store as u64, place, word], vec![]));
         match store {
-            0 if self.rng.once_in(3) => self.close(20),
             0 => self.call(vec![], 20),
             1 => self.undo(),
             _ => self.hop(20),
@@ -600,10 +475,9 @@ impl Drawing<'_> {
         }
     }
 
-    /// Something between two calls; now and then a close, so that those behind it are refused.
+    /// Something between two calls.
     fn between(&mut self) {
         match self.rng.below(20) {
-            _ if self.rng.once_in(160) => self.closing(3),
             0..=3 => self.log(),
             4 | 5 => self.state(),
             6 => self.stores(),
@@ -615,9 +489,7 @@ impl Drawing<'_> {
             12 => self.validate(),
             13 => self.config(),
             14 => self.odd_make(),
-            15 => self.odd_call(),
-            16 if self.rng.once_in(2) => self.odd_call(),
-            16 => self.odd_close(),
+            15 | 16 => self.odd_call(),
             17 => self.written(),
             _ => self.hop(30),
         }
@@ -674,17 +546,15 @@ pub fn case(seed: u64, machine: &mut Machine) -> Case {
         released: Vec::new(),
         near_ratio: 0,
         only_second: 0,
-        closes: Closes::default(),
     };
-    let kind = match d.rng.below(27) {
+    let kind = match d.rng.below(17) {
         0..=9 => Kind::Any,
-        10..=12 => Kind::Impulse(d.rng.below(hard::IMPULSE.len())),
-        13 => Kind::Dc(d.rng.below(hard::LEVEL.len())),
-        14 if d.rng.once_in(6) => d.rng.pick(&[Kind::OddUndos, Kind::Calibrations]),
-        14 => Kind::Iq(d.rng.below(hard::AT_FULL_SCALE)),
-        15 | 16 => Kind::Hops(d.rng.below(hard::HOPS.len())),
-        17 | 18 => Kind::Carrier(d.rng.below(hard::CARRIER.len())),
-        _ => Kind::Closing(d.rng.pick(&[0, 1, 1, 2, 2, 2, 2, 2])),
+        10 | 11 => Kind::Impulse(d.rng.below(hard::IMPULSE.len())),
+        12 => Kind::Dc(d.rng.below(hard::LEVEL.len())),
+        13 if d.rng.once_in(6) => d.rng.pick(&[Kind::OddUndos, Kind::Calibrations]),
+        13 => Kind::Iq(d.rng.below(hard::AT_FULL_SCALE)),
+        14 | 15 => Kind::Hops(d.rng.below(hard::HOPS.len())),
+        _ => Kind::Carrier(d.rng.below(hard::CARRIER.len())),
     };
     match kind {
         Kind::Any => any(&mut d),
@@ -693,12 +563,8 @@ pub fn case(seed: u64, machine: &mut Machine) -> Case {
         Kind::Iq(k) => d.level_signals(2, k),
         Kind::Hops(k) => d.hop_signals(k),
         Kind::Carrier(k) => d.carrier(k),
-        Kind::Closing(k) => d.closed_chains(k),
         Kind::OddUndos => d.odd_undos(),
         Kind::Calibrations => d.calibrations(),
-    }
-    if !d.machine.closed() && d.rng.once_in(2) {
-        d.closing(6);
     }
     d.end();
     Case {
@@ -706,7 +572,6 @@ pub fn case(seed: u64, machine: &mut Machine) -> Case {
         list: d.case,
         near_ratio: d.near_ratio,
         only_second: d.only_second,
-        closes: d.closes,
     }
 }
 

@@ -1,15 +1,8 @@
 //! How often what was met.
 
-use crate::cases::{closing, hard, Case, Closes, Kind};
+use crate::cases::{hard, Case, Kind};
 use oracle::trace::*;
 use std::collections::BTreeMap;
-
-/// The numbers of refusals end below this.
-const NUMBERS: usize = 17;
-
-/// A run of so many samples has to make so many closes.
-const FULL_RUN: u64 = 100_000_000;
-const CLOSES: u64 = 1_000_000;
 
 #[derive(Default)]
 pub struct Figures {
@@ -28,10 +21,7 @@ pub struct Figures {
     stores: u64,
     spans: u64,
     nothing: u64,
-    refusals: [u64; NUMBERS],
-    closes: Closes,
-    /// Calls behind a close.
-    late_calls: u64,
+    refusals: [u64; 14],
     words: u64,
     /// What the chain of the moment has seen.
     seen: u64,
@@ -50,7 +40,6 @@ impl Figures {
         for (operation, answer) in &case.list {
             self.count(operation, answer);
         }
-        self.closes.add(case.closes);
         if case.kind != Kind::Any {
             self.hard.entry(case.kind).or_default().case(case);
         }
@@ -68,7 +57,6 @@ impl Figures {
             NOTHING => self.nothing += 1,
             _ => self.refusals[number as usize] += 1,
         }
-        self.late_calls += u64::from(operation.op == CALL && number == 16);
     }
 
     fn accepted(&mut self, operation: &Operation, answer: &Answer) {
@@ -99,19 +87,9 @@ impl Figures {
         }
     }
 
-    /// Whether a full run made as many closes as it has to.
-    pub fn closed_enough(&self) -> bool {
-        self.samples < FULL_RUN || self.closes.made >= CLOSES
-    }
-
     pub fn say(&self) {
         println!("{} cases, {} operations", self.cases, self.operations);
         println!("{} samples in {} calls", self.samples, self.calls);
-        let c = self.closes;
-        println!(
-            "{} closes, {} of them mended, {} kept a last run, {} a long one; {} calls refused behind a close",
-            c.made, c.mended, c.kept, c.long, self.late_calls
-        );
         println!("{} hops, {} of them with a report", self.hops, self.reports);
         println!(
             "{} chains made, undos: {} of repairs, {} of DC, {} of IQ",
@@ -121,8 +99,7 @@ impl Figures {
             "read: {} logs, {} states, {} times the stores, {} spans; {} slices guarded, {} calibrations valid",
             self.logs, self.states, self.stores, self.spans, self.guarded, self.validations
         );
-        let refused: Vec<String> = (1..NUMBERS)
-            .filter(|&n| self.refusals[n] > 0)
+        let refused: Vec<String> = (1..14)
             .map(|n| format!("{n}: {}", self.refusals[n]))
             .collect();
         println!("answered by nothing: {}", self.nothing);
@@ -217,32 +194,6 @@ impl Figures {
             vec![m.cases, m.hops, m.odd, m.reports, m.suspected, m.nobody]
         });
         head(
-            "short, and closed",
-            &[
-                "cases",
-                "samples",
-                "closes",
-                "mended",
-                "kept",
-                "long",
-                "uncertain",
-                "by 16",
-            ],
-        );
-        self.rows(&closing::CLOSING, Kind::Closing, |m| {
-            let c = m.closes;
-            vec![
-                m.cases,
-                m.samples,
-                c.made,
-                c.mended,
-                c.kept,
-                c.long,
-                m.marks[3],
-                m.refusals[16],
-            ]
-        });
-        head(
             "undos of odd input",
             &["cases", "restored", "by 1", "by 4", "by 7", "by 10"],
         );
@@ -305,8 +256,7 @@ struct Met {
     undone: u64,
     valid: u64,
     settled: [u64; 4],
-    refusals: [u64; NUMBERS],
-    closes: Closes,
+    refusals: [u64; 14],
 }
 
 fn is_loud(word: u64) -> bool {
@@ -320,13 +270,12 @@ impl Met {
         self.cases += 1;
         self.near_ratio += case.near_ratio;
         self.only_second += case.only_second;
-        self.closes.add(case.closes);
         // The log of the chain of the moment.
         let mut log: Option<&Answer> = None;
         for (operation, answer) in &case.list {
             let number = answer.front[1];
             if number != 0 && number != REPORT {
-                if number != NOTHING {
+                if number < 14 {
                     self.refusals[number as usize] += 1;
                 }
                 continue;

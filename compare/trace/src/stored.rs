@@ -92,21 +92,9 @@ impl List {
         }
         let answer = self.add(o);
         if !digest {
-            self.keep(&answer);
+            let ready = answer.front[2] as usize;
+            self.released.extend(&answer.words[..ready]);
         }
-    }
-
-    /// What a call or a close released.
-    fn keep(&mut self, answer: &Answer) {
-        let ready = answer.front[2] as usize;
-        self.released.extend(&answer.words[..ready]);
-    }
-
-    /// A close, with these words behind the held places.
-    fn close(&mut self, behind: Vec<u64>) {
-        let [spans, repairs, _] = self.lengths();
-        let answer = self.op(CLOSE, &[spans, repairs, AS_HELD], behind);
-        self.keep(&answer);
     }
 
     fn calls(&mut self, xs: &[Sample], block: usize) {
@@ -382,100 +370,6 @@ impl List {
         self.read();
     }
 
-    /// Closes of the impulse stage alone, with clicks around the end.
-    fn closes(&mut self) {
-        let few: [(usize, &[usize]); 8] = [
-            (0, &[]),
-            // Eight powers flag nothing.
-            (8, &[3]),
-            (9, &[3]),
-            (9, &[8]),
-            // A last run of 4, and of 5.
-            (60, &[56, 57, 58, 59]),
-            (60, &[55, 56, 57, 58, 59]),
-            // The last sample is the right neighbour.
-            (60, &[20, 58]),
-            (60, &[43]),
-        ];
-        for (n, clicks) in few {
-            self.closed_alone(Mode::Apply, 48000.0, n, clicks);
-        }
-        self.closed_alone(Mode::Observe, 48000.0, 60, &[20, 58]);
-        self.closed_alone(Mode::Observe, 48000.0, 33, &[28, 29, 30, 31, 32]);
-        // The last block of 10 is paused, by a run before it, and by one that reaches into it.
-        self.closed_alone(Mode::Apply, 10.0, 45, &[30, 43]);
-        self.closed_alone(Mode::Apply, 10.0, 45, &[39, 40]);
-        self.closed_alone(Mode::Apply, 10.0, 40, &[38]);
-    }
-
-    fn closed_alone(&mut self, mode: Mode, fs: f64, n: usize, clicks: &[usize]) {
-        let mut s = setting([mode, Mode::Off, Mode::Off]);
-        (s.fs, s.n) = (fs, 0);
-        self.make(&s);
-        let mut xs = vec![ONE; n];
-        for &k in clicks {
-            xs[k] = Sample::new(100.0, k as f32);
-        }
-        self.calls(&xs, 50);
-        self.close(vec![]);
-        self.read();
-    }
-
-    /// Closes of all stages, refused and accepted, and what stands behind one: 5, 16, 4, 6.
-    fn refused_closes(&mut self) {
-        let s = setting([Mode::Apply, Mode::Apply, Mode::Apply]);
-        self.make(&s);
-        self.calls(&clicks(60, 17), 31);
-        let [spans, repairs, _] = self.lengths();
-        let far = (1 << 52) + 1;
-        for args in [
-            // 6: 21 are held
-            [spans, repairs, 20, 0],
-            // 4, and behind it 6
-            [spans + 1, repairs, AS_HELD, 0],
-            [spans, repairs - 1, 0, 0],
-            // 5, and behind it 4
-            [spans, repairs, AS_HELD, far],
-            [0, 0, 0, u64::MAX],
-        ] {
-            self.op(CLOSE, &args, vec![]);
-        }
-        // 5 of a span's sum.
-        self.op(WRITE, &[0, 25, (1 << 49) + 1], vec![]);
-        self.op(CLOSE, &[spans, repairs, 0], vec![]);
-        self.make(&s);
-        self.calls(&clicks(60, 17), 31);
-        self.hop(0, &[ONE; 12]);
-        self.close(words(&[Sample::new(f32::NAN, 0.0), ONE]));
-        self.read();
-        self.spans();
-        for op in [CALL, CLOSE] {
-            // 16, and behind it 4 and 7; before it 5
-            self.op(op, &[spans, repairs, AS_HELD], vec![]);
-            self.op(op, &[spans, 0, 2], words(&[Sample::new(f32::NAN, 0.0)]));
-            self.op(op, &[spans, repairs, AS_HELD, far], words(&[ONE]));
-        }
-        self.hop(3, &[ONE; 12]);
-        self.undos();
-        self.read();
-        // No stage holds a sample back. Behind the close a mirror is suspected.
-        let mut channels = [Sample::new(1.0 / 64.0, 0.0); 12];
-        (channels[9].re, channels[3].re) = (40.0, 4.0);
-        for modes in [
-            [Mode::Off, Mode::Apply, Mode::Apply],
-            [Mode::Observe, Mode::Observe, Mode::Observe],
-        ] {
-            self.make(&setting(modes));
-            self.call(&clicks(40, 17), false);
-            self.close(words(&[ONE]));
-            self.read();
-            for start in [0, 240_000] {
-                self.hop(start, &channels);
-            }
-            self.read();
-        }
-    }
-
     /// Words that their owner spoils: 5 of a call, a hop and repair undo.
     fn spoilt_stores(&mut self) {
         let mut s = setting([Mode::Apply, Mode::Apply, Mode::Observe]);
@@ -627,8 +521,6 @@ pub fn list() -> Vec<Operation> {
     list.hops();
     list.refused_makings();
     list.refused_calls();
-    list.closes();
-    list.refused_closes();
     list.spoilt_stores();
     list.refused_hops();
     list.others();

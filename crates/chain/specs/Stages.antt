@@ -1,5 +1,5 @@
--- What the stages make of new samples and of a close (document 02, R-2), from any state: the samples, the state and the stores. Definitions only.
-use Rattle.std.specs.Prelude.{◌≡◌, Bool, true, false, cond, List, [], map, ℕ, ◌+◌, ◌-◌, ◌*◌, ◌≤◌, length, drop}
+-- What the stages make of new samples, from any state: the samples, the state and the stores. Definitions only.
+use Rattle.std.specs.Prelude.{◌≡◌, true, cond, List, [], map, ℕ, ◌+◌, ◌-◌, ◌*◌, ◌≤◌, length, drop}
 use Rattle.rules.specs.Impulse.{Setting, Event}
 use Rattle.rules.specs.Iq.{Settled, Off, Observing, Withheld, Correcting, corrected_by}
 use Rattle.rules.specs.Mode.{Mode, off, observe, apply}
@@ -11,7 +11,6 @@ use Rattle.log.specs.View.{Logged, bare, marked_at}
 use Rattle.log.specs.Check.{ends_fit}
 use Rattle.impulse.specs.declared.ImpulseSuppressor.{ImpulseSuppressor}
 use Rattle.impulse.specs.Machine.{setting_of}
-use Rattle.impulse.specs.Closing.{Shut, shut}
 use Rattle.impulse_slice.specs.Noted.{Noted, noted_of, note_all, state_after, handed, told}
 use Rattle.dc.specs.declared.DcBlocker.{DcBlocker}
 use Rattle.dc.specs.declared.Blocked.{Blocked}
@@ -21,7 +20,7 @@ use Rattle.stage_mode.specs.View.{mode_of}
 use Rattle.chain_state.specs.declared.InputConditioner.{InputConditioner}
 use Rattle.chain_state.specs.declared.Counts.{Counts}
 use Rattle.chain_state.specs.Fits.{state_fits}
-use Rattle.chain_state.specs.Changed.{after_turn}
+use Rattle.chain_state.specs.Changed.{after_call}
 
 -- the new part of a slice: 'the held samples, then the new'
 abbrev pub new_part : InputConditioner → List ℕ → List ℕ
@@ -40,27 +39,6 @@ impulse_out c new = cond c.settings.impulse (handed (setting_in c) c.suppressor 
 
 unfoldable pub impulse_told : InputConditioner → List ℕ → List Event
 impulse_told c new = cond c.settings.impulse (told (setting_in c) c.suppressor new) []
-
--- a stage that is off has nothing to close
-unfoldable pub impulse_shut : InputConditioner → Shut
-impulse_shut c = cond c.settings.impulse (shut (setting_in c) c.suppressor) (record { state = c.suppressor; out = []; news = [] })
-
--- what a call or a close brings to the other stages: how many samples are new, the impulse stage after them, what it hands on and what happens there, and
--- whether the chain is closed then
-pub record Turn : Type 0 where
-  pub new : ℕ
-  pub after : ImpulseSuppressor
-  pub out : List ℕ
-  pub told : List Event
-  pub closed : Bool
-
-abbrev pub call_turn : InputConditioner → List ℕ → Turn
-call_turn c new =
-    record { new = length new; after = impulse_after c new; out = impulse_out c new; told = impulse_told c new; closed = c.closed }
-
--- 'reads no new samples'
-abbrev pub close_turn : InputConditioner → Turn
-close_turn c = let h = impulse_shut c in record { new = 0; after = h.state; out = h.out; told = h.news; closed = true }
 
 -- the blocker after samples, and on how many of them its limit acted
 abbrev pub dc_after : Mode → DcBlocker → List ℕ → Blocked
@@ -101,22 +79,25 @@ machine_of c spans repairs = record { state = c; spans = spans; repairs = repair
 abbrev pub notes_in : Machine → Noted
 notes_in m = noted_of m.state.notes m.spans m.repairs
 
--- what is released of what the impulse stage hands on
-unfoldable pub released_by : InputConditioner → List ℕ → List ℕ
-released_by c out = map (corrected_by (settled_of c.settings.iq)) (blocked_by (mode_of c.settings.dc) c.blocker out)
+-- what the DC stage gets, the IQ stage gets, and what is released
+abbrev pub dc_out : InputConditioner → List ℕ → List ℕ
+dc_out c new = blocked_by (mode_of c.settings.dc) c.blocker (impulse_out c new)
+
+unfoldable pub hands_on : InputConditioner → List ℕ → List ℕ
+hands_on c new = map (corrected_by (settled_of c.settings.iq)) (dc_out c new)
 
 -- the notes of the impulse stage, and then the marks over what is released
-unfoldable pub notes_after : Machine → Turn → Noted
-notes_after m t = note_all m.state.settings.spans m.state.settings.repairs (notes_in m) t.told
+unfoldable pub notes_after : Machine → List ℕ → Noted
+notes_after m new = note_all m.state.settings.spans m.state.settings.repairs (notes_in m) (impulse_told m.state new)
 
-abbrev pub released_span : InputConditioner → Turn → Span
-released_span c t = span_of c.counts.released (length t.out)
+abbrev pub released_span : InputConditioner → List ℕ → Span
+released_span c new = span_of c.counts.released (length (impulse_out c new))
 
-unfoldable pub logged_after : Machine → Turn → Logged
-logged_after m t =
+unfoldable pub logged_after : Machine → List ℕ → Logged
+logged_after m new =
     let c = m.state in
     let cap = c.settings.spans in
-    noted_iq cap (settled_of c.settings.iq) (noted_dc cap (mode_of c.settings.dc) (notes_after m t).logged (released_span c t)) (released_span c t)
+    noted_iq cap (settled_of c.settings.iq) (noted_dc cap (mode_of c.settings.dc) (notes_after m new).logged (released_span c new)) (released_span c new)
 
 -- so many are new, so many of all that wait are released, and on so many of these the DC limit acted
 abbrev pub counts_after : InputConditioner → ℕ → ℕ → ℕ → Counts
@@ -129,31 +110,26 @@ counts_after c new ready clamped =
     }
 
 -- the rings of spans and the repair ring come with their stores
-abbrev pub machine_after : InputConditioner → Counts → ImpulseSuppressor → DcBlocker → Logged → rules.Ring → ℕ → Bool → Machine
-machine_after c n s b logged repairs longruns closed =
+abbrev pub machine_after : InputConditioner → Counts → ImpulseSuppressor → DcBlocker → Logged → rules.Ring → ℕ → Machine
+machine_after c n s b logged repairs longruns =
     let notes : Notes = record { log = logged.log; repairs = bare repairs; longruns = longruns } in
-    machine_of (after_turn c n s b notes closed) logged.spans repairs.words
-
--- the chain after a turn
-unfoldable pub carried : Machine → Turn → Machine
-carried m t =
-    let c = m.state in
-    let noted = notes_after m t in
-    let after = dc_after (mode_of c.settings.dc) c.blocker t.out in
-    machine_after c
-    (counts_after c t.new (length t.out) after.clamped)
-    t.after
-    after.blocker
-    (logged_after m t)
-    noted.repairs
-    noted.longruns
-    t.closed
+    machine_of (after_call c n s b notes) logged.spans repairs.words
 
 -- the chain after new samples
-abbrev pub process : Machine → List ℕ → Machine
-process m new = carried m (call_turn m.state new)
+unfoldable pub process : Machine → List ℕ → Machine
+process m new =
+    let c = m.state in
+    let noted = notes_after m new in
+    let after = dc_after (mode_of c.settings.dc) c.blocker (impulse_out c new) in
+    machine_after c
+    (counts_after c (length new) (length (impulse_out c new)) after.clamped)
+    (impulse_after c new)
+    after.blocker
+    (logged_after m new)
+    noted.repairs
+    noted.longruns
 
--- ---- what a call or a close that is not refused has
+-- ---- what a call that is not refused has
 
 -- a fit state, with its stores
 pub record Stored (c : InputConditioner) (spans repairs : List ℕ) : Type 0 where
@@ -164,11 +140,7 @@ pub record Stored (c : InputConditioner) (spans repairs : List ℕ) : Type 0 whe
   pub spans_long : length spans ≡ store_width * c.settings.spans
   pub ends : ends_fit c.settings.spans (record { log = c.notes.log; spans = spans }) ≡ true
 
-pub record Closable (c : InputConditioner) (len : ℕ) (spans repairs : List ℕ) : Type 0 where
-  pub stored : Stored c spans repairs
-  pub still_open : c.closed ≡ false
-  pub held_in : c.counts.held ≤ len
-
 pub record Acceptable (c : InputConditioner) (samples spans repairs : List ℕ) : Type 0 where
-  pub closable : Closable c (length samples) spans repairs
+  pub stored : Stored c spans repairs
+  pub held_in : c.counts.held ≤ length samples
   pub few : length samples - c.counts.held ≤ total_limit - c.counts.seen

@@ -1,6 +1,5 @@
 pub mod SliceLaws
 pub mod Processing
-pub mod CloseLaws
 pub mod CallTests
 pub mod Places
 pub mod Keeping

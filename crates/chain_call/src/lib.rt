@@ -1,23 +1,21 @@
-// A call: new samples through the stages impulse, DC, IQ, in place; and of a close what is the same.
+// A call: new samples through the stages impulse, DC, IQ, in place.
 
-ghost use Rattle.std.specs.Prelude.{◌≡◌, true, ◌++◌, map, ◌+◌, ◌-◌, ◌^◌, ◌≤◌, ◌<◌, length, take, drop};
+ghost use Rattle.std.specs.Prelude.{◌≡◌, ◌++◌, map, ◌+◌, ◌^◌, ◌≤◌, ◌<◌, length, take, drop};
 ghost use Rattle.rules.specs.Impulse.{window_size};
 ghost use Rattle.rules.specs.Log.{span_of};
 ghost use Rattle.rules.specs.Iq.{corrected_by};
 ghost use Rattle.rules.specs.Answers.{accepted, number_of};
 ghost use Rattle.rules.specs.Refusals.{too_many};
 ghost use Rattle.rules.specs.Constants.{total_limit};
-ghost use Rattle.log.specs.View.{Logged, with_log};
+ghost use Rattle.log.specs.View.{Logged};
 ghost use Rattle.log.specs.Ready.{Bounded};
 ghost use Rattle.impulse.specs.View.{suppressor_of};
 ghost use Rattle.iq.specs.View.{settled_of};
 ghost use Rattle.stage_mode.specs.View.{mode_of};
 ghost use Rattle.impulse_slice.specs.Noted.{noted_of, note_all, over};
-ghost use Rattle.chain_state.specs.Fits.{state_fits};
-ghost use Rattle.chain_state.specs.Changed.{after_turn};
-ghost use Rattle.chain.specs.Stages.{machine_of, notes_in, impulse_after, impulse_out, impulse_told, dc_after, blocked_by, noted_dc, noted_iq, released_by};
-ghost use Rattle.chain.specs.Stages.{Acceptable};
-ghost use Rattle.chain.specs.Calls.{close_refusal, unread_refusal, told_unread, told_read, taken_call, called};
+ghost use Rattle.chain.specs.Stages.{machine_of, notes_in, new_part, impulse_after, impulse_out, impulse_told, dc_after, blocked_by, noted_dc, noted_iq, hands_on};
+ghost use Rattle.chain.specs.Stages.{process, Acceptable};
+ghost use Rattle.chain.specs.Calls.{unread_refusal, told_unread, told_read, called};
 ghost use Rattle.chain_call.specs.Said.{said};
 
 use chain_state::{Counts, InputConditioner};
@@ -29,15 +27,13 @@ use log::{Log, Mark, Stage};
 use sample_guard::Found;
 use stage_mode::StageMode;
 
-// How a call or a close is answered.
+// How a call is answered.
 #[derive(Drop)]
 pub enum Conditioned {
     // So many samples are released, from the slice's first place on.
     Ready(usize),
     // Number 5.
     BadState,
-    // Number 16: the chain is closed.
-    Closed,
     // Number 4.
     BadLength,
     // Number 6: the slice is shorter than what is held.
@@ -194,41 +190,35 @@ fn mark_released(
     mark_iq(marked, iq, spans, capacity, start, ready)
 }
 
-// The DC and the IQ stage over the first `ready` samples, which the impulse stage handed on, and the
-// chain after them. `new` is how many samples came, and `closed` whether the chain takes no more.
-pub fn carry(
+// The stages one after another, over a slice that is not refused.
+pub fn accept(
     state: InputConditioner,
-    ran: Ran,
-    suppressor: ImpulseSuppressor,
-    new: usize,
-    closed: bool,
     samples: &mut [u64],
     spans: &mut [u64],
+    repairs: &mut [u64],
 ) -> Called
-    requires state_value { state_fits state ≡ true }
-    requires ready_in_bounds { (ran.ready ≤ length samples.old) × (ran.ready ≤ total_limit) × («new» ≤ total_limit) × (ran.ready ≤ state.counts.held + «new») }
-    requires bounded { Bounded state.settings.spans (2 ^ 54) (record { log = ran.notes.log; spans = spans.old }) }
-    ensures answer { said result.answer ≡ accepted ran.ready }
-    ensures state { result.state
-        ≡ (let d = dc_after (mode_of state.settings.dc) state.blocker (take ran.ready samples.old) in
-        after_turn state
-        (record {
-          seen = state.counts.seen + «new»;
-          released = state.counts.released + ran.ready;
-          held = state.counts.held + «new» - ran.ready;
-          clamped = state.counts.clamped + d.clamped;
-        })
-        suppressor d.blocker (with_log ran.notes result.state.notes.log) closed) }
-    ensures marked { ◌≡◌ {A = Logged} (record { log = result.state.notes.log; spans = spans.new })
-        (noted_iq state.settings.spans (settled_of state.settings.iq)
-        (noted_dc state.settings.spans (mode_of state.settings.dc) (record { log = ran.notes.log; spans = spans.old })
-        (span_of state.counts.released ran.ready))
-        (span_of state.counts.released ran.ready)) }
-    ensures written { samples.new
-        ≡ released_by state (take ran.ready samples.old) ++ drop ran.ready samples.old }
+    requires { unread_refusal state (length samples.old) spans.old repairs.old ≡ 0 }
+    ensures answer { said result.answer ≡ accepted (length (hands_on state (new_part state samples.old))) }
+    ensures chain { machine_of result.state spans.new repairs.new
+        ≡ process (machine_of state spans.old repairs.old) (new_part state samples.old) }
+    ensures written { samples.new ≡ over (hands_on state (new_part state samples.old)) samples.old }
 {
-    let ready = ran.ready;
+    let len = samples.len();
     let counts = state.counts;
+    let new = len - counts.held;
+    let mut window = state.suppressor.window;
+    let mut sorted = state.suppressor.sorted;
+    let mut pending = state.suppressor.pending;
+    let ran = suppress(
+        state,
+        samples,
+        &mut window,
+        &mut sorted,
+        &mut pending,
+        spans,
+        repairs,
+    );
+    let ready = ran.ready;
     let set = state.settings;
     let mode = set.dc;
     let iq = set.iq;
@@ -246,51 +236,6 @@ pub fn carry(
         counts.released,
         ready as u64,
     );
-    notes.log = marked;
-    let counts = Counts {
-        seen: counts.seen + new as u64,
-        released: counts.released + ready as u64,
-        held: counts.held + new - ready,
-        clamped: counts.clamped + blocked.clamped,
-    };
-    let mut after = state;
-    after.counts = counts;
-    after.suppressor = suppressor;
-    after.blocker = blocker;
-    after.notes = notes;
-    after.closed = closed;
-    Called {
-        state: after,
-        answer: Conditioned::Ready(ready),
-    }
-}
-
-// The stages one after another, over a slice that is not refused.
-pub fn accept(
-    state: InputConditioner,
-    samples: &mut [u64],
-    spans: &mut [u64],
-    repairs: &mut [u64],
-) -> Called
-    requires { unread_refusal state (length samples.old) spans.old repairs.old ≡ 0 }
-    ensures answer { said result.answer ≡ (taken_call (machine_of state spans.old repairs.old) samples.old).said }
-    ensures chain { machine_of result.state spans.new repairs.new
-        ≡ (taken_call (machine_of state spans.old repairs.old) samples.old).machine }
-    ensures written { samples.new ≡ (taken_call (machine_of state spans.old repairs.old) samples.old).samples }
-{
-    let new = samples.len() - state.counts.held;
-    let mut window = state.suppressor.window;
-    let mut sorted = state.suppressor.sorted;
-    let mut pending = state.suppressor.pending;
-    let ran = suppress(
-        state,
-        samples,
-        &mut window,
-        &mut sorted,
-        &mut pending,
-        spans,
-        repairs,
-    );
     let gate = ran.gate;
     let suppressor = ImpulseSuppressor {
         gate,
@@ -298,7 +243,22 @@ pub fn accept(
         sorted,
         pending,
     };
-    carry(state, ran, suppressor, new, state.closed, samples, spans)
+    notes.log = marked;
+    let counts = Counts {
+        seen: counts.seen + new as u64,
+        released: counts.released + ready as u64,
+        held: len - ready,
+        clamped: counts.clamped + blocked.clamped,
+    };
+    let mut after = state;
+    after.counts = counts;
+    after.suppressor = suppressor;
+    after.blocker = blocker;
+    after.notes = notes;
+    Called {
+        state: after,
+        answer: Conditioned::Ready(ready),
+    }
 }
 
 // Whether the total with so many new samples is above 2^48.
@@ -311,23 +271,17 @@ fn too_many(seen: u64, new: usize) -> bool
     log::TOTAL_LIMIT - seen < new as u64
 }
 
-// What refuses a close, and a call before anything else: 5, 16, 4 or 6, by the state, the length of the
-// slice and the stores. `Ready(0)` where nothing does.
-pub fn close_refusal(
-    state: InputConditioner,
-    len: usize,
-    spans: &[u64],
-    repairs: &[u64],
-) -> Conditioned
-    ensures { said result ≡ told_unread (close_refusal state len spans.now repairs.now) }
+// What refuses a call before a sample is read: 5, 4, 6 or 8, by the state, the length of the slice and
+// the stores. `Ready(0)` where nothing does.
+pub fn refusal(state: InputConditioner, len: usize, spans: &[u64], repairs: &[u64]) -> Conditioned
+    ensures { said result ≡ told_unread (unread_refusal state len spans.now repairs.now) }
 {
     let set = state.settings;
     let log = state.notes.log;
+    let held = state.counts.held;
+    let seen = state.counts.seen;
     if !state.fits() {
         return Conditioned::BadState;
-    }
-    if state.closed {
-        return Conditioned::Closed;
     }
     if repairs.len() != log::REPAIR_WORDS * set.repairs {
         return Conditioned::BadLength;
@@ -338,21 +292,8 @@ pub fn close_refusal(
     if !log.ends_fit(spans, set.spans) {
         return Conditioned::BadState;
     }
-    if len < state.counts.held {
+    if len < held {
         return Conditioned::Short;
-    }
-    Conditioned::Ready(0)
-}
-
-// What refuses a call before a sample is read: what refuses a close, or 8. `Ready(0)` where nothing does.
-pub fn refusal(state: InputConditioner, len: usize, spans: &[u64], repairs: &[u64]) -> Conditioned
-    ensures { said result ≡ told_unread (unread_refusal state len spans.now repairs.now) }
-{
-    let held = state.counts.held;
-    let seen = state.counts.seen;
-    let shut = close_refusal(state, len, spans, repairs);
-    if number(shut) != 0 {
-        return shut;
     }
     if too_many(seen, len - held) {
         return Conditioned::TooMany;
@@ -380,7 +321,6 @@ pub fn number(answer: Conditioned) -> u64
     match answer {
         Conditioned::Ready(_) => 0,
         Conditioned::BadState => 5,
-        Conditioned::Closed => 16,
         Conditioned::BadLength => 4,
         Conditioned::Short => 6,
         Conditioned::TooMany => 8,

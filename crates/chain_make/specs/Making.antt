@@ -50,7 +50,6 @@ fresh_state g =
       blocker = blocker_of (corner g.fs) first_level;
       monitor = image.fresh;
       notes = fresh_notes;
-      closed = false;
     }
 
 -- ---- the answer

@@ -98,7 +98,6 @@ fn fresh_state(config: ConditioningConfig) -> InputConditioner
         blocker,
         monitor,
         notes,
-        closed: false,
     }
 }
 

@@ -1,5 +1,4 @@
 -- A state with some of its parts changed, each operation's by name. Definitions only.
-use Rattle.std.specs.Prelude.{Bool}
 use Rattle.log.specs.declared.Log.{Log}
 use Rattle.log.specs.declared.Notes.{Notes}
 use Rattle.log.specs.View.{with_log}
@@ -9,20 +8,11 @@ use Rattle.iq_monitor.specs.declared.ImageMonitor.{ImageMonitor}
 use Rattle.chain_state.specs.declared.Counts.{Counts}
 use Rattle.chain_state.specs.declared.InputConditioner.{InputConditioner}
 
--- what a call or a close changes
-abbrev pub after_turn : InputConditioner → Counts → ImpulseSuppressor → DcBlocker → Notes → Bool → InputConditioner
-after_turn c n s b t closed =
-    record { settings = c.settings; counts = n; suppressor = s; blocker = b; monitor = c.monitor; notes = t; closed = closed }
+-- what a call changes
+abbrev pub after_call : InputConditioner → Counts → ImpulseSuppressor → DcBlocker → Notes → InputConditioner
+after_call c n s b t = record { settings = c.settings; counts = n; suppressor = s; blocker = b; monitor = c.monitor; notes = t }
 
 -- what a hop changes: the monitor, and the rings of spans
 abbrev pub after_hop : InputConditioner → ImageMonitor → Log → InputConditioner
 after_hop c m l =
-    record {
-      settings = c.settings;
-      counts = c.counts;
-      suppressor = c.suppressor;
-      blocker = c.blocker;
-      monitor = m;
-      notes = with_log c.notes l;
-      closed = c.closed;
-    }
+    record { settings = c.settings; counts = c.counts; suppressor = c.suppressor; blocker = c.blocker; monitor = m; notes = with_log c.notes l }

@@ -1,5 +1,4 @@
--- Number 5 as far as it speaks of a state, by document 01 and document 02, R-2: its causes in groups, each as a test that a fit state passes. Definitions
--- only.
+-- Document 01's number 5, as far as it speaks of a state: its causes in groups, each as a test that a fit state passes. Definitions only.
 use Rattle.std.specs.Prelude.{Bool, true, cond, ◌&&◌, ℕ, ◌+◌, min, ltb, leb, eqb}
 use Rattle.rules.specs.Constants.{counter_limit}
 use Rattle.rules.specs.Refusals.{within_limit}
@@ -35,13 +34,6 @@ counter k = leb k counter_limit
 unfoldable pub settings_fit : Settings → ℕ → Bool
 settings_fit s block = eqb (setting_refusal s.fs s.n s.spans s.repairs) 0 && eqb block (block_length s.fs)
 
--- ---- a closed chain
-
--- the number of samples that held, pending, window and an open run go by: all that came, and none once closed. 'Once closed, held is 0, pending and window
--- are empty and no run is open, and number 5 tests that instead'
-abbrev pub waiting : Bool → ℕ → ℕ
-waiting closed n = cond closed 0 n
-
 -- ---- the counts
 
 abbrev pub applies : InputConditioner → Bool
@@ -49,13 +41,13 @@ applies c = c.settings.impulse && c.suppressor.gate.settings.apply
 
 -- 'min(21, received) if impulse applies, else .. 0'
 abbrev pub held_by : Bool → ℕ → ℕ
-held_by applies n = cond applies (min lookahead_size n) 0
+held_by applies seen = cond applies (min lookahead_size seen) 0
 
 -- not: 'released + held ≠ received; held not min(21, received) if impulse applies, else not 0'
-unfoldable pub counts_fit : Bool → Bool → Counts → Bool
-counts_fit applies closed n =
+unfoldable pub counts_fit : Bool → Counts → Bool
+counts_fit applies n =
     counter n.seen && counter n.released && counter n.clamped
-    && eqb n.held (held_by applies (waiting closed n.seen))
+    && eqb n.held (held_by applies n.seen)
     && eqb (n.released + n.held) n.seen
 
 -- ---- the impulse stage
@@ -73,20 +65,20 @@ abbrev pub left_fits : Left → Bool
 left_fits Missing = true
 left_fits (Neighbour x) = within_limit x
 
-unfoldable pub gate_fits : Gate → Bool → Bool
-gate_fits g closed =
+unfoldable pub gate_fits : Gate → Bool
+gate_fits g =
     counter g.received && counter g.block.number && counter g.block.flagged
-    && run_fits g.mending.run (next_judged (waiting closed g.received))
+    && run_fits g.mending.run (next_judged g.received)
     && left_fits g.mending.left
 
 -- not: 'when impulse runs, pending ≠ min(21, received), window ≠ min(33, received) or its sorted list not that window sorted'. The stage's own count
--- says what the arrays hold, so it has to be n: that of the samples seen, or 0 once closed.
+-- says what the arrays hold, so it has to be that of the samples seen.
 unfoldable pub running_fits : ImpulseSuppressor → ℕ → Bool
-running_fits m n = eqb m.gate.received n && sorted_fits (window_held m.gate.received) m.window m.sorted
+running_fits m seen = eqb m.gate.received seen && sorted_fits (window_held m.gate.received) m.window m.sorted
 
 -- the arrays in every mode, and the rest where the stage runs
 unfoldable pub suppressor_fits : ImpulseSuppressor → Bool → ℕ → Bool
-suppressor_fits m running n = arrays_fit m.gate.received m.window m.pending && cond running (running_fits m n) true
+suppressor_fits m running seen = arrays_fit m.gate.received m.window m.pending && cond running (running_fits m seen) true
 
 -- ---- the other stages
 
@@ -122,11 +114,8 @@ stages_fit c = blocker_fits c.blocker && coefficient_fits (settled_of c.settings
 unfoldable pub front_fits : InputConditioner → Bool
 front_fits c =
     settings_fit c.settings c.suppressor.gate.settings.blocklen
-    && counts_fit (applies c) c.closed c.counts
-    && gate_fits c.suppressor.gate c.closed
+    && counts_fit (applies c) c.counts
+    && gate_fits c.suppressor.gate
 
 unfoldable pub state_fits : InputConditioner → Bool
-state_fits c =
-    front_fits c
-    && suppressor_fits c.suppressor c.settings.impulse (waiting c.closed c.counts.seen)
-    && logs_fit c && stages_fit c
+state_fits c = front_fits c && suppressor_fits c.suppressor c.settings.impulse c.counts.seen && logs_fit c && stages_fit c

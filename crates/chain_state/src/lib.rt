@@ -2,7 +2,7 @@
 
 ghost use Rattle.std.specs.Prelude.{◌≡◌, true, false, ◌&&◌};
 ghost use Rattle.iq.specs.View.{settled_of};
-ghost use Rattle.chain_state.specs.Fits.{counter, settings_fit, applies, held_by, counts_fit, waiting, ends_at, run_fits, left_fits, gate_fits, suppressor_fits};
+ghost use Rattle.chain_state.specs.Fits.{counter, settings_fit, applies, held_by, counts_fit, ends_at, run_fits, left_fits, gate_fits, suppressor_fits};
 ghost use Rattle.chain_state.specs.Fits.{blocker_fits, coefficient_fits, begun_fits, monitor_fits, logs_fit, stages_fit, front_fits, state_fits};
 
 use dc::DcBlocker;
@@ -42,8 +42,6 @@ pub struct InputConditioner {
     pub blocker: DcBlocker,
     pub monitor: ImageMonitor,
     pub notes: Notes,
-    // A close was accepted: no more samples are taken.
-    pub closed: bool,
 }
 
 // ---- the settings
@@ -72,33 +70,23 @@ fn counters_fit(a: u64, b: u64, c: u64) -> bool
     c <= log::COUNTER_LIMIT
 }
 
-// How many samples held, pending, window and an open run go by: all that came, and none once closed.
-fn waiting(closed: bool, n: u64) -> u64
-    ensures { result ≡ waiting closed n }
-{
-    if closed {
-        return 0;
-    }
-    n
-}
-
-// How many samples are held of n.
-fn held_by(applies: bool, n: u64) -> usize
-    ensures { result ≡ held_by applies n }
+// How many samples are held of so many seen.
+fn held_by(applies: bool, seen: u64) -> usize
+    ensures { result ≡ held_by applies seen }
 {
     if !applies {
         return 0;
     }
-    impulse_arrays::holds(ImpulseSuppressor::LOOKAHEAD, n)
+    impulse_arrays::holds(ImpulseSuppressor::LOOKAHEAD, seen)
 }
 
-fn counts_fit(applies: bool, closed: bool, counts: Counts) -> bool
-    ensures { result ≡ counts_fit applies closed counts }
+fn counts_fit(applies: bool, counts: Counts) -> bool
+    ensures { result ≡ counts_fit applies counts }
 {
     if !counters_fit(counts.seen, counts.released, counts.clamped) {
         return false;
     }
-    if counts.held != held_by(applies, waiting(closed, counts.seen)) {
+    if counts.held != held_by(applies, counts.seen) {
         return false;
     }
     counts.released + counts.held as u64 == counts.seen
@@ -137,8 +125,8 @@ fn left_fits(left: Left) -> bool
     }
 }
 
-fn gate_fits(g: Gate, closed: bool) -> bool
-    ensures { result ≡ gate_fits g closed }
+fn gate_fits(g: Gate) -> bool
+    ensures { result ≡ gate_fits g }
 {
     let mending = g.mending;
     let run = mending.run;
@@ -146,15 +134,15 @@ fn gate_fits(g: Gate, closed: bool) -> bool
     if !counters_fit(g.received, g.block.number, g.block.flagged) {
         return false;
     }
-    if !run_fits(run, impulse::next_judged(waiting(closed, g.received))) {
+    if !run_fits(run, impulse::next_judged(g.received)) {
         return false;
     }
     left_fits(left)
 }
 
-// The arrays, and where the stage runs that it has received n samples, and its sorted list.
-fn suppressor_fits(m: ImpulseSuppressor, running: bool, n: u64) -> bool
-    ensures { result ≡ suppressor_fits m running n }
+// The arrays, and where the stage runs how many samples it has received, and its sorted list.
+fn suppressor_fits(m: ImpulseSuppressor, running: bool, seen: u64) -> bool
+    ensures { result ≡ suppressor_fits m running seen }
 {
     let gate = m.gate;
     let window = m.window;
@@ -166,7 +154,7 @@ fn suppressor_fits(m: ImpulseSuppressor, running: bool, n: u64) -> bool
     if !running {
         return true;
     }
-    if gate.received != n {
+    if gate.received != seen {
         return false;
     }
     impulse_arrays::sorted_fits(
@@ -258,14 +246,14 @@ impl InputConditioner {
         if !settings_fit(settings, gate.settings.blocklen) {
             return false;
         }
-        if !counts_fit(self.applies(), self.closed, counts) {
+        if !counts_fit(self.applies(), counts) {
             return false;
         }
-        gate_fits(gate, self.closed)
+        gate_fits(gate)
     }
 
     fn impulse_fits(self) -> bool
-        ensures { result ≡ suppressor_fits self.suppressor self.settings.impulse (waiting self.closed self.counts.seen) }
+        ensures { result ≡ suppressor_fits self.suppressor self.settings.impulse self.counts.seen }
     {
         let settings = self.settings;
         let suppressor = self.suppressor;
@@ -273,11 +261,7 @@ impl InputConditioner {
         if is_untouched(settings.impulse, gate.received) {
             return true;
         }
-        suppressor_fits(
-            suppressor,
-            settings.impulse,
-            waiting(self.closed, self.counts.seen),
-        )
+        suppressor_fits(suppressor, settings.impulse, self.counts.seen)
     }
 
     fn logs_fit(self) -> bool

@@ -117,11 +117,6 @@ rings = pending + lookahead_size
 abbrev pub counts : ℕ
 counts = rings + 12 * 3
 
--- ---- whether the recording is closed
-
-abbrev pub closed : ℕ
-closed = counts + 12
-
 -- how many words there are
 abbrev pub state_words : ℕ
-state_words = closed + 1
+state_words = counts + 12

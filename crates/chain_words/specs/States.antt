@@ -157,5 +157,4 @@ state_of ws =
       blocker = blocker_in ws;
       monitor = monitor_in ws;
       notes = notes_in ws;
-      closed = flag_of (word ws place.closed);
     }

@@ -1,4 +1,4 @@
--- A state as words: the numbers of each part in order, then the arrays, then the log, then whether it is closed. Definitions only.
+-- A state as words: the numbers of each part in order, then the arrays, then the log. Definitions only.
 use Rattle.std.specs.Prelude.{Bool, cond, List, [], ◌∷◌, ◌++◌, map, ℕ, Float}
 use Rattle.std.specs.Float.{binary32, binary64}
 use Rattle.std.specs.Float.Ieee.{to_bits}
@@ -130,9 +130,5 @@ stage_words s = settings_words s.settings ++ (gate_words s.suppressor.gate ++ bl
 abbrev pub counter_words : InputConditioner → List ℕ
 counter_words s = monitor_words s.monitor ++ (counts_words s.counts ++ notes_words s.notes)
 
--- what stands behind the arrays
-abbrev pub last_words : InputConditioner → List ℕ
-last_words s = log_words s.notes.log ++ (flag_word s.closed ∷ [])
-
 unfoldable pub words_of : InputConditioner → List ℕ
-words_of s = stage_words s ++ (counter_words s ++ (arrays_words s.suppressor ++ last_words s))
+words_of s = stage_words s ++ (counter_words s ++ (arrays_words s.suppressor ++ log_words s.notes.log))

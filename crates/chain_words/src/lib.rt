@@ -7,7 +7,7 @@ ghost use Rattle.rules.specs.Impulse.{window_size, lookahead_size};
 ghost use Rattle.chain_words.specs.Places as place;
 ghost use Rattle.chain_words.specs.Words.{flag_word, power_word, mode_word, iq_words, run_words, left_words, begun_words, settings_words, gate_settings_words};
 ghost use Rattle.chain_words.specs.Words.{mending_words, block_words, gate_words, blocker_words, monitor_words, counts_words, ring_words, notes_words};
-ghost use Rattle.chain_words.specs.Words.{powers_words, arrays_words, rings_words, log_words, stage_words, counter_words, last_words, words_of};
+ghost use Rattle.chain_words.specs.Words.{powers_words, arrays_words, rings_words, log_words, stage_words, counter_words, words_of};
 ghost use Rattle.chain_words.specs.States.{flag_of, power_of, mode_at, complex_at, iq_at, run_at, left_at, begun_at, settings_in, gate_settings_in, mending_in};
 ghost use Rattle.chain_words.specs.States.{block_in, gate_in, blocker_in, monitor_in, counts_in, part, powers_in, suppressor_in, ring_in, log_in, notes_in};
 ghost use Rattle.chain_words.specs.States.{state_of};
@@ -91,11 +91,9 @@ const PENDING: usize = SORTED + ImpulseSuppressor::WINDOW;
 pub const RINGS: usize = PENDING + ImpulseSuppressor::LOOKAHEAD;
 
 const COUNTS: usize = RINGS + 36;
-// Whether the recording is closed.
-pub const CLOSED: usize = COUNTS + 12;
 
 // How many words a state has.
-pub const STATE_WORDS: usize = CLOSED + 1;
+pub const STATE_WORDS: usize = COUNTS + 12;
 
 // ---- one word
 
@@ -529,7 +527,6 @@ pub fn read_state(words: &[u64; STATE_WORDS]) -> InputConditioner
         blocker: read_blocker(words),
         monitor: read_monitor(words),
         notes: read_notes(words),
-        closed: flag_of(words[CLOSED]),
     }
 }
 
@@ -629,16 +626,6 @@ fn write_arrays(m: ImpulseSuppressor, words: &mut [u64; STATE_WORDS])
     put(&pending, words, PENDING);
 }
 
-// The log, and whether the recording is closed.
-fn write_last(state: InputConditioner, words: &mut [u64; STATE_WORDS])
-    requires { length words.old ≡ place.state_words }
-    ensures { words.new ≡ take place.rings words.old ++ last_words state }
-{
-    let log = state.notes.log;
-    put_log(log, words, RINGS);
-    words[CLOSED] = flag_word(state.closed);
-}
-
 // ---- what the types say of the floats
 
 fn complex_typed(z: Complex64)
@@ -678,11 +665,12 @@ pub fn write_state(state: InputConditioner, words: &mut [u64; STATE_WORDS])
     let settings = state.settings;
     let suppressor = state.suppressor;
     let blocker = state.blocker;
+    let log = state.notes.log;
     sized(*words);
     settings_typed(settings);
     blocker_typed(blocker);
     write_stages(state, words);
     write_counters(state, words);
     write_arrays(suppressor, words);
-    write_last(state, words);
+    put_log(log, words, RINGS);
 }

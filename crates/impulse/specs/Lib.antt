@@ -2,7 +2,6 @@
 pub mod Machine
 pub mod View
 pub mod Running
-pub mod Closing
 pub mod Room
 pub mod Circle
 pub mod State

@@ -149,19 +149,19 @@ decided s g j l false =
     let x = get_or l (j % lookahead s) 0 in
     record { gate = with_neighbour g x; uncertain = g.block.paused; ended = ending s m.run l; pending = ending_pending s m.run m.left x l }
 
--- a sample of power p is flagged by a window of n powers, or of w if that is less: its strongest `trim` are left out of the mean
+-- a sample of power p is flagged, when n samples have come: the strongest `trim` of the window are left out of the mean
 unfoldable pub flagged_by : ℕ → ℕ → ℕ → List Float → Float → Bool
 flagged_by w trim n sorted p = stands_out (mean (take (min n w - trim) sorted)) p
 
--- sample j has power p, and its window n powers
-unfoldable pub judge : Setting → Gate → ℕ → ℕ → Float → List Float → List ℕ → Judgement
-judge s g j n p sorted l = decided s (entered g j) j l (flagged_by (width s) s.trim n sorted p)
+-- sample j has power p
+unfoldable pub judge : Setting → Gate → ℕ → Float → List Float → List ℕ → Judgement
+judge s g j p sorted l = decided s (entered g j) j l (flagged_by (width s) s.trim (entered g j).received sorted p)
 
 -- 'Sample j is judged when j+16 arrives': sample i has come, and is in the arrays. The first ones judge none.
 unfoldable pub verdict : Setting → Gate → ℕ → List Float → List Float → List ℕ → Judgement
 verdict s g i window sorted l =
     let j = i - s.half in
-    let d = judge s g j g.received (get_or window (j % width s) nan) sorted l in
+    let d = judge s g j (get_or window (j % width s) nan) sorted l in
     cond (ltb i s.half) (record { gate = g; uncertain = false; ended = going; pending = l }) d
 
 -- ---- pushing

@@ -1,4 +1,4 @@
--- What a push and a close ask of the gate's numbers, so that none of their sums wraps. Definitions only.
+-- What a push asks of the gate's numbers, so that none of its sums wraps. Definitions only.
 use Rattle.std.specs.Prelude.{ℕ, ◌+◌, ◌^◌, ◌≤◌, ◌<◌}
 use Rattle.impulse.specs.declared.Open.{Open}
 use Rattle.impulse.specs.declared.Open.TheVariants.{Running, Closed}
@@ -11,6 +11,6 @@ run_end (Running r) = r.start + r.len
 
 pub record Room (g : Gate) : Type 0 where
   pub blocks : 0 < g.settings.blocklen
-  pub early : g.received ≤ 2 ^ 52
+  pub early : g.received ≤ 2 ^ 50
   pub few : g.block.flagged ≤ 2 ^ 52 + g.received
   pub behind : run_end g.mending.run ≤ g.received

@@ -12,7 +12,6 @@ use Rattle.rules.specs.Impulse.{Setting, width, lookahead, judged}
 use Rattle.impulse.specs.declared.Run.{Run}
 use Rattle.impulse.specs.declared.Open.TheVariants.{Running}
 use Rattle.impulse.specs.declared.Left.TheVariants.{Neighbour}
-use Rattle.impulse.specs.declared.Gate.{Gate}
 use Rattle.impulse.specs.declared.ImpulseSuppressor.{ImpulseSuppressor}
 use Rattle.impulse.specs.State.{padded}
 
@@ -20,25 +19,18 @@ use Rattle.impulse.specs.State.{padded}
 abbrev pub PowerWithin : Float → Type 0
 PowerWithin p = Within p (2 ^ 115) 1 × Plain binary32 p
 
--- the gate, when n samples have come; a close leaves one that has received none
-pub record SoundGate (s : Setting) (n : ℕ) (g : Gate) : Type 0 where
-  -- the counters
-  pub received : g.received ≤ n
-  pub block : g.block.number ≤ n
-  pub flags : g.block.flagged ≤ n
-  -- an open run is not empty, and ends at the next sample to be judged
-  pub run : (r : Run) → g.mending.run ≡ Running r → (0 < r.len) × (r.start + r.len ≡ judged s g.received)
-  -- the parts, within 1e18
-  pub left : (x : ℕ) → g.mending.left ≡ Neighbour x → WordWithin (2 ^ 59) x
-
 -- m stands when n samples have come
 pub record Sound (s : Setting) (n : ℕ) (m : ImpulseSuppressor) : Type 0 where
-  -- the settings, and the gate
+  -- the settings and the counters
   pub apply : m.gate.settings.apply ≡ s.apply
   pub blocklen : m.gate.settings.blocklen ≡ s.block
   pub received : m.gate.received ≡ n
-  pub gate : SoundGate s n m.gate
+  pub block : m.gate.block.number ≤ n
+  pub flags : m.gate.block.flagged ≤ n
+  -- an open run is not empty, and ends at the next sample to be judged
+  pub run : (r : Run) → m.gate.mending.run ≡ Running r → (0 < r.len) × (r.start + r.len ≡ judged s n)
   -- the parts, within 1e18; the powers, within 1e36, with no sign bit
+  pub left : (x : ℕ) → m.gate.mending.left ≡ Neighbour x → WordWithin (2 ^ 59) x
   pub pending : All (WordWithin (2 ^ 59)) m.pending
   pub powers : All PowerWithin m.window
   -- the sorted list is that window sorted

@@ -3,13 +3,10 @@ pub mod CircleLaws
 pub mod RunLaws
 pub mod Step
 pub mod RunningLaws
-pub mod ClosingLaws
 pub mod Theorem
 pub mod ViewLaws
 pub mod PartBounds
 pub mod StateBounds
 pub mod Stage
-pub mod Closes
 pub mod Once
-pub mod Counts
 pub mod Repairs

@@ -11,7 +11,6 @@ ghost use Rattle.impulse.specs.View.{suppressor_of, ended_of, judged_of, pushed_
 ghost use Rattle.impulse.specs.Room.{run_end, Room};
 ghost use Rattle.impulse_window.specs.Rising.{Rising};
 
-mod closing;
 mod runs;
 
 use impulse_pause::PauseEdition;
@@ -160,23 +159,21 @@ pub fn next_judged(received: u64) -> u64
     received - ImpulseSuppressor::HALF_WINDOW as u64
 }
 
-// How many of a window's n powers are kept, or of the full window's if that is less.
+// How many of the window's powers are kept, when n samples have come.
 fn kept(n: u64) -> usize
+    requires { trim_size ≤ n }
     ensures { result ≡ min n window_size - trim_size }
 {
-    if n < ImpulseSuppressor::TRIM as u64 {
-        return 0;
-    }
     if n < ImpulseSuppressor::WINDOW as u64 {
         return n as usize - ImpulseSuppressor::TRIM;
     }
     ImpulseSuppressor::WINDOW - ImpulseSuppressor::TRIM
 }
 
-// A sample of power p is flagged by a window of n powers. `rising`: it is known that the powers ascend
+// A sample of power p is flagged, when n samples have come. `rising`: it is known that the powers ascend
 // from 0 on.
 fn is_flagged(sorted: &[f32; ImpulseSuppressor::WINDOW], n: u64, p: f32, rising: bool) -> bool
-    requires sorted_len { length sorted.now ≡ window_size }
+    requires trim_size_le_n { (trim_size ≤ n) × (length sorted.now ≡ window_size) }
     requires rising { rising ≡ true → Rising 0 sorted.now }
     ensures { result ≡ flagged_by window_size trim_size n sorted.now p }
 {
@@ -185,7 +182,7 @@ fn is_flagged(sorted: &[f32; ImpulseSuppressor::WINDOW], n: u64, p: f32, rising:
 
 // The run that a flagged sample j opens or lengthens.
 fn grown(run: Open, j: u64, paused: bool) -> Run
-    requires { run_end run ≤ 2 ^ 53 }
+    requires { run_end run ≤ 2 ^ 52 }
     ensures { result ≡ grown run j paused }
 {
     match run {
@@ -267,7 +264,7 @@ impl Gate {
 
     // After a flagged sample.
     fn with_run(self, r: Run) -> Gate
-        requires { self.block.flagged ≤ 2 ^ 54 }
+        requires { self.block.flagged ≤ 2 ^ 53 }
         ensures { result ≡ with_run self r }
     {
         let last = self.mending;
@@ -295,7 +292,7 @@ impl Gate {
 
     // Ends a run at its right neighbour: mends it, or keeps it where it is too long, paused or only observed.
     fn close(self, r: Run, right: u64, pending: &mut [u64; ImpulseSuppressor::LOOKAHEAD]) -> Ended
-        requires { r.start + r.len ≤ 2 ^ 53 }
+        requires { r.start + r.len ≤ 2 ^ 52 }
         ensures result { result ≡ ended_of (closing (setting_of self) r pending.old) }
         ensures words { pending.new ≡ closing_pending (setting_of self) r self.mending.left right pending.old }
     {
@@ -331,7 +328,7 @@ impl Gate {
 
     // Ends the open run, if there is one.
     fn ending(self, right: u64, pending: &mut [u64; ImpulseSuppressor::LOOKAHEAD]) -> Ended
-        requires { run_end self.mending.run ≤ 2 ^ 53 }
+        requires { run_end self.mending.run ≤ 2 ^ 52 }
         ensures result { result ≡ ended_of (ending (setting_of self) self.mending.run pending.old) }
         ensures words { pending.new ≡ ending_pending (setting_of self) self.mending.run self.mending.left right pending.old }
     {
@@ -343,25 +340,24 @@ impl Gate {
         self.close(r, right, pending)
     }
 
-    // Judges sample j, whose power is p and whose window has n powers.
+    // Judges sample j, whose power is p.
     fn judge(
         self,
         j: u64,
-        n: u64,
         p: f32,
         sorted: &[f32; ImpulseSuppressor::WINDOW],
         pending: &mut [u64; ImpulseSuppressor::LOOKAHEAD],
         rising: bool,
     ) -> Judged
-        requires blocklen_nonzero { (0 < self.settings.blocklen) × (self.block.flagged ≤ 2 ^ 54) × (run_end self.mending.run ≤ 2 ^ 53)
+        requires blocklen_nonzero { (0 < self.settings.blocklen) × (trim_size ≤ self.received) × (self.block.flagged ≤ 2 ^ 53) × (run_end self.mending.run ≤ 2 ^ 52)
             × (length sorted.now ≡ window_size) }
         requires rising { rising ≡ true → Rising 0 sorted.now }
-        ensures result { result ≡ judged_of (judge (setting_of self) self j n p sorted.now pending.old) }
-        ensures words { pending.new ≡ (judge (setting_of self) self j n p sorted.now pending.old).pending }
+        ensures result { result ≡ judged_of (judge (setting_of self) self j p sorted.now pending.old) }
+        ensures words { pending.new ≡ (judge (setting_of self) self j p sorted.now pending.old).pending }
     {
         let g = self.entered(j);
         let uncertain = g.block.paused;
-        if is_flagged(sorted, n, p, rising) {
+        if is_flagged(sorted, g.received, p, rising) {
             let mending = g.mending;
             let run = mending.run;
             let r = grown(run, j, uncertain);
@@ -390,7 +386,7 @@ impl Gate {
         pending: &mut [u64; ImpulseSuppressor::LOOKAHEAD],
         rising: bool,
     ) -> Judged
-        requires blocklen_nonzero { (0 < self.settings.blocklen) × (i ≤ self.received) × (self.block.flagged ≤ 2 ^ 54) × (run_end self.mending.run ≤ 2 ^ 53)
+        requires blocklen_nonzero { (0 < self.settings.blocklen) × (i ≤ self.received) × (self.block.flagged ≤ 2 ^ 53) × (run_end self.mending.run ≤ 2 ^ 52)
             × (length sorted.now ≡ window_size) }
         requires rising { rising ≡ true → Rising 0 sorted.now }
         ensures result { result ≡ judged_of (verdict (setting_of self) self i window.now sorted.now pending.old) }
@@ -406,7 +402,7 @@ impl Gate {
         }
         let j = i - ImpulseSuppressor::HALF_WINDOW as u64;
         let at = (j % ImpulseSuppressor::WINDOW as u64) as usize;
-        self.judge(j, self.received, window[at], sorted, pending, rising)
+        self.judge(j, window[at], sorted, pending, rising)
     }
 
     // Takes the next raw sample. The answer is the sample that is released: of an applying suppressor

@@ -32,7 +32,7 @@ pub fn neighbour(left: Left, right: u64) -> u64
 
 // Original t of the run of n that starts at `start`, and 0 past its end.
 fn original(pending: &[u64; ImpulseSuppressor::LOOKAHEAD], start: u64, n: u64, t: u64) -> u64
-    requires { start + n ≤ 2 ^ 53 }
+    requires { start + n ≤ 2 ^ 52 }
     ensures { result ≡ get_or (read_run lookahead_size pending.now start n) t 0 }
 {
     if t < n {
@@ -43,7 +43,7 @@ fn original(pending: &[u64; ImpulseSuppressor::LOOKAHEAD], start: u64, n: u64, t
 }
 
 pub fn repair(pending: &[u64; ImpulseSuppressor::LOOKAHEAD], start: u64, n: u64) -> Repair
-    requires { start + n ≤ 2 ^ 53 }
+    requires { start + n ≤ 2 ^ 52 }
     ensures { result ≡ repair_of start n (read_run lookahead_size pending.now start n) }
 {
     Repair {
@@ -81,7 +81,7 @@ pub fn mend(
     start: u64,
     n: u64,
 )
-    requires { (n ≤ longest_run) × (start + n ≤ 2 ^ 53) }
+    requires { (n ≤ longest_run) × (start + n ≤ 2 ^ 52) }
     ensures { pending.new ≡ write_run lookahead_size pending.old left right start n n }
 {
     let mut t: u64 = 0;

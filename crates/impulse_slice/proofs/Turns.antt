@@ -1,12 +1,12 @@
 -- What holds between two pushes of a run: suppressor, notes and samples stand as the samples taken so far lead; and what one push adds. Assumes nothing.
 use mathlib.Core.Path.{◌≡◌, ap, sym, ◌∙◌, subst}
-use mathlib.Core.List.{List, [], ◌∷◌, ◌++◌}
+use mathlib.Core.List.{List, [], ◌∷◌, ◌++◌, append-nil}
 use Prim.Native.Nat.{ℕ, suc, ◌+◌, ◌-◌, ◌^◌, ◌≤◌, ◌<◌}
 use native.Mathlib.Nat.{add-sub_of_le}
 use native.Mathlib.Omega.{arith}
 use lib.Dec.{lit<}
 use lib.ListN.{length, get_or, take, drop, length-append, length-drop}
-use lib.Seq.{take_all, take-suc, get_or-drop, length-take-le}
+use lib.Seq.{drop-drop, take_all, take-suc, take-append_seam, drop-append-add, get_or-drop, get_or-append-add, length-take-le}
 use lib.Ieee.{Float}
 use Rattle.rules.specs.Impulse.{Setting, window_size, next_judged}
 use Rattle.impulse.specs.declared.Gate.{Gate}
@@ -15,15 +15,12 @@ use Rattle.impulse.specs.declared.ImpulseSuppressor.{ImpulseSuppressor}
 use Rattle.impulse.specs.Machine.{setting_of, push}
 use Rattle.impulse.specs.View.{suppressor_of, pushed_of, given}
 use Rattle.impulse.specs.Room.{Room}
-use Rattle.impulse.specs.Running.{step, emit, news}
-use Rattle.impulse.specs.laws.RunningLaws.{outs_more}
-use Rattle.impulse.specs.laws.RoomLaws.{setting_step}
+use Rattle.impulse.specs.Running.{outs, step, emit, news}
+use Rattle.impulse.specs.laws.RunningLaws.{after_append, outs_append}
 use Rattle.impulse_slice.specs.Noted.{Noted, note_all, doubts, filled_events, ended_end, state_after, handed, told, placed, over, Roomy}
-use Rattle.impulse_slice.specs.laws.NotesLaws.{roomy_up}
+use Rattle.impulse_slice.specs.laws.NotesLaws.{note_none, note_append, said_same, roomy_up}
 use Rattle.impulse_slice.specs.laws.MoveLaws.{push_moves}
-use Rattle.impulse_slice.specs.laws.StageLaws.{room_after, sorted_after, handed_most, roomy_after}
-use Rattle.impulse_slice.proofs.Overs.{over_read, over_length, over_placed}
-use Rattle.impulse_slice.proofs.Leading.{said_as, Led, led_first, led_setting, led_next}
+use Rattle.impulse_slice.specs.laws.StageLaws.{setting_after, room_after, sorted_after, handed_most, roomy_after}
 
 -- ---- one push, by what the code answers
 
@@ -42,14 +39,35 @@ module _ (g : Gate) (w s : List Float) (l : List ℕ) (x : ℕ) (p : Pushed) (e 
       → n' ≡ note_all span_capacity repair_capacity n (doubts j p.uncertain ++ filled_events p.ended)
       → n' ≡ note_all span_capacity repair_capacity n (news (setting_of g) (suppressor_of g w s l) x)
   said span_capacity repair_capacity n n' j f h =
-      said_as span_capacity repair_capacity n n' (push (setting_of g) (suppressor_of g w s l) x).ended f (ap (λ (q : Pushed). q.uncertain) e)
-      (ap (λ (q : Pushed). q.ended) e) h
+      let o = push (setting_of g) (suppressor_of g w s l) x in
+      h
+      ∙ (λ i. note_all span_capacity repair_capacity n (doubts (f i) (e i).uncertain ++ filled_events (e i).ended))
+      ∙ said_same span_capacity repair_capacity n (next_judged g.received) o.uncertain o.ended
 
   -- a run that ended lies before the sample
   pub ended_early : Room g → ended_end p.ended ≤ 2 ^ 60
   ended_early r =
       let q = (push_moves (setting_of g) (suppressor_of g w s l) x).last in
       subst (λ (q : Pushed). ended_end q.ended ≤ 2 ^ 60) (sym e) (omega (arith, q, r.behind, r.early))
+
+-- ---- a list with others in front
+
+over_read : (ys xs : List ℕ) (k : ℕ) → length ys ≤ k → get_or (over ys xs) k 0 ≡ get_or xs k 0
+over_read ys xs k h =
+    ap (λ (n : ℕ). get_or (over ys xs) n 0) (sym (add-sub_of_le h))
+    ∙ get_or-append-add ys (drop (length ys) xs) (k - length ys) 0
+    ∙ get_or-drop (length ys) xs (k - length ys) 0
+    ∙ ap (λ (n : ℕ). get_or xs n 0) (add-sub_of_le h)
+
+over_length : (ys xs : List ℕ) → length ys ≤ length xs → length (over ys xs) ≡ length xs
+over_length ys xs h = omega (arith, length-append ys (drop (length ys) xs), length-drop (length ys) xs)
+
+over_placed : (ys new xs : List ℕ) → placed (over ys xs) (length ys) new ≡ over (ys ++ new) xs
+over_placed ys new xs =
+    let a = take-append_seam ys (drop (length ys) xs) in
+    let b = drop-append-add ys (drop (length ys) xs) (length new) ∙ drop-drop (length new) (length ys) xs
+    ∙ ap (λ (n : ℕ). drop n xs) (sym (length-append ys new)) in
+    λ i. (a i ++ new) ++ b i
 
 -- ---- all of them
 
@@ -64,7 +82,8 @@ module _ (span_capacity repair_capacity held : ℕ) (m₀ : ImpulseSuppressor) (
   pub record Going (m : ImpulseSuppressor) (n : Noted) (xs : List ℕ) (out k : ℕ) : Type 0 where
     pub from : held ≤ k
     pub inside : k ≤ length xs₀
-    pub led : Led span_capacity repair_capacity step news setting_step m₀ n₀ m n (taken k)
+    pub state : m ≡ state_after (setting_of m₀.gate) m₀ (taken k)
+    pub notes : n ≡ note_all span_capacity repair_capacity n₀ (told (setting_of m₀.gate) m₀ (taken k))
     pub ready : out ≡ length (handed (setting_of m₀.gate) m₀ (taken k))
     pub written : xs ≡ over (handed (setting_of m₀.gate) m₀ (taken k)) xs₀
 
@@ -79,9 +98,13 @@ module _ (span_capacity repair_capacity held : ℕ) (m₀ : ImpulseSuppressor) (
       ∙ take-suc (drop held xs₀) (k - held) 0 b
       ∙ ap (λ (x : ℕ). taken k ++ (x ∷ [])) (get_or-drop held xs₀ (k - held) 0 ∙ ap (λ (n : ℕ). get_or xs₀ n 0) (add-sub_of_le f))
 
-  handed_next : (k : ℕ) → held ≤ k → k < length xs₀
-      → handed s m₀ (taken (k + 1)) ≡ handed s m₀ (taken k) ++ emit s (state_after s m₀ (taken k)) (get_or xs₀ k 0)
-  handed_next k f h = ap (handed s m₀) (taken_next k f h) ∙ outs_more (step s) (emit s) m₀ (taken k) (get_or xs₀ k 0)
+  outs_next : {Y : Type 0} (e : ImpulseSuppressor → ℕ → List Y) (k : ℕ) → held ≤ k → k < length xs₀
+      → outs (step s) e m₀ (taken (k + 1)) ≡ outs (step s) e m₀ (taken k) ++ e (state_after s m₀ (taken k)) (get_or xs₀ k 0)
+  outs_next e k f h =
+      let x = get_or xs₀ k 0 in
+      ap (outs (step s) e m₀) (taken_next k f h)
+      ∙ outs_append (step s) e m₀ (taken k) (x ∷ [])
+      ∙ ap (λ l. outs (step s) e m₀ (taken k) ++ l) (append-nil (e (state_after s m₀ (taken k)) x))
 
   handed_few : (k : ℕ) → k ≤ length xs₀ → length (handed s m₀ (taken k)) ≤ k - held
   handed_few k h = omega (arith, handed_most s m₀ (taken k), taken_length k h)
@@ -96,14 +119,14 @@ module _ (span_capacity repair_capacity held : ℕ) (m₀ : ImpulseSuppressor) (
     length_same = ap length g.written ∙ over_length (handed s m₀ (taken k)) xs₀ (omega (arith, handed_few k g.inside, g.inside))
 
     pub going_full : length m₀.sorted ≡ window_size → length m.sorted ≡ window_size
-    going_full h = ap (λ (q : ImpulseSuppressor). length q.sorted) g.led.state ∙ sorted_after s m₀ (taken k) (lit< tt) h
+    going_full h = ap (λ (q : ImpulseSuppressor). length q.sorted) g.state ∙ sorted_after s m₀ (taken k) (lit< tt) h
 
     pub going_room : k < length xs₀ → (held < length xs₀ → Room m₀.gate × (m₀.gate.received + (length xs₀ - held) ≤ 2 ^ 50)) → Room m.gate
     going_room h may =
         let e : held < length xs₀ = omega (arith, g.from) in
         let l = taken_length k g.inside in
         let w = (may e).1 in
-        subst (λ (q : ImpulseSuppressor). Room q.gate) (sym g.led.state) (room_after s m₀ (taken k) (may e).0 (omega arith))
+        subst (λ (q : ImpulseSuppressor). Room q.gate) (sym g.state) (room_after s m₀ (taken k) (may e).0 (omega arith))
 
     pub going_roomy : k < length xs₀ → (held < length xs₀ → Room m₀.gate × (m₀.gate.received + (length xs₀ - held) ≤ 2 ^ 50))
         → Roomy span_capacity repair_capacity (2 ^ 52) n₀ → Roomy span_capacity repair_capacity (2 ^ 60) n
@@ -112,8 +135,8 @@ module _ (span_capacity repair_capacity held : ℕ) (m₀ : ImpulseSuppressor) (
         let l = taken_length k g.inside in
         let w = (may e).1 in
         let few : m₀.gate.received + length (taken k) ≤ 2 ^ 50 = omega arith in
-        subst (λ (q : Noted). Roomy span_capacity repair_capacity (2 ^ 60) q) (sym g.led.notes)
-        (roomy_up span_capacity repair_capacity (2 ^ 54) (2 ^ 60) (note_all span_capacity repair_capacity n₀ (told s m₀ (taken k))) (omega arith)
+        subst (λ (q : Noted). Roomy span_capacity repair_capacity (2 ^ 60) q) (sym g.notes)
+        (roomy_up span_capacity repair_capacity (2 ^ 53) (2 ^ 60) (note_all span_capacity repair_capacity n₀ (told s m₀ (taken k))) (omega arith)
         (roomy_after span_capacity repair_capacity n₀ s m₀ (taken k) (λ z. ((may e).0, few)) r))
 
     -- ---- the next turn
@@ -129,24 +152,30 @@ module _ (span_capacity repair_capacity held : ℕ) (m₀ : ImpulseSuppressor) (
         let ys = handed s m₀ (taken k) in
         let now = state_after s m₀ (taken k) in
         let read : get_or xs k 0 ≡ x = ap (λ (l : List ℕ). get_or l k 0) g.written ∙ over_read ys xs₀ k (omega (arith, handed_few k g.inside)) in
-        let is = led_setting span_capacity repair_capacity step news setting_step m₀ n₀ m n (taken k) g.led in
-        let hands = handed_next k g.from h in
+        let is : setting_of m.gate ≡ s = ap (λ (q : ImpulseSuppressor). setting_of q.gate) g.state ∙ setting_after s m₀ (taken k) in
+        let hands = outs_next (emit s) k g.from h in
+        let tells = outs_next (news s) k g.from h in
         record {
           from = omega (arith, g.from);
           inside = omega arith;
-          led =
-              subst (Led span_capacity repair_capacity step news setting_step m₀ n₀ m' n') (sym (taken_next k g.from h))
-              (led_next span_capacity repair_capacity step news setting_step m₀ n₀ m n (taken k) g.led m' n' x
-              (a ∙ ap (step (setting_of m.gate) m) read)
-              (b ∙ ap (λ (y : ℕ). note_all span_capacity repair_capacity n (news (setting_of m.gate) m y)) read));
+          state =
+              a
+              ∙ (λ i. step (is i) (g.state i) (read i))
+              ∙ sym (after_append (step s) m₀ (taken k) (x ∷ []))
+              ∙ ap (state_after s m₀) (sym (taken_next k g.from h));
+          notes =
+              b
+              ∙ (λ i. note_all span_capacity repair_capacity (g.notes i) (news (is i) (g.state i) (read i)))
+              ∙ sym (note_append span_capacity repair_capacity n₀ (told s m₀ (taken k)) (news s now x))
+              ∙ ap (note_all span_capacity repair_capacity n₀) (sym tells);
           ready =
               c
-              ∙ (λ i. g.ready i + length (emit (is i) (g.led.state i) (read i)))
+              ∙ (λ i. g.ready i + length (emit (is i) (g.state i) (read i)))
               ∙ sym (length-append ys (emit s now x))
               ∙ ap length (sym hands);
           written =
               d
-              ∙ (λ i. placed (g.written i) (g.ready i) (emit (is i) (g.led.state i) (read i)))
+              ∙ (λ i. placed (g.written i) (g.ready i) (emit (is i) (g.state i) (read i)))
               ∙ over_placed ys (emit s now x) xs₀
               ∙ ap (λ (l : List ℕ). over l xs₀) (sym hands);
         }
@@ -161,9 +190,8 @@ module _ (span_capacity repair_capacity held : ℕ) (m₀ : ImpulseSuppressor) (
       record {
         from = omega arith;
         inside = h;
-        led =
-            subst (Led span_capacity repair_capacity step news setting_step m₀ n₀ m₀ n₀) none
-            (led_first span_capacity repair_capacity step news setting_step m₀ n₀);
+        state = ap (state_after s m₀) none;
+        notes = sym (note_none span_capacity repair_capacity n₀) ∙ ap (λ (l : List ℕ). note_all span_capacity repair_capacity n₀ (told s m₀ l)) none;
         ready = ap (λ (l : List ℕ). length (handed s m₀ l)) none;
         written = ap (λ (l : List ℕ). over (handed s m₀ l) xs₀) none;
       }

@@ -1,17 +1,14 @@
-// The impulse stage over the new part of a call's slice, in place, its close, and what it tells the log.
+// The impulse stage over the new part of a call's slice, in place, and what it tells the log.
 
-ghost use Rattle.std.specs.Prelude.{◌≡◌, true, List, ◌++◌, ℕ, ◌+◌, ◌-◌, ◌^◌, ◌≤◌, ◌<◌, min, length, get_or, drop};
+ghost use Rattle.std.specs.Prelude.{◌≡◌, List, ◌++◌, ℕ, ◌+◌, ◌-◌, ◌^◌, ◌≤◌, ◌<◌, length, get_or, drop};
 ghost use Rattle.rules.specs.Lists.{indicator};
-ghost use Rattle.rules.specs.Impulse.{window_size, lookahead_size};
+ghost use Rattle.rules.specs.Impulse.{window_size};
 ghost use Rattle.log.specs.Ready.{Bounded};
 ghost use Rattle.impulse.specs.Machine.{setting_of};
 ghost use Rattle.impulse.specs.View.{suppressor_of, given};
 ghost use Rattle.impulse.specs.Room.{Room};
 ghost use Rattle.impulse.specs.Running.{step, emit, news};
-ghost use Rattle.impulse.specs.Closing.{shut};
 ghost use Rattle.impulse_slice.specs.Noted.{noted_of, note_all, doubts, filled_events, ended_end, state_after, handed, told, placed, over, Roomy};
-
-mod closing;
 
 use impulse::{Answer, Ended, Gate, ImpulseSuppressor};
 use log::{Mark, Notes, Repair, Stage};
@@ -302,58 +299,5 @@ pub fn run(
         gate,
         notes: said,
         ready: out,
-    }
-}
-
-// ---- the close
-
-// Closes the recording: the rest is judged, a run that is still open is kept, all that was held goes to
-// the front of the slice, and the stage is empty.
-pub fn finish(
-    samples: &mut [u64],
-    first: Gate,
-    window: &mut [f32; ImpulseSuppressor::WINDOW],
-    sorted: &mut [f32; ImpulseSuppressor::WINDOW],
-    pending: &mut [u64; ImpulseSuppressor::LOOKAHEAD],
-    notes: Notes,
-    spans: &mut [u64],
-    span_capacity: usize,
-    repairs: &mut [u64],
-    repair_capacity: usize,
-) -> Ran
-    requires room { Room first }
-    requires received_in_bounds { first.settings.apply ≡ true → min lookahead_size first.received ≤ length samples.old }
-    requires sorted_len { length sorted.old ≡ window_size }
-    requires roomy { Roomy span_capacity repair_capacity (2 ^ 52) (noted_of notes spans.old repairs.old) }
-    ensures suppressor { suppressor_of result.gate window.new sorted.new pending.new
-        ≡ (shut (setting_of first) (suppressor_of first window.old sorted.old pending.old)).state }
-    ensures noted { noted_of result.notes spans.new repairs.new
-        ≡ note_all span_capacity repair_capacity (noted_of notes spans.old repairs.old)
-        (shut (setting_of first) (suppressor_of first window.old sorted.old pending.old)).news }
-    ensures ready { result.ready
-        ≡ length (shut (setting_of first) (suppressor_of first window.old sorted.old pending.old)).out }
-    ensures written { samples.new
-        ≡ over (shut (setting_of first) (suppressor_of first window.old sorted.old pending.old)).out
-        samples.old }
-{
-    let t = closing::settle(
-        first,
-        window,
-        sorted,
-        pending,
-        notes,
-        spans,
-        span_capacity,
-        repairs,
-        repair_capacity,
-    );
-    let last = t.gate;
-    let said = t.notes;
-    let ready = closing::hand_on(samples, last, pending);
-    closing::clear(window, sorted, pending);
-    Ran {
-        gate: last.emptied(),
-        notes: said,
-        ready,
     }
 }

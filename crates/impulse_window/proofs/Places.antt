@@ -5,7 +5,7 @@ use mathlib.Core.List.{List, [], ◌∷◌, ◌++◌, append_assoc}
 use Prim.Native.Nat.{ℕ, zero, suc, ◌+◌, ◌≤◌, ◌<◌}
 use native.Mathlib.Omega.{arith}
 use lib.ListN.{length, get_or, set, take, drop, length-take}
-use lib.Seq.{take_all, take_at, take-take, take-append-le, drop-append-le, length-take-le}
+use lib.Seq.{take_all, take_at, take-append-le, drop-append-le, length-take-le}
 use Rattle.rules.specs.Sort.{insert, remove}
 use Rattle.impulse_window.specs.Ordering.{rank, without, put_in}
 
@@ -24,22 +24,6 @@ module _ {A : Type 0} where
   without_split [] (suc i) = refl
   without_split (c ∷ l) zero = refl
   without_split (c ∷ l) (suc i) = ap (λ (t : List A). c ∷ t) (without_split l i)
-
-  -- the front of a list with a gap in it, and what stands behind it
-  pub without_front : (l : List A) (i n : ℕ) → i ≤ n → take n (without l i) ≡ without (take (suc n) l) i
-  unfolding without
-  without_front [] i n h = take_all n [] (omega arith)
-  without_front (c ∷ l) zero n h = refl
-  without_front (c ∷ l) (suc i) zero h = absurd (omega arith)
-  without_front (c ∷ l) (suc i) (suc n) h = ap (λ (t : List A). c ∷ t) (without_front l i n (omega arith))
-
-  pub without_rest : (l : List A) (i n : ℕ) → i ≤ n → drop n (without l i) ≡ drop (suc n) l
-  unfolding without
-  without_rest [] i zero h = refl
-  without_rest [] i (suc n) h = refl
-  without_rest (c ∷ l) zero n h = refl
-  without_rest (c ∷ l) (suc i) zero h = absurd (omega arith)
-  without_rest (c ∷ l) (suc i) (suc n) h = without_rest l i n (omega arith)
 
   -- before the gap and behind it
   pub without_before : (l : List A) (i k : ℕ) (d : A) → k < i → get_or (without l i) k d ≡ get_or l k d
@@ -144,7 +128,7 @@ module _ {A : Type 0} (lt : A → A → Bool) (p : A) where
       go true r = ap (λ (t : List A). c ∷ t) r
       go false r = take_all (suc n) l (omega arith)
 
--- ---- the three updates
+-- ---- the two updates
 
 module _ {A : Type 0} (lt : A → A → Bool) where
   pub take_without : (l : List A) (i : ℕ) → i ≤ length l → take i (without l i) ≡ take i l
@@ -181,15 +165,3 @@ module _ {A : Type 0} (lt : A → A → Bool) where
       ∙ sym (insert_put lt p (without l gap))
       ∙ ap (λ (k : ℕ). insert lt p (without l k)) g
       ∙ ap (insert lt p) (sym (remove_without lt old n l h))
-
-  -- the same, and place n of what is left is filled
-  pub shrinking : (l : List A) (n gap : ℕ) (old p : A) → n < length l → gap ≡ rank lt old (take n (without l n))
-      → put_in (without l gap) n p ≡ take n (remove lt old (take (suc n) l)) ++ (p ∷ drop (suc n) l)
-  shrinking l n gap old p h e =
-      let g : gap ≡ rank lt old (take n (take (suc n) l)) = e ∙ ap (rank lt old) (take_without l n (omega arith) ∙ sym (take-take n (suc n) l (omega arith))) in
-      let r : gap ≤ n = omega (arith, e, rank_take lt old n (without l n)) in
-      let front = without_front l gap n r
-      ∙ ap (without (take (suc n) l)) g
-      ∙ sym (remove_without lt old n (take (suc n) l) (length-take-le (suc n) l (omega arith))) in
-      let rest = without_rest l gap n r in
-      λ i. front i ++ (p ∷ rest i)

@@ -8,7 +8,7 @@ ghost use Rattle.rules.specs.Constants.{zero_f, impulse_ratio};
 ghost use Rattle.rules.specs.Sort.{insert, remove};
 ghost use Rattle.rules.specs.Lists.{All};
 ghost use Rattle.rules.specs.Impulse.{window_size, power_of, stands_out};
-ghost use Rattle.impulse_window.specs.Ordered.{ordered, shrunk, mean};
+ghost use Rattle.impulse_window.specs.Ordered.{ordered, mean};
 ghost use Rattle.impulse_window.specs.Ordering.{rank, without, put_in};
 ghost use Rattle.impulse_window.specs.Rising.{climbs, Held, Rising, least, most, moved, blended, thirty_two};
 
@@ -229,16 +229,6 @@ pub fn take_in(window: &mut [f32; WINDOW], sorted: &mut [f32; WINDOW], i: u64, x
     let rising = order(sorted, i, window[slot], p);
     window[slot] = p;
     rising
-}
-
-// Of the window's m powers the old one goes out, and none comes in.
-pub fn take_out(sorted: &mut [f32; WINDOW], m: usize, old: f32)
-    requires { (0 < m) × (m ≤ window_size) × (length sorted.old ≡ window_size) }
-    ensures { sorted.new ≡ shrunk m old sorted.old }
-{
-    let last = m - 1;
-    let gap = rank(sorted, last, last, old);
-    put(sorted, gap, last, 0.0);
 }
 
 // ---- the flag

@@ -1,6 +1,6 @@
--- Document 01, 'Lists of calls', and document 02, R-2: sample calls, a close and hops handed to a chain one after another, what they leave, and demand 3 as
--- a record with a part for each of its sentences. Definitions only.
-use Rattle.std.specs.Prelude.{◌≡◌, Bool, true, false, cond, List, [], ◌∷◌, ◌++◌, ℕ, ◌+◌, ◌*◌, ◌≤◌, length, take, drop, replicate, Float}
+-- Document 01, 'Lists of calls': sample calls and hops handed to a chain one after another, what they leave, and demand 3 as a record with a part for each of
+-- its sentences. Definitions only.
+use Rattle.std.specs.Prelude.{◌≡◌, Bool, true, false, List, [], ◌∷◌, ◌++◌, ℕ, ◌+◌, ◌*◌, ◌≤◌, length, take, drop, Float}
 use Rattle.rules.specs.Constants.{zero_f, total_limit}
 use Rattle.rules.specs.Mode.{off, apply}
 use Rattle.rules.specs.Log.{Stage, Mark, ring_number, repairs_of, repair_width, store_width}
@@ -9,9 +9,7 @@ use Rattle.rules.specs.Answers.{Said, accepted, nothing, refused, is_accepted}
 use Rattle.rules.specs.Chain.{released, held_of, clamped_of, ring_of, impulse_events, repair_ring, long_runs_of, dc_level, settled_by, evidence, last_words}
 use Rattle.log.specs.View.{ring_in, marks_at}
 use Rattle.rules.specs.Guard.{Usable}
-use Rattle.rules.specs.Impulse.{window_size, lookahead_size, Input, unclosed}
-use Rattle.impulse.specs.declared.Open.TheVariants.{Closed}
-use Rattle.impulse.specs.declared.ImpulseSuppressor.{ImpulseSuppressor}
+use Rattle.rules.specs.Impulse.{lookahead_size}
 use Rattle.iq.specs.View.{settled_of}
 use Rattle.stage_mode.specs.View.{mode_of}
 use Rattle.chain_config.specs.declared.ConditioningConfig.{ConditioningConfig}
@@ -21,7 +19,7 @@ use Rattle.chain_make.specs.Making.{fresh_state, making_said, made_words}
 use Rattle.chain_log.specs.Reading.{state_level}
 use Rattle.chain.specs.Stages.{Machine, machine_of, new_part}
 use Rattle.chain.specs.Calls as calls
-use Rattle.chain.specs.Calls.{called, closed_by}
+use Rattle.chain.specs.Calls.{called}
 use Rattle.chain_hop.specs.Hops.{said_hop, Hopped, hop_of}
 use Rattle.chain_undo.specs.Undoing.{undo_of}
 
@@ -51,11 +49,10 @@ pub record Lent : Type 0 where
 abbrev pub all_own : Lent
 all_own = record { state = own; spans = own; repairs = own; words = own }
 
--- 'Each call or hop has a slice of its own', and 'the close takes a call's slice'
+-- 'Each call or hop has a slice of its own'
 pub data Act : Type 0 where
   -- the slice
   call : List ℕ → Act
-  close : List ℕ → Act
   -- the start and the channels
   hop : Hop → Act
 
@@ -73,7 +70,6 @@ ownly a = record { lent = all_own; act = a }
 -- what it is accepted with: how many samples are ready; a hop's answer
 abbrev pub Value : Act → Type 0
 Value (call slice) = ℕ
-Value (close slice) = ℕ
 Value (hop h) = Answer
 
 -- the answer, the machine, the monitor's words, and the slice
@@ -93,7 +89,6 @@ after_hopped repairs slice o =
 
 abbrev pub applied : (a : Act) → Machine → List Float → Outcome (Value a)
 applied (call slice) m ws = after_called (called m slice) ws
-applied (close slice) m ws = after_called (closed_by m slice) ws
 applied (hop h) m ws = after_hopped m.repairs h.channels (hop_of m.state h.channels h.start m.spans ws)
 
 -- ---- a chain, and what its accepted operations came to
@@ -102,30 +97,24 @@ pub record Chain : Type 0 where
   -- the state, the span store and the repair store; the monitor's words
   pub machine : Machine
   pub words : List Float
-  -- the samples that accepted calls brought, joined, and whether a close was accepted
-  pub brought : Input
-  -- the samples that calls and a close released, joined
+  -- the samples that accepted calls brought, joined, and those that they released
+  pub brought : List ℕ
   pub released : List ℕ
   -- the accepted hops, and 'the accepted hops' answers in order'
   pub hops : List Hop
   pub answers : List Answer
 
--- more samples, and a close
-abbrev pub more : Input → List ℕ → Input
-more i new = record { samples = i.samples ++ new; closed = i.closed }
-
-abbrev pub closing : Input → Input
-closing i = record { samples = i.samples; closed = true }
-
--- an accepted call or close. 'Ready is how many samples a call releases, from its first place on'
-abbrev pub turned : Chain → Outcome ℕ → Input → ℕ → Chain
-turned y o i k =
-    record { machine = o.machine; words = o.words; brought = i; released = y.released ++ take k o.slice; hops = y.hops; answers = y.answers }
-
--- what an accepted one adds. 'one that adds without a report is accepted'
+-- what an accepted one adds. 'Ready is how many samples a call releases, from its first place on'; 'one that adds without a report is accepted'
 abbrev pub advance : (a : Act) → Chain → Outcome (Value a) → Value a → Chain
-advance (call slice) y o k = turned y o (more y.brought (new_part y.machine.state slice)) k
-advance (close slice) y o k = turned y o (closing y.brought) k
+advance (call slice) y o k =
+    record {
+      machine = o.machine;
+      words = o.words;
+      brought = y.brought ++ new_part y.machine.state slice;
+      released = y.released ++ take k o.slice;
+      hops = y.hops;
+      answers = y.answers;
+    }
 advance (hop h) y o a =
     record {
       machine = o.machine;
@@ -195,19 +184,19 @@ made_chain g spans repairs words =
     record {
       machine = machine_of (fresh_state g) (made_words 0 said spans) (made_words 0 said repairs);
       words = made_words zero_f said words;
-      brought = unclosed [];
+      brought = [];
       released = [];
       hops = [];
       answers = [];
     }
 
--- ---- what the rules give for the whole input: what was brought, and the hops
+-- ---- what the rules give for the whole input: the samples brought and the hops
 
 pub record ByRules (g : ConditioningConfig) (y : Chain) : Type 0 where
   -- 'joined released samples, bits included'
   pub released : y.released ≡ released (config_of g) y.brought
   -- 'Log, as the last state and stores hold it: these three' (released, seen, held)
-  pub seen : y.machine.state.counts.seen ≡ length y.brought.samples
+  pub seen : y.machine.state.counts.seen ≡ length y.brought
   pub count : y.machine.state.counts.released ≡ length y.released
   pub held : y.machine.state.counts.held ≡ held_of (config_of g) y.brought
   -- document 02, R-1: 'the log counts those steps'
@@ -234,33 +223,6 @@ pub record NoFive (y : Chain) : Type 0 where
   pub act : (a : Act) → (on y (ownly a)).said ≡ refused (5 ∷ []) → ⊥
   pub undo : (samples : List ℕ) (first : ℕ) → (undo_of y.machine.state y.machine.repairs samples first).said ≡ refused (5 ∷ []) → ⊥
 
--- ---- a close
-
--- of a chain that is not closed: 'The close takes a call's slice, answers as a call does and reads no new samples'
-pub record Closes (g : ConditioningConfig) (y : Chain) (slice : List ℕ) : Type 0 where
-  -- all that was held is ready
-  pub said : (on y (ownly (close slice))).said ≡ accepted (held_of (config_of g) y.brought)
-  -- any other slice that is long enough leads to the same chain, with the same samples released
-  pub unread : (other : List ℕ) → held_of (config_of g) y.brought ≤ length other → next y (ownly (close slice)) ≡ next y (ownly (close other))
-
--- 'pending and window are empty and no run is open': the stage's own count says what its arrays hold, and they are 0
-pub record EmptyStage (m : ImpulseSuppressor) : Type 0 where
-  pub received : m.gate.received ≡ 0
-  pub run : m.gate.mending.run ≡ Closed
-  pub window : m.window ≡ replicate window_size zero_f
-  pub sorted : m.sorted ≡ replicate window_size zero_f
-  pub pending : m.pending ≡ replicate lookahead_size 0
-
--- 'Once closed, held is 0', and the stage is empty
-pub record Emptied (c : InputConditioner) : Type 0 where
-  pub held : c.counts.held ≡ 0
-  pub stage : EmptyStage c.suppressor
-
--- of a closed chain: 'It refuses a call or a second close after a close with 16'
-pub record NoMore (y : Chain) (slice : List ℕ) : Type 0 where
-  pub no_call : (on y (ownly (call slice))).said ≡ refused (16 ∷ [])
-  pub no_close : (on y (ownly (close slice))).said ≡ refused (16 ∷ [])
-
 -- ---- DEMAND 3
 
 -- acts one after another, each handed what the one before left
@@ -274,13 +236,8 @@ hopping (h ∷ hs) = hop h ∷ hopping hs
 
 -- samples in calls: of each given size, as far as they go, and the rest. So many words stand in the held places, which are never read
 abbrev pub calling : (ℕ → List ℕ) → ConditioningConfig → List ℕ → List ℕ → List ℕ → List Act
-calling front g xs ys [] = call (front (held_of (config_of g) (unclosed xs)) ++ ys) ∷ []
-calling front g xs ys (n ∷ sizes) = call (front (held_of (config_of g) (unclosed xs)) ++ take n ys) ∷ calling front g (xs ++ take n ys) (drop n ys) sizes
-
--- and, where the input is closed, a close, with any words behind the held places
-abbrev pub bringing : (ℕ → List ℕ) → List ℕ → ConditioningConfig → Input → List ℕ → List Act
-bringing front behind g i sizes =
-    calling front g [] i.samples sizes ++ cond i.closed (close (front (held_of (config_of g) (unclosed i.samples)) ++ behind) ∷ []) []
+calling front g xs ys [] = call (front (held_of (config_of g) xs) ++ ys) ∷ []
+calling front g xs ys (n ∷ sizes) = call (front (held_of (config_of g) xs) ++ take n ys) ∷ calling front g (xs ++ take n ys) (drop n ys) sizes
 
 -- two lists in one, each in its order, by whose turn it is; one that has none left lets its turn pass
 abbrev pub merged : {A : Type 0} → List Bool → List A → List A → List A
@@ -290,21 +247,19 @@ merged (true ∷ turns) (a ∷ l) r = a ∷ merged turns l r
 merged (false ∷ turns) l [] = merged turns l []
 merged (false ∷ turns) l (b ∷ r) = b ∷ merged turns l r
 
--- two lists of operations, from chains y and z that were made with one configuration: 'two of them, both closed', or neither
+-- two lists of operations, from chains y and z that were made with one configuration
 pub record OneRecord (g : ConditioningConfig) (y z : Chain) (os ps : List Operation) : Type 0 where
   -- 'they share joined released samples, bits included, and every part of the final log and evidence'
   pub alike : run y os ≡ run z ps
   -- 'All these are as demand 2's rules give them for the whole input.'
   pub ruled : ByRules g (run y os)
-  -- 'On a fresh chain one call with all the samples is accepted': behind any list that is not closed, so behind none and behind hops too, any words in the
-  -- held places and any usable samples, up to 2^48 in all
-  pub takes : (run y os).brought.closed ≡ false → (front xs : List ℕ) → length front ≡ held_of (config_of g) (run y os).brought → Usable xs
-      → length (run y os).brought.samples + length xs ≤ total_limit
+  -- 'On a fresh chain one call with all the samples is accepted': behind any list, so behind none and behind hops too, any words in the held places and any
+  -- usable samples, up to 2^48 in all
+  pub takes : (front xs : List ℕ) → length front ≡ held_of (config_of g) (run y os).brought → Usable xs → length (run y os).brought + length xs ≤ total_limit
       → Accepted (run y os) (ownly (call (front ++ xs)))
-  -- 'with those hops, at any points, it is such a list too.' So is any cutting, with a close behind the calls where this list holds one: 'Demand 3's lists
-  -- may now hold a close'
-  pub once : (front : ℕ → List ℕ) → ((k : ℕ) → length (front k) ≡ k) → (behind sizes : List ℕ) (turns : List Bool)
-      → let all = own_all (merged turns (hopping (run y os).hops) (bringing front behind g (run y os).brought sizes)) in
+  -- 'with those hops, at any points, it is such a list too.' So is any cutting
+  pub once : (front : ℕ → List ℕ) → ((k : ℕ) → length (front k) ≡ k) → (sizes : List ℕ) (turns : List Bool)
+      → let all = own_all (merged turns (hopping (run y os).hops) (calling front g [] (run y os).brought sizes)) in
       AllAccepted y all × (Proper y all × (run y all ≡ run y os))
   -- 'No operation handed the state and stores that such a list leaves meets number 5.'
   pub no_five : NoFive (run y os)
@@ -316,12 +271,4 @@ pub record OneRecord (g : ConditioningConfig) (y z : Chain) (os ps : List Operat
   pub undone : mode_of g.impulse ≡ apply → mode_of g.dc ≡ off → mode_of g.iq ≡ off
       → length (repairs_of (impulse_events (config_of g) (run y os).brought)) ≤ g.repairs
       → undo_of (run y os).machine.state (run y os).machine.repairs (run y os).released 0
-      ≡ record { said = accepted tt; samples = take (length (run y os).released) (run y os).brought.samples }
-  -- document 02, R-2: 'The close takes a call's slice, answers as a call does and reads no new samples.' Behind any list that is not closed
-  pub closes : (run y os).brought.closed ≡ false → (slice : List ℕ) → held_of (config_of g) (run y os).brought ≤ length slice → Closes g (run y os) slice
-  -- 'then releases all': so undoing after a close gives back every sample
-  pub everything : (run y os).brought.closed ≡ true → length (run y os).released ≡ length (run y os).brought.samples
-  -- 'Once closed, held is 0, pending and window are empty and no run is open'
-  pub emptied : (run y os).brought.closed ≡ true → Emptied (run y os).machine.state
-  -- 'It refuses a call or a second close after a close with 16'
-  pub shut : (run y os).brought.closed ≡ true → (slice : List ℕ) → NoMore (run y os) slice
+      ≡ record { said = accepted tt; samples = take (length (run y os).released) (run y os).brought }

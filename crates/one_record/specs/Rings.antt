@@ -1,4 +1,4 @@
--- The log with its span store as the list of its twelve rings, and back; what a turn marks, ring by ring. Definitions only.
+-- The log with its span store as the list of its twelve rings, and back; what a call marks, ring by ring. Definitions only.
 use Rattle.std.specs.Prelude.{Bool, false, cond, ℕ, eqb}
 use mathlib.Core.List.{List, foldl}
 use Rattle.rules.specs.Iq.{Settled, Off, Observing, Withheld, Correcting}
@@ -11,13 +11,13 @@ use Rattle.impulse_slice.specs.Noted.{marks_for}
 use Rattle.iq.specs.View.{settled_of}
 use Rattle.stage_mode.specs.View.{mode_of}
 use Rattle.chain_state.specs.declared.InputConditioner.{InputConditioner}
-use Rattle.chain.specs.Stages.{Turn, released_span}
+use Rattle.chain.specs.Stages.{impulse_told, released_span}
 
 -- the twelve rings, in their order; `log_of` goes back
 abbrev pub rings_of : ℕ → Logged → List rules.Marks
 rings_of cap x = up_to (marks_at cap x) 12
 
--- ---- the marks of a turn
+-- ---- the marks of a call
 
 -- whether the DC stage marks what is released in ring number k
 abbrev pub dc_marks : Mode → ℕ → Bool
@@ -36,9 +36,9 @@ iq_marks (Correcting r) k = eqb k (ring_number iq Corrected)
 abbrev pub mark_if : ℕ → Bool → rules.Marks → Span → rules.Marks
 mark_if cap goes r m = cond goes (mark cap r m) r
 
--- ring number k after a turn: each stage marks its own rings and no other
-unfoldable pub ring_after : ℕ → InputConditioner → Turn → ℕ → rules.Marks → rules.Marks
-ring_after cap c t k r =
-    let m = released_span c t in
+-- ring number k after a call that brings `new`: each stage marks its own rings and no other
+unfoldable pub ring_after : ℕ → InputConditioner → List ℕ → ℕ → rules.Marks → rules.Marks
+ring_after cap c new k r =
+    let m = released_span c new in
     mark_if cap (iq_marks (settled_of c.settings.iq) k)
-    (mark_if cap (dc_marks (mode_of c.settings.dc) k) (foldl (mark cap) r (marks_for k t.told)) m) m
+    (mark_if cap (dc_marks (mode_of c.settings.dc) k) (foldl (mark cap) r (marks_for k (impulse_told c new))) m) m

@@ -23,7 +23,7 @@ handed_dc g y = after_impulse (config_of g) y.brought
 
 pub record ReleasedUndone (g : ConditioningConfig) (y : Chain) : Type 0 where
   -- where impulse does not apply, the stage got the samples as they were brought: the raw ones
-  pub raw : is_apply (mode_of g.impulse) ≡ false → handed_dc g y ≡ y.brought.samples
+  pub raw : is_apply (mode_of g.impulse) ≡ false → handed_dc g y ≡ y.brought
   -- the released samples are 'all that the stage wrote'
   pub wrote : y.released ≡ stage_wrote g.fs (handed_dc g y)
   -- so the statement speaks of them

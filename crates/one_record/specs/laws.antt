@@ -4,7 +4,6 @@ pub mod Hopping
 pub mod Accepted
 pub mod Reaching
 pub mod Merging
-pub mod Turning
 pub mod ByRules
 pub mod Made
 pub mod GoodImpulse
@@ -12,7 +11,6 @@ pub mod GoodStages
 pub mod GoodRings
 pub mod GoodRepairs
 pub mod Good
-pub mod AtChain
 pub mod Fresh
 pub mod OneRecord
 pub mod ReleasedUndone

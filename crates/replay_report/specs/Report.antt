@@ -6,7 +6,6 @@ use Rattle.rules.specs.Mode.{runs}
 use Rattle.rules.specs.Dc.{origin}
 use Rattle.rules.specs.Iq.{Settled}
 use Rattle.rules.specs.Log.{Span, Marks, Stage, impulse, dc, iq, Mark, Repaired, Flagged, Corrected, Uncertain, spans_of}
-use Rattle.rules.specs.Impulse.{unclosed}
 use Rattle.rules.specs.Chain.{Config, DcLevel, no_level, level_is, released, held_of, ring_of, repair_ring, dc_level, settled_by}
 use Rattle.rules.specs.Refusals.{first_of, too_many}
 use Rattle.chain_config.specs.Config.{all_off, refusal}
@@ -72,19 +71,18 @@ rings_of f = map (f impulse) marks ++ (map (f dc) marks ++ map (f iq) marks)
 abbrev pub ring_by : ℕ → Stage → Mark → Marks → Ring
 ring_by cap s m x = record { stage = s; mark = m; count = x.samples; spans = spans_of cap x.ring }
 
--- no document lets a replay close: what is held stays held
 unfoldable pub report_by : Config → List ℕ → Report
 report_by c raw =
-    let i = unclosed (guarded raw) in
+    let xs = guarded raw in
     record {
       replaced = unusable raw;
-      seen = length (guarded raw);
-      final = length (released c i);
-      held = held_of c i;
-      rings = rings_of (λ s m. ring_by c.spans s m (ring_of c i [] s m));
-      dropped_spans = sum ◌+◌ 0 (rings_of (λ s m. (ring_of c i [] s m).ring.dropped));
-      dropped_repairs = (repair_ring c i).dropped;
-      level = dc_level c i;
+      seen = length xs;
+      final = length (released c xs);
+      held = held_of c xs;
+      rings = rings_of (λ s m. ring_by c.spans s m (ring_of c xs [] s m));
+      dropped_spans = sum ◌+◌ 0 (rings_of (λ s m. (ring_of c xs [] s m).ring.dropped));
+      dropped_repairs = (repair_ring c xs).dropped;
+      level = dc_level c xs;
       settled = settled_by c;
     }
 

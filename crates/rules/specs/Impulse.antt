@@ -1,5 +1,4 @@
--- Document 01, 'Impulse', and document 02, R-2, a close: the stage's rules for a whole input, as functions of an index. Samples are words and numbered
--- from 0. No state. Definitions only.
+-- Document 01, 'Impulse': the stage's rules for a whole input, as functions of an index. Samples are words and numbered from 0. No state. Definitions only.
 use Rattle.std.specs.Prelude.{Bool, true, false, cond, not, ◌&&◌, ◌||◌, ℕ, zero, suc, ◌+◌, ◌*◌, ◌-◌, ◌/◌, ◌≤◌, ◌<◌, min, ◌≡◌, ltb, leb, eqb, pos, length, take, drop, Float}
 use mathlib.Core.List.{List, [], ◌∷◌, ◌++◌, map, foldl}
 use Rattle.std.specs.Float.{binary32, binary64}
@@ -73,8 +72,7 @@ power_of w = power binary32 (sample_of w)
 abbrev pub window : Setting → List ℕ → ℕ → List Float
 window s xs j = map power_of (drop (j - s.half) (take (j + s.half + 1) xs))
 
--- 'Sort ascending, drop the 8 strongest, sum the rest in that order in f64, divide by their number: the reference.' Of 8 or fewer none is left, and 0/0 is a
--- NaN: 'A window of 8 or fewer powers flags nothing' (R-2; `short_window` in ClosingLaws)
+-- 'Sort ascending, drop the 8 strongest, sum the rest in that order in f64, divide by their number: the reference.'
 unfoldable pub reference : Setting → List Float → Float
 reference s w =
     let rest = take (length w - s.trim) (sort lt w) in
@@ -207,50 +205,17 @@ value s F P xs (suc j) k = let raw = value s F P xs j k in cond (mends s F P j &
 
 -- ---- the whole input, by the edition that each block begins with
 
--- all that calls brought: the samples, and whether the recording was closed (document 02, R-2)
-pub record Input : Type 0 where
-  pub samples : List ℕ
-  pub closed : Bool
-
-abbrev pub unclosed : List ℕ → Input
-unclosed xs = record { samples = xs; closed = false }
-
-abbrev pub closed : List ℕ → Input
-closed xs = record { samples = xs; closed = true }
-
--- 'A close judges the rest with windows cut at the last sample'
-abbrev pub judged_in : Setting → Input → ℕ
-judged_in s i = let n = length i.samples in cond i.closed n (judged s n)
-
 abbrev pub paused_in : Setting → (ℕ → Edition) → List ℕ → ℕ → Bool
 paused_in s E xs = paused E s.block (flagged s xs)
 
--- 'A run with no right neighbour is marked Flagged, and is long if over 4': the one that reaches the last of n samples
-unfoldable pub last_run : Setting → (ℕ → Bool) → ℕ → List Event
-last_run s F n = let len = before F n in cond (ltb 0 len) (kept (start F n) len (ltb s.run len) ∷ []) []
-
 -- all that happened
-unfoldable pub happened : Setting → (ℕ → Edition) → Input → List Event
-happened s E i =
-    let xs = i.samples in
-    let F = flagged s xs in
-    let es = events s F (paused_in s E xs) xs (judged_in s i) in
-    cond i.closed (es ++ last_run s F (length xs)) es
+unfoldable pub happened : Setting → (ℕ → Edition) → List ℕ → List Event
+happened s E xs = events s (flagged s xs) (paused_in s E xs) xs (judged s (length xs))
 
--- 'If applying, sample k is released when k+21 arrives', and a close 'releases all'
-abbrev pub released_in : Setting → Input → ℕ
-released_in s i = let n = length i.samples in cond i.closed n (n - lookahead s)
-
--- 'otherwise with its own call'
-unfoldable pub handed_on : Setting → (ℕ → Edition) → Input → List ℕ
-handed_on s E i =
-    let xs = i.samples in
-    cond s.apply (up_to (value s (flagged s xs) (paused_in s E xs) xs (judged_in s i)) (released_in s i)) xs
+-- 'If applying, sample k is released when k+21 arrives, otherwise with its own call.'
+unfoldable pub handed_on : Setting → (ℕ → Edition) → List ℕ → List ℕ
+handed_on s E xs = cond s.apply (up_to (value s (flagged s xs) (paused_in s E xs) xs (judged s (length xs))) (length xs - lookahead s)) xs
 
 -- 'held min(21, seen) if impulse applies, else 0'
 abbrev pub held : Setting → ℕ → ℕ
 held s seen = cond s.apply (min (lookahead s) seen) 0
-
--- 'Once closed, held is 0'
-abbrev pub held_in : Setting → Input → ℕ
-held_in s i = cond i.closed 0 (held s (length i.samples))

@@ -9,10 +9,8 @@ pub mod RingLaws
 pub mod MarkLaws
 pub mod RingReading
 pub mod EventLaws
-pub mod ClosingLaws
 -- closed cases
 pub mod ByFlags
 pub mod Computing
 pub mod EditionCases
-pub mod ClosingCases
 pub mod Cases

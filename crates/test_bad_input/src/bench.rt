@@ -28,11 +28,9 @@ pub const MAKING: u64 = 0;
 
 pub const CALL: u64 = 1;
 
-pub const CLOSE: u64 = 2;
+pub const HOP: u64 = 2;
 
-pub const HOP: u64 = 3;
-
-pub const UNDO: u64 = 4;
+pub const UNDO: u64 = 3;
 
 // ---- whether all is as it was
 

@@ -1,13 +1,13 @@
-// The documents' causes of number 5, each by a chain that has it and by one just inside it. A line of the answer
-// has the cause, how a call, a close, a hop and repair undo on that chain are answered, and `changed` behind an
-// answer that did not leave as it was what it must.
+// Document 01's causes of number 5, each by a chain that has it and by one just inside it. A line of the answer
+// has the cause, how a call, a hop and repair undo on that chain are answered, and `changed` behind an answer
+// that did not leave as it was what it must.
 //
 // Standard input has a line for each: the letter of a chain, the cause, and the words that the chain is given,
 // as `a|block length 1001 of rate 1000.5|0=408f440000000000 11=3e9`. A word is its place in decimal and its bits in
-// hexadecimal. `chain_words` has the places of a state; 173 to 220 is the span store, 221 to 252 the monitor's, 253 to
-// 264 the repair store.
+// hexadecimal. `chain_words` has the places of a state; 172 to 219 is the span store, 220 to 251 the monitor's, 252 to
+// 263 the repair store.
 
-use crate::bench::{Bench, CALL, CLOSE, Tried, say};
+use crate::bench::{Bench, Tried, say};
 use crate::operations::{asked, call, fresh, hop, undo};
 use libc::{STDIN_FILENO, STDOUT_FILENO};
 use stage_mode::StageMode;
@@ -37,21 +37,14 @@ fn samples() -> [u64; 64] {
 
 // A chain of this impulse mode, after so many samples and a hop.
 fn after(impulse: StageMode, count: usize) -> Bench {
-    let called = call(CALL, fresh(impulse, 1000.0), samples(), count, asked());
+    let called = call(fresh(impulse, 1000.0), samples(), count, asked());
     let hopped = hop(called.bench, [ONE; 64], 8, 0, asked());
     hopped.bench
 }
 
-// An applying one, closed.
-fn closed() -> Bench {
-    let called = call(CLOSE, after(StageMode::Apply, 60), samples(), 64, asked());
-    called.bench
-}
-
-// The chain of a letter, after 60 samples but for the applying `y`, which has 5; `c` is closed.
+// The chain of a letter, after 60 samples but for the applying `y`, which has 5.
 fn chain(letter: u8) -> Bench {
     match letter {
-        b'c' => closed(),
         b'y' => after(StageMode::Apply, 5),
         b'o' => after(StageMode::Observe, 60),
         b'-' => after(StageMode::Off, 60),
@@ -59,7 +52,7 @@ fn chain(letter: u8) -> Bench {
     }
 }
 
-// ---- a call, a close, a hop and repair undo on a chain
+// ---- a call, a hop and repair undo on a chain
 
 fn say_changed(t: Tried) {
     if !t.good {
@@ -86,16 +79,8 @@ fn say_hop(number: u64) {
 
 // With 24 samples (1, 0).
 fn show_call(b: Bench) {
-    let t = call(CALL, b, [ONE; 64], 24, asked());
+    let t = call(b, [ONE; 64], 24, asked());
     io::write_all(STDOUT_FILENO, b": call ");
-    say_call(t.number, t.value);
-    say_changed(t);
-}
-
-// With 24 places.
-fn show_close(b: Bench) {
-    let t = call(CLOSE, b, [ONE; 64], 24, asked());
-    io::write_all(STDOUT_FILENO, b", close ");
     say_call(t.number, t.value);
     say_changed(t);
 }
@@ -124,14 +109,13 @@ fn show_undo(b: Bench) {
     say_changed(t);
 }
 
-// How a call, a close, a hop and repair undo on this chain are answered, and the line's end.
+// How a call, a hop and repair undo on this chain are answered, and the line's end.
 fn show_chain(b: Bench) {
     let mut state = b.state;
     test_operations::settle(&mut state);
     let mut given = b;
     given.state = state;
     show_call(given);
-    show_close(given);
     show_hop(given);
     show_undo(given);
     io::write_all(STDOUT_FILENO, b"\n");
@@ -156,7 +140,7 @@ const LETTER: u64 = 0;
 const CAUSE: u64 = 1;
 
 // A place where no word stands.
-const NOWHERE: u64 = 265;
+const NOWHERE: u64 = 263;
 
 // The part of a line, and no word yet.
 fn in_part(part: u64, bench: Bench) -> Reading {
@@ -176,10 +160,10 @@ fn given(r: Reading) -> Bench {
     let word = r.hexadecimal;
     let mut out = r.bench;
     match place {
-        0..=172 => out.state[place] = word,
-        173..=220 => out.spans[place - 173] = word,
-        221..=252 => out.monitor[place - 221] = ieee::from_bits64(word),
-        253..=264 => out.repairs[place - 253] = word,
+        0..=171 => out.state[place] = word,
+        172..=219 => out.spans[place - 172] = word,
+        220..=251 => out.monitor[place - 220] = ieee::from_bits64(word),
+        252..=263 => out.repairs[place - 252] = word,
         _ => {}
     }
     out

@@ -1,5 +1,5 @@
-// Operations on bad input: each of the documents' causes of number 5, by the table on standard input, and then random
-// makings, calls, closes and hops.
+// Operations on bad input: each of document 01's causes of number 5, by the table on standard input, and then random
+// makings, calls and hops.
 
 mod bench;
 mod causes;

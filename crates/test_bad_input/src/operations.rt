@@ -1,6 +1,6 @@
-// Making, a call, a close, a hop and repair undo.
+// Making, a call, a hop and repair undo.
 
-use crate::bench::{Bench, CLOSE, HOP, MAKING, Tried, UNDO, ended, same_behind};
+use crate::bench::{Bench, CALL, HOP, MAKING, Tried, UNDO, ended, same_behind};
 use chain_config::ConditioningConfig;
 use chain_words::STATE_WORDS;
 use impulse_pause::PauseEdition;
@@ -70,7 +70,7 @@ pub fn fresh(impulse: StageMode, fs: f64) -> Bench {
     made.bench
 }
 
-// ---- a call and a close
+// ---- a call
 
 // From where on the slice has to be as it was.
 fn kept_from(told: Told) -> usize {
@@ -80,15 +80,14 @@ fn kept_from(told: Told) -> usize {
     0
 }
 
-// A call or a close, with so many of the samples.
-pub fn call(op: u64, b: Bench, given: [u64; 64], length: usize, lent: Lent) -> Tried {
+// With so many of the samples.
+pub fn call(b: Bench, given: [u64; 64], length: usize, lent: Lent) -> Tried {
     let mut state = b.state;
     let mut spans = b.spans;
     let mut repairs = b.repairs;
     let monitor = b.monitor;
     let mut samples = given;
     let told = test_operations::call(
-        op == CLOSE,
         &mut state,
         &mut samples,
         length,
@@ -102,7 +101,7 @@ pub fn call(op: u64, b: Bench, given: [u64; 64], length: usize, lent: Lent) -> T
         repairs,
         monitor,
     };
-    let mut out = ended(op, told, b, left);
+    let mut out = ended(CALL, told, b, left);
     out.good = out.good & same_behind(&given, &samples, kept_from(told));
     out
 }

@@ -1,7 +1,7 @@
-// Random makings, calls, closes and hops on fit chains and on spoilt ones: how many there were of each answer, and how many
+// Random makings, calls and hops on fit chains and on spoilt ones: how many there were of each answer, and how many
 // refusals did not leave all as it was.
 
-use crate::bench::{Bench, CALL, CLOSE, Tried, say};
+use crate::bench::{Bench, Tried, say};
 use crate::draw::{any_word, drawn};
 use crate::operations::asked;
 use crate::spoil::spoilt;
@@ -14,9 +14,9 @@ use test_operations::Lent;
 const TURNS: u64 = 24000;
 
 // The counts: 128 for each operation, at the number of its answer, and that of refusals that did not leave all as it was.
-const COUNTS: usize = 513;
+const COUNTS: usize = 385;
 
-const CHANGED: usize = 512;
+const CHANGED: usize = 384;
 
 // ---- a turn
 
@@ -37,10 +37,10 @@ fn lent(seed: u64) -> Lent {
 }
 
 // With a slice of what is held and up to 42 more, mostly.
-fn call(op: u64, b: Bench, seed: u64) -> Tried {
+fn call(b: Bench, seed: u64) -> Tried {
     let usual = b.state[HELD] % 22 + drawn(seed, 145) % 43;
     let length = any_word(seed, 143, usual) as usize;
-    operations::call(op, b, draw::samples(seed), length, lent(seed))
+    operations::call(b, draw::samples(seed), length, lent(seed))
 }
 
 // With as many channels as the settings have and not long after the last end, mostly.
@@ -53,13 +53,11 @@ fn hop(b: Bench, seed: u64) -> Tried {
 
 fn turn(b: Bench, seed: u64, f: u64) -> Tried {
     match f {
-        0..=2 => operations::make(b, draw::configuration(seed), lent(seed)),
-        3..=8 => call(CALL, b, seed),
-        9..=11 => hop(b, seed),
-        12 => call(CLOSE, b, seed),
-        13..=17 => call(CALL, spoilt(b, seed), seed),
-        18..=20 => hop(spoilt(b, seed), seed),
-        _ => call(CLOSE, spoilt(b, seed), seed),
+        0 => operations::make(b, draw::configuration(seed), lent(seed)),
+        1..=5 => call(b, seed),
+        6..=8 => hop(b, seed),
+        9..=12 => call(spoilt(b, seed), seed),
+        _ => hop(spoilt(b, seed), seed),
     }
 }
 
@@ -72,11 +70,11 @@ fn add(counts: &mut [u64; COUNTS], at: usize, n: u64) {
 
 // The chain that a turn leaves: a spoilt one is put aside.
 fn next(b: Bench, seed: u64, counts: &mut [u64; COUNTS]) -> Bench {
-    let f = drawn(seed, 170) % 24;
+    let f = drawn(seed, 170) % 16;
     let t = turn(b, seed, f);
-    add(counts, (t.op % 4 * 128 + t.number % 128) as usize, 1);
+    add(counts, (t.op % 3 * 128 + t.number % 128) as usize, 1);
     add(counts, CHANGED, !t.good as u64);
-    if f < 13 {
+    if f < 9 {
         return t.bench;
     }
     b
@@ -100,9 +98,6 @@ fn print_operation(op: u64) {
         }
         1 => {
             io::write_all(STDOUT_FILENO, b"call ");
-        }
-        2 => {
-            io::write_all(STDOUT_FILENO, b"close ");
         }
         _ => {
             io::write_all(STDOUT_FILENO, b"hop ");

@@ -2,10 +2,10 @@
 
 use crate::bench::Bench;
 use crate::draw::{drawn, odd_word};
-use chain_words::{CLOSED, HELD, RECEIVED, RELEASED, RINGS, RUN, SEEN, STATE_WORDS, WINDOW};
+use chain_words::{HELD, RECEIVED, RELEASED, RINGS, RUN, SEEN, STATE_WORDS, WINDOW};
 
-// A place of a state's words: of the sizes, of what stands in front of the suppressor's arrays, of what stands behind
-// them, or any.
+// A place of a state's words: of the sizes, of what stands in front of the suppressor's arrays, of the log behind them, or
+// any.
 fn place(seed: u64) -> usize {
     let f = drawn(seed, 90) % 4;
     let w = drawn(seed, 91);
@@ -29,12 +29,10 @@ fn spoil(state: &mut [u64; STATE_WORDS], seed: u64, times: u64) {
     }
 }
 
-// As if about 2^48 samples had been seen: fit, where a fit chain has seen 33 or more, or is closed.
+// As if about 2^48 samples had been seen: fit, where a fit chain has seen 33 or more.
 fn fill_up(state: &mut [u64; STATE_WORDS], seed: u64) {
     let seen = 0x1_0000_0000_0020 - drawn(seed, 93) % 64;
-    if state[CLOSED] == 0 {
-        state[RECEIVED] = seen;
-    }
+    state[RECEIVED] = seen;
     state[RUN] = 0;
     state[SEEN] = seen;
     state[RELEASED] = std::num::wrapping_sub_u64(seen, state[HELD]);
@@ -49,12 +47,11 @@ fn times(f: u64) -> u64 {
     }
 }
 
-// Some words replaced, an open chain as if it were closed or the other way round, or a chain that is nearly full.
+// Some words replaced, or a chain that is nearly full.
 fn change(state: &mut [u64; STATE_WORDS], seed: u64) {
-    let f = drawn(seed, 160) % 15;
+    let f = drawn(seed, 160) % 14;
     match f {
         0..=11 => spoil(state, seed, times(f)),
-        12 => state[CLOSED] = (state[CLOSED] == 0) as u64,
         _ => fill_up(state, seed),
     }
 }

@@ -3,11 +3,10 @@
 
 ghost use Rattle.std.specs.Prelude.{◌≡◌, ◌≤◌, length, take};
 
-use chain_call::{Called, Conditioned};
+use chain_call::Conditioned;
 use chain_config::ConditioningConfig;
 use chain_hop::HopSaid;
 use chain_make::MakingAnswer;
-use chain_state::InputConditioner;
 use chain_words::{STATE_WORDS, read_state, write_state};
 
 // ---- an answer as two numbers
@@ -53,7 +52,6 @@ fn told_call(answer: Conditioned) -> Told {
         },
         Conditioned::BadLength
         | Conditioned::BadState
-        | Conditioned::Closed
         | Conditioned::Short
         | Conditioned::TooMany => plain(number),
     }
@@ -142,23 +140,8 @@ pub fn make(
     number
 }
 
-// A call, or a close.
-fn condition(
-    closes: bool,
-    state: InputConditioner,
-    samples: &mut [u64],
-    spans: &mut [u64],
-    repairs: &mut [u64],
-) -> Called {
-    if closes {
-        return chain_close::close(state, samples, spans, repairs);
-    }
-    chain_call::condition(state, samples, spans, repairs)
-}
-
-// A call with so many of the samples, or a close with so many places.
+// A call with so many of the samples.
 pub fn call(
-    closes: bool,
     words: &mut [u64; STATE_WORDS],
     samples: &mut [u64],
     length: usize,
@@ -169,8 +152,7 @@ pub fn call(
     let n = part(samples, length);
     let s = part(spans, lent.spans);
     let r = part(repairs, lent.repairs);
-    let called = condition(
-        closes,
+    let called = chain_call::condition(
         read_state(words),
         &mut samples[..n],
         &mut spans[..s],

@@ -1,13 +1,10 @@
-// A call: places in front, then new samples. A close: the same slice, of which it reads nothing.
+// A call: places in front, then new samples.
 
 use crate::chain::lent;
 use crate::words::{show_first, shown, word, write_front, write_words};
 use crate::{Head, REPAIR_WORDS, SLICE_WORDS, SPAN_WORDS};
-use chain_words::{CLAMPED, CLOSED, HELD, RECEIVED, RELEASED, RUN, SEEN, STATE_WORDS};
+use chain_words::{CLAMPED, HELD, RECEIVED, RELEASED, RUN, SEEN, STATE_WORDS};
 use test_operations::{Told, at_most, part};
-
-// The operation that closes.
-const CLOSE: u64 = 15;
 
 // How many places stand in front: as many as are held, where the word is all ones.
 fn places(w: u64, held: usize) -> usize {
@@ -41,39 +38,36 @@ fn lay_out(slice: &mut [u64], front: usize, input: &[u64]) -> usize {
     length
 }
 
-// The state that is handed over: as it is, or as if it had seen so many samples. Of a closed one the
-// impulse stage has none.
+// The state that a call is handed: as it is, or as if it had seen so many samples.
 fn hand(state: &mut [u64; STATE_WORDS], seen: u64) {
     if seen == 0 {
         return;
     }
-    if state[CLOSED] == 0 {
-        state[RECEIVED] = seen;
-    }
+    state[RECEIVED] = seen;
     state[RUN] = 0;
     state[SEEN] = seen;
     state[RELEASED] = std::num::wrapping_sub_u64(seen, state[HELD]);
 }
 
 // The answer, how much was seen, released and held, how long the slice is, and how many words are behind.
-fn front(head: Head, told: Told, state: &[u64; STATE_WORDS], n: usize) -> [u64; 8] {
+fn front(told: Told, state: &[u64; STATE_WORDS], n: usize, how: u64) -> [u64; 8] {
     [
-        head.op,
+        3,
         told.number,
         told.value,
         state[SEEN],
         state[RELEASED],
         state[HELD],
         n as u64,
-        std::num::wrapping_add_u64(shown(n, head.how), 1),
+        std::num::wrapping_add_u64(shown(n, how), 1),
     ]
 }
 
 // The slice, and behind it the count of clamped DC updates.
-fn write_call(head: Head, told: Told, state: &[u64; STATE_WORDS], slice: &[u64], length: usize) {
+fn write_call(told: Told, state: &[u64; STATE_WORDS], slice: &[u64], length: usize, how: u64) {
     let n = part(slice, length);
-    write_front(front(head, told, state, n));
-    show_first(slice, n, head.how);
+    write_front(front(told, state, n, how));
+    show_first(slice, n, how);
     write_words(&[state[CLAMPED]]);
 }
 
@@ -91,7 +85,6 @@ pub fn call(
     let front = places(head.c, handed[HELD] as usize);
     let length = lay_out(&mut slice, front, input);
     let told = test_operations::call(
-        head.op == CLOSE,
         &mut handed,
         &mut slice,
         length,
@@ -99,7 +92,7 @@ pub fn call(
         repairs,
         lent(head.a, head.b, 0),
     );
-    write_call(head, told, &handed, &slice, length);
+    write_call(told, &handed, &slice, length, head.how);
     if head.d == 0 {
         *state = handed;
     }

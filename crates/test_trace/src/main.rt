@@ -14,7 +14,7 @@ use chain_words::STATE_WORDS;
 use test_operations::{part, plain};
 use words::{answer_plain, read_words};
 
-// The words behind an operation; a call's or a close's slice; the stores, each longer than the longest that is lent.
+// The words behind an operation; a call's slice; the stores, each longer than the longest that is lent.
 const INPUT_WORDS: usize = 4096;
 
 pub const SLICE_WORDS: usize = 4608;
@@ -111,7 +111,7 @@ fn answer(
     match op {
         1 => chain::make(state, head, input, spans, repairs, monitor),
         2 => chain::config(input),
-        3 | 15 => call::call(state, head, input, spans, repairs),
+        3 => call::call(state, head, input, spans, repairs),
         4 => hop::hop(state, head, input, spans, monitor),
         5 => shown::log(state),
         6 => shown::state(state),

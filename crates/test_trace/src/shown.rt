@@ -3,7 +3,7 @@
 use crate::words::{answer_plain, bits, show_first, write_between, write_front, write_words};
 use crate::{Head, MONITOR_WORDS};
 use chain_log::{ConditioningLog, DcLevel, SpanRead};
-use chain_words::{APPLY, CLOSED, COEFFICIENT, RINGS, SEEN, STATE_WORDS, WINDOW, iq_words};
+use chain_words::{APPLY, COEFFICIENT, RINGS, SEEN, STATE_WORDS, WINDOW, iq_words};
 use complex::Complex64;
 use log::{Mark, Ring, Stage};
 use test_operations::{NOTHING, part, plain};
@@ -69,13 +69,12 @@ pub fn log(state: &[u64; STATE_WORDS]) {
 
 // ---- the state
 
-// The settings, but for the coefficient; the stages' numbers; the suppressor's arrays; whether it is closed.
+// The settings, but for the coefficient; the stages' numbers; the suppressor's arrays.
 pub fn state(state: &[u64; STATE_WORDS]) {
-    write_front([6, 0, 0, 0, 0, 0, 0, 115]);
+    write_front([6, 0, 0, 0, 0, 0, 0, 114]);
     write_between(state, 0, COEFFICIENT);
     write_between(state, APPLY, SEEN);
     write_between(state, WINDOW, RINGS);
-    write_between(state, CLOSED, STATE_WORDS);
 }
 
 // ---- the stores

@@ -1,17 +1,14 @@
--- vg_condition and vg_close: all that they leave. Definitions only.
+-- vg_condition: all that it leaves. Definitions only.
 use Rattle.std.specs.Prelude.{List, [], ◌∷◌, ℕ, set}
 use Rattle.rules.specs.Answers.{Said, accepted, nothing, refused, number_of}
 use Rattle.chain.specs.Stages.{machine_of}
-use Rattle.chain.specs.Calls.{Outcome, called, closed_by}
+use Rattle.chain.specs.Calls.{Outcome, called}
 use Rattle.chain_words.specs.States.{state_of}
 use Rattle.vatgorge.specs.Codes.{words_after}
 
--- the call on the state that the words say, and the close
+-- the call on the state that the words say
 abbrev pub called_in : List ℕ → List ℕ → List ℕ → List ℕ → Outcome
 called_in ws samples spans repairs = called (machine_of (state_of ws) spans repairs) samples
-
-abbrev pub closed_in : List ℕ → List ℕ → List ℕ → List ℕ → Outcome
-closed_in ws samples spans repairs = closed_by (machine_of (state_of ws) spans repairs) samples
 
 -- ---- the answer, and every lent word
 
@@ -31,9 +28,9 @@ out_after out (refused []) = out
 out_after out (refused (n ∷ [])) = out
 out_after out (refused (n ∷ place ∷ r)) = set out 1 place
 
--- by the words of the state and of the values as they were
-abbrev pub after : List ℕ → List ℕ → Outcome → After
-after ws out o =
+abbrev pub after : List ℕ → List ℕ → List ℕ → List ℕ → List ℕ → After
+after ws samples spans repairs out =
+    let o = called_in ws samples spans repairs in
     record {
       code = number_of o.said;
       state = words_after (number_of o.said) ws o.machine.state;

@@ -129,13 +129,12 @@ fn keep(code: u64, state: InputConditioner, words: &mut [u64; chain_words::STATE
 // ---- a call
 
 // How many samples are ready goes to the first word, the place of one that is not usable to the second.
-pub fn tell_call(answer: Conditioned, out: &mut [u64; CONDITION_WORDS])
+fn tell_call(answer: Conditioned, out: &mut [u64; CONDITION_WORDS])
     ensures { out.new ≡ condition.out_after out.old (said answer) }
 {
     match answer {
         Conditioned::Ready(ready) => out[0] = ready as u64,
         Conditioned::BadState => {}
-        Conditioned::Closed => {}
         Conditioned::BadLength => {}
         Conditioned::Short => {}
         Conditioned::TooMany => {}
@@ -144,7 +143,7 @@ pub fn tell_call(answer: Conditioned, out: &mut [u64; CONDITION_WORDS])
 }
 
 // A call: 0, with how many samples are ready at the front in the first word of `out`; 7, with the place
-// in the second; or 4, 5, 6, 8, 16. A refusal writes nothing else.
+// in the second; or 4, 5, 6, 8. A refusal writes nothing else.
 #[unsafe(no_mangle)]
 pub extern "C" fn vg_condition(
     state: &mut [u64; chain_words::STATE_WORDS],
@@ -162,7 +161,7 @@ pub extern "C" fn vg_condition(
           repairs = repairs.new;
           out =
               out.new;
-        }) (condition.after state.old out.old (condition.called_in state.old samples.old spans.old repairs.old)) }
+        }) (condition.after state.old samples.old spans.old repairs.old out.old) }
     ensures chain { machine_of (state_of state.new) spans.new repairs.new
         ≡ (condition.called_in state.old samples.old spans.old repairs.old).machine }
 {

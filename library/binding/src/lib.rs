@@ -1,8 +1,8 @@
 //! The C library in Rust: safe functions over the same names. A fixed array stands for its pointer, a slice for its pointer
 //! and length. What each takes, answers and leaves is said at it in `crates/vatgorge/src`.
 
-/// The words of a state and of a configuration, and those lent for the values of a call or a close, a hop, a span and the log.
-pub const STATE_WORDS: usize = 173;
+/// The words of a state and of a configuration, and those lent for the values of a call, a hop, a span and the log.
+pub const STATE_WORDS: usize = 172;
 pub const CONFIG_WORDS: usize = 13;
 pub const CONDITION_WORDS: usize = 2;
 pub const HOP_WORDS: usize = 9;
@@ -39,7 +39,6 @@ mod c {
         pub fn vg_observing(config: &mut Config);
         pub fn vg_make(config: &Config, state: &mut State, s: Lent, sn: N, r: Lent, rn: N, m: Floats, mn: N) -> u64;
         pub fn vg_condition(state: &mut State, x: Lent, xn: N, s: Lent, sn: N, r: Lent, rn: N, out: &mut Call) -> u64;
-        pub fn vg_close(state: &mut State, x: Lent, xn: N, s: Lent, sn: N, r: Lent, rn: N, out: &mut Call) -> u64;
         pub fn vg_hop(state: &mut State, x: Words, xn: N, start: u64, s: Lent, sn: N, m: Floats, mn: N, out: &mut Hop) -> u64;
         pub fn vg_log(state: &State, out: &mut Log);
         pub fn vg_span(state: &State, s: Words, sn: N, stage: u64, mark: u64, i: N, out: &mut Span) -> u64;
@@ -75,10 +74,6 @@ pub fn vg_make(config: &Config, state: &mut State, spans: &mut [u64], repairs: &
 pub fn vg_condition(state: &mut State, samples: &mut [u64], spans: &mut [u64], repairs: &mut [u64], out: &mut Call) -> u64 {
     let (n, s, r) = (samples.len(), spans.len(), repairs.len());
     unsafe { c::vg_condition(state, samples.as_mut_ptr(), n, spans.as_mut_ptr(), s, repairs.as_mut_ptr(), r, out) }
-}
-pub fn vg_close(state: &mut State, samples: &mut [u64], spans: &mut [u64], repairs: &mut [u64], out: &mut Call) -> u64 {
-    let (n, s, r) = (samples.len(), spans.len(), repairs.len());
-    unsafe { c::vg_close(state, samples.as_mut_ptr(), n, spans.as_mut_ptr(), s, repairs.as_mut_ptr(), r, out) }
 }
 pub fn vg_hop(state: &mut State, channels: &[u64], start: u64, spans: &mut [u64], monitor: &mut [f64], out: &mut Hop) -> u64 {
     let (n, s, m) = (channels.len(), spans.len(), monitor.len());

@@ -12,7 +12,7 @@ use oracle::condition::{ConditioningConfig, InputConditioner, StageMode};
 use oracle::num_complex::{Complex32, Complex64};
 use oracle::random::Random;
 use oracle::rules::log::{Ring, SpanRing};
-use oracle::rules::{self, impulse, Input, Sample, Setting};
+use oracle::rules::{self, impulse, Sample, Setting};
 use oracle::sample_guard::{is_usable, replace_unusable};
 
 // What the streams draw.
@@ -174,8 +174,8 @@ fn stage(name: &str, fs: f64, samples: &[Complex32], spans: usize) {
                 .collect()
         })
         .collect();
-    let record = rules::chain::whole(&setting, Input::open(&xs), &[]);
-    let flags = impulse::flags(Input::open(&xs));
+    let record = rules::chain::whole(&setting, &xs, &[]);
+    let flags = impulse::flags(&xs);
     let block = impulse::block_length(fs);
 
     define(
@@ -290,7 +290,7 @@ fn beside() {
     xs[14] = Complex32::new(100.0, -20.0);
     let ws: Vec<u64> = xs.iter().map(|&x| word(x)).collect();
     let samples: Vec<Sample> = xs.iter().map(|x| Sample::new(x.re, x.im)).collect();
-    let flags = impulse::flags(Input::open(&samples));
+    let flags = impulse::flags(&samples);
     let (_, released) = mended(48000.0, &xs);
     define("besideInput", "List ℕ", &words(&ws));
     define("besideFlags", "List Bool", &list(&flags, bool::to_string));

@@ -4,10 +4,9 @@ use super::impulse::{self, Span};
 use super::iq::{self, Settled};
 use super::log::{self, Ring, SpanRing};
 use super::monitor::{self, Hop};
-use super::{dc, Input, Mode, Sample, Setting};
+use super::{dc, Mode, Sample, Setting};
 
-/// All that the rules say of a chain that has seen the samples and the hops, and the close if the
-/// input is closed.
+/// All that the rules say of a chain that has seen the samples and the hops.
 #[derive(Debug, Clone)]
 pub struct Record {
     /// The released samples, as released.
@@ -44,14 +43,7 @@ impl Record {
 /// "Ready is how many samples a call releases": of a call that brings `new` samples after `seen`.
 pub fn ready(s: &Setting, seen: usize, new: usize) -> usize {
     let applies = s.impulse == Mode::Apply;
-    impulse::released(applies, seen + new, false) - impulse::released(applies, seen, false)
-}
-
-/// How many samples a close releases after `seen`. Document 02, R-2: it "judges the rest [..], then
-/// releases all", "answers as a call does and reads no new samples".
-pub fn ready_of_close(s: &Setting, seen: usize) -> usize {
-    let applies = s.impulse == Mode::Apply;
-    impulse::released(applies, seen, true) - impulse::released(applies, seen, false)
+    impulse::released(applies, seen + new) - impulse::released(applies, seen)
 }
 
 /// The marks of each of the twelve rings, in order.
@@ -61,16 +53,15 @@ pub fn marks(
     flags: &[bool],
     paused: &[bool],
     block: u64,
-    input: Input,
+    released: u64,
     hops: &[Hop],
 ) -> [Vec<Span>; log::RINGS] {
     let applies = s.impulse == Mode::Apply;
-    let released = impulse::released(applies, input.samples.len(), input.closed) as u64;
     let given = |stage: usize, mark: usize| -> Vec<Span> {
         match (log::STAGES[stage], log::MARKS[mark]) {
             ("impulse", _) if s.impulse == Mode::Off => Vec::new(),
             ("impulse", "repaired") => impulse::repaired(flags, paused, block, applies),
-            ("impulse", "flagged") => impulse::kept(flags, paused, block, applies, input.closed),
+            ("impulse", "flagged") => impulse::kept(flags, paused, block, applies),
             ("impulse", "uncertain") => impulse::uncertain(flags, paused, block),
             // "Applying writes y and marks Corrected; observing leaves the sample."
             ("dc", "corrected") if s.dc == Mode::Apply => vec![(0, released)],
@@ -93,21 +84,20 @@ pub fn marks(
     marks
 }
 
-/// The record of the input and the accepted hops `hops`.
-pub fn whole(s: &Setting, input: Input, hops: &[Hop]) -> Record {
-    let xs = input.samples;
+/// The record of the samples `xs` and the accepted hops `hops`.
+pub fn whole(s: &Setting, xs: &[Sample], hops: &[Hop]) -> Record {
     let applies = s.impulse == Mode::Apply;
     let settled = iq::settled(s);
     let block = impulse::block_length(s.fs);
     let (flags, paused) = if s.impulse == Mode::Off {
         (Vec::new(), Vec::new())
     } else {
-        let flags = impulse::flags(input);
+        let flags = impulse::flags(xs);
         let paused = impulse::paused(|_| s.edition, &flags, block);
         (flags, paused)
     };
-    let released = impulse::released(applies, xs.len(), input.closed);
-    let marks = marks(s, settled, &flags, &paused, block, input, hops);
+    let released = impulse::released(applies, xs.len());
+    let marks = marks(s, settled, &flags, &paused, block, released as u64, hops);
 
     // "Stages run impulse, DC, IQ." Only released samples reach the later two.
     let mended: Vec<Sample> = if applies {
@@ -141,9 +131,9 @@ pub fn whole(s: &Setting, input: Input, hops: &[Hop]) -> Record {
         out,
         seen: xs.len() as u64,
         released: released as u64,
-        held: impulse::held(applies, xs.len(), input.closed) as u64,
+        held: impulse::held(applies, xs.len()) as u64,
         rings: marks.iter().map(|m| SpanRing::of(s.spans, m)).collect(),
-        long_runs: impulse::long_runs(&flags, input.closed),
+        long_runs: impulse::long_runs(&flags),
         repairs: log::repair_ring(s.repairs, xs, &marks[log::place(0, 0)]),
         dc: level,
         clamped,

@@ -1,12 +1,11 @@
-//! **Impulse** (half window 16, window 33, trim 8, longest run 4, lookahead 21), what a close does
-//! to it (document 02, R-2), and the second edition of its pause rule (R-6).
+//! **Impulse** (half window 16, window 33, trim 8, longest run 4, lookahead 21), and the second
+//! edition of its pause rule (document 02, R-6).
 //!
-//! `xs` are all samples so far, numbered from 0; `closed` is whether they are closed; `flags` is
-//! [`flags`] of them, a value for each judged sample; `block` is the block length; `paused` is
-//! [`paused`] of the flags, a value for each block with a judged sample. One more sample changes
-//! none of what was said, nor does a close.
+//! `xs` are all samples so far, numbered from 0; `flags` is [`flags`] of them, a value for each
+//! judged sample; `block` is the block length; `paused` is [`paused`] of the flags, a value for
+//! each block with a judged sample. One more sample changes none of what was said.
 
-use super::{Edition, Input, Sample};
+use super::{Edition, Sample};
 
 pub const HALF: usize = 16;
 pub const TRIM: usize = 8;
@@ -22,67 +21,45 @@ pub fn power(x: Sample) -> f32 {
 }
 
 /// How many samples are judged once `n` have arrived: "Sample j is judged when j+16 arrives."
-/// Document 02, R-2: "A close judges the rest".
-pub fn judged(n: usize, closed: bool) -> usize {
-    if closed {
-        n
-    } else {
-        n.saturating_sub(HALF)
-    }
+pub fn judged(n: usize) -> usize {
+    n.saturating_sub(HALF)
 }
 
-/// "Its window is samples j−16 to j+16, cut at 0; powers are f32." Document 02, R-2: "A close judges
-/// the rest with windows cut at the last sample". This cuts no window of a sample judged before the
-/// close, as its j+16 has arrived.
+/// "Its window is samples j−16 to j+16, cut at 0; powers are f32."
 pub fn window(xs: &[Sample], j: usize) -> Vec<f32> {
-    xs[j.saturating_sub(HALF)..xs.len().min(j + HALF + 1)]
+    xs[j.saturating_sub(HALF)..=j + HALF]
         .iter()
         .map(|&x| power(x))
         .collect()
 }
 
 /// "Sort ascending, drop the 8 strongest, sum the rest in that order in f64, divide by their
-/// number: the reference." Of 8 or fewer powers no rest is left, and there is none.
-pub fn reference(xs: &[Sample], j: usize) -> Option<f64> {
+/// number: the reference."
+pub fn reference(xs: &[Sample], j: usize) -> f64 {
     let mut powers = window(xs, j);
-    if powers.len() <= TRIM {
-        return None;
-    }
     powers.sort_by(f32::total_cmp);
     let rest = &powers[..powers.len() - TRIM];
     let mut sum = 0.0f64;
     for &p in rest {
         sum += f64::from(p);
     }
-    Some(sum / rest.len() as f64)
+    sum / rest.len() as f64
 }
 
-/// "j is flagged exactly if reference > 0 and power > 144 × reference." Document 02, R-2: "A window
-/// of 8 or fewer powers flags nothing."
+/// "j is flagged exactly if reference > 0 and power > 144 × reference."
 pub fn flagged(xs: &[Sample], j: usize) -> bool {
-    reference(xs, j)
-        .is_some_and(|reference| reference > 0.0 && f64::from(power(xs[j])) > 144.0 * reference)
+    let reference = reference(xs, j);
+    reference > 0.0 && f64::from(power(xs[j])) > 144.0 * reference
 }
 
 /// [`flagged`] of each judged sample.
-pub fn flags(input: Input) -> Vec<bool> {
-    let xs = input.samples;
-    (0..judged(xs.len(), input.closed))
-        .map(|j| flagged(xs, j))
-        .collect()
+pub fn flags(xs: &[Sample]) -> Vec<bool> {
+    (0..judged(xs.len())).map(|j| flagged(xs, j)).collect()
 }
 
 /// How many flagged samples stand right before `j`.
 pub fn before(flags: &[bool], j: usize) -> usize {
     flags[..j].iter().rev().take_while(|&&f| f).count()
-}
-
-/// The run of flagged samples that stands right before `j`.
-fn run_before(flags: &[bool], j: usize) -> Option<Span> {
-    match before(flags, j) {
-        0 => None,
-        len => Some(((j - len) as u64, len as u64)),
-    }
 }
 
 /// "A run of flagged samples ends at the next unflagged one, its right neighbour." The run that
@@ -91,16 +68,9 @@ pub fn closes(flags: &[bool], j: usize) -> Option<Span> {
     if j >= flags.len() || flags[j] {
         return None;
     }
-    run_before(flags, j)
-}
-
-/// The "run with no right neighbour" (document 02, R-2): the one that reaches the last sample of a
-/// closed input. Of an input that is not closed it is the "run still open", and is not given.
-pub fn last_run(flags: &[bool], closed: bool) -> Option<Span> {
-    if closed {
-        run_before(flags, flags.len())
-    } else {
-        None
+    match before(flags, j) {
+        0 => None,
+        len => Some(((j - len) as u64, len as u64)),
     }
 }
 
@@ -200,13 +170,12 @@ pub fn mended(xs: &[Sample], (start, len): Span, t: u64) -> Sample {
 }
 
 /// Sample `k` as an applying stage hands it on: mended if it lies in a mended run, else raw.
-/// "A run still open is unmarked", and unmended. A run with no right neighbour is unmended too:
-/// document 02, R-2, marks it Flagged.
+/// "A run still open is unmarked", and unmended.
 pub fn value(xs: &[Sample], flags: &[bool], paused: &[bool], block: u64, k: usize) -> Sample {
     if k >= flags.len() || !flags[k] {
         return xs[k];
     }
-    // The run's right neighbour; past the judged samples if the run is still open or has none.
+    // The run's right neighbour; past the judged samples if the run is still open.
     let end = k + flags[k..].iter().take_while(|&&f| f).count();
     match mendable(flags, paused, block, end) {
         Some(run) => mended(xs, run, k as u64 - run.0),
@@ -214,8 +183,7 @@ pub fn value(xs: &[Sample], flags: &[bool], paused: &[bool], block: u64, k: usiz
     }
 }
 
-/// The marks of the ring Uncertain: "Each judged j of a paused block is marked Uncertain." Those
-/// that a close judges are among them.
+/// The marks of the ring Uncertain: "Each judged j of a paused block is marked Uncertain."
 pub fn uncertain(flags: &[bool], paused: &[bool], block: u64) -> Vec<Span> {
     (0..flags.len() as u64)
         .filter(|&j| pauses(paused, block, j))
@@ -235,37 +203,30 @@ pub fn repaired(flags: &[bool], paused: &[bool], block: u64, applies: bool) -> V
 }
 
 /// The marks of the ring Flagged: "Over 4: marked Flagged [..]. Else, observing or with any
-/// sample in a paused block: Flagged." Document 02, R-2: "A run with no right neighbour is marked
-/// Flagged", whatever the mode and the block; it comes last.
-pub fn kept(flags: &[bool], paused: &[bool], block: u64, applies: bool, closed: bool) -> Vec<Span> {
+/// sample in a paused block: Flagged."
+pub fn kept(flags: &[bool], paused: &[bool], block: u64, applies: bool) -> Vec<Span> {
     runs(flags)
         .filter(|&run| is_long(run) || !applies || touches_paused(paused, block, run))
-        .chain(last_run(flags, closed))
         .collect()
 }
 
-/// "Over 4: [..] long-run count plus 1." Document 02, R-2: "A run with no right neighbour [..] is
-/// long if over 4."
-pub fn long_runs(flags: &[bool], closed: bool) -> u64 {
-    runs(flags)
-        .chain(last_run(flags, closed))
-        .filter(|&run| is_long(run))
-        .count() as u64
+/// "Over 4: [..] long-run count plus 1."
+pub fn long_runs(flags: &[bool]) -> u64 {
+    runs(flags).filter(|&run| is_long(run)).count() as u64
 }
 
-/// "held min(21, seen) if impulse applies, else 0"; document 02, R-2: "Once closed, held is 0".
-pub fn held(applies: bool, seen: usize, closed: bool) -> usize {
-    if applies && !closed {
+/// "held min(21, seen) if impulse applies, else 0"
+pub fn held(applies: bool, seen: usize) -> usize {
+    if applies {
         seen.min(LOOKAHEAD)
     } else {
         0
     }
 }
 
-/// "If applying, sample k is released when k+21 arrives, otherwise with its own call." Document 02,
-/// R-2: a close "then releases all".
-pub fn released(applies: bool, seen: usize, closed: bool) -> usize {
-    if applies && !closed {
+/// "If applying, sample k is released when k+21 arrives, otherwise with its own call."
+pub fn released(applies: bool, seen: usize) -> usize {
+    if applies {
         seen.saturating_sub(LOOKAHEAD)
     } else {
         seen

@@ -1,6 +1,6 @@
 //! The second reading: document 01's rules, written from that document's sentences, in files by its
-//! headings. They are functions of the whole input (and of the whole list of hops) and of an
-//! index; nothing is carried from call to call. Where a document itself defines a value by
+//! headings. They are functions of the whole list of samples (and of the whole list of hops) and
+//! of an index; nothing is carried from call to call. Where a document itself defines a value by
 //! the one before it (DC level, a ring, a paused block), so do they. No code is shared with
 //! [`crate::condition`] or [`crate::num_complex`]: all arithmetic is written out here.
 //!
@@ -40,31 +40,6 @@ impl Sample {
         Sample {
             re: f32::from_bits(word as u32),
             im: f32::from_bits((word >> 32) as u32),
-        }
-    }
-}
-
-/// All samples so far, numbered from 0, and whether a close came after them (document 02, R-2).
-#[derive(Debug, Clone, Copy)]
-pub struct Input<'a> {
-    pub samples: &'a [Sample],
-    pub closed: bool,
-}
-
-impl<'a> Input<'a> {
-    /// The samples, not closed.
-    pub fn open(samples: &'a [Sample]) -> Self {
-        Input {
-            samples,
-            closed: false,
-        }
-    }
-
-    /// The samples, then a close.
-    pub fn closed(samples: &'a [Sample]) -> Self {
-        Input {
-            samples,
-            closed: true,
         }
     }
 }

@@ -1,6 +1,5 @@
-//! **When the conditioner declines**: the numbers that plain input and lent words decide, and the
-//! number that document 02 adds to them (R-2). What number 5 says of a state is not read, nor 4 of
-//! lent lengths beyond those given here.
+//! **When the conditioner declines**: the numbers that plain input and lent words decide. What number
+//! 5 says of a state is not read, nor 4 of lent lengths beyond those given here.
 
 use super::iq::{self, Coefficient};
 use super::log::{Ring, SpanRing};
@@ -105,13 +104,8 @@ pub fn records_fit(repairs: &Ring) -> bool {
     })
 }
 
-/// A call's "6, 8, 7", for a slice given after `seen` samples of which `held` are held. Document
-/// 02, R-2: "It refuses a call or a second close after a close with 16, after 5." So 16 comes first
-/// here, where the chain is `closed`, and ahead of 4 too.
-pub fn call(closed: bool, seen: u64, held: usize, slice: &[Sample]) -> Option<Refusal> {
-    if closed {
-        return Some(plain(16));
-    }
+/// A call's "6, 8, 7", for a slice given after `seen` samples of which `held` are held.
+pub fn call(seen: u64, held: usize, slice: &[Sample]) -> Option<Refusal> {
     if slice.len() < held {
         return Some(plain(6));
     }
@@ -122,18 +116,6 @@ pub fn call(closed: bool, seen: u64, held: usize, slice: &[Sample]) -> Option<Re
     new.iter()
         .position(|&x| !guard::usable(x))
         .map(|i| at_place(held + i))
-}
-
-/// A close's "16, 4, 6" (document 02, R-2), without 4: "The close takes a call's slice [..] and reads
-/// no new samples." So a longer slice is no refusal, nor is what stands in it.
-pub fn close(closed: bool, held: usize, slice: &[Sample]) -> Option<Refusal> {
-    if closed {
-        Some(plain(16))
-    } else if slice.len() < held {
-        Some(plain(6))
-    } else {
-        None
-    }
 }
 
 /// A hop: "IQ off, wrong length or n < 8 answers nothing; then 9, 7." `last_end` is the end of the

@@ -6,7 +6,7 @@ use super::chain::{self, Record};
 use super::iq::Settled;
 use super::log::{MARKS, STAGES};
 use super::refusals::{self, Answer};
-use super::{guard, Calibration, Edition, Input, Mode, Sample, Setting};
+use super::{guard, Calibration, Edition, Mode, Sample, Setting};
 use std::fmt::Write;
 
 /// "samples from byte 49"
@@ -120,8 +120,6 @@ pub fn samples(input: &[u8]) -> Vec<Sample> {
 /// replaced 0, seen 0 final 0 held 0, the dropped, dc and iq lines. Under dc observe or apply the
 /// level is two zero words." This is the record of an empty list: no count is nonzero, no span is
 /// held, and the level is that of a fresh chain.
-///
-/// No document lets the replay close its input: what is held stays held.
 pub fn printed(input: &[u8]) -> String {
     let refused = |number: u8| format!("refused {number}\n");
     if let Some(number) = refusal(input, behind(input)) {
@@ -133,7 +131,7 @@ pub fn printed(input: &[u8]) -> String {
         Answer::Refused(r) => refused(r.number),
         Answer::Accepted => {
             let (xs, replaced) = guard::guarded(&samples(input));
-            report(replaced, &chain::whole(&setting, Input::open(&xs), &[]))
+            report(replaced, &chain::whole(&setting, &xs, &[]))
         }
     }
 }

@@ -1,8 +1,6 @@
 //! The oracle's answer to each operation of a trace: the original's where it decides, under edition 2 of
 //! the pause rule with the second reading's pauses; the second reading's refusals, and its rings, laid
-//! out from what the original told its log. The original has no close: from an accepted one on, samples,
-//! counts, rings and repairs are the second reading's of the closed input, and only hops are still the
-//! original's.
+//! out from what the original told its log.
 
 use super::*;
 use crate::condition::dc::{revert_dc, DcBlocker};
@@ -10,14 +8,12 @@ use crate::condition::impulse::{revert_repairs, ImpulseSuppressor};
 use crate::condition::iq::{revert_iq, ImageResult};
 use crate::condition::{InputConditioner, IqStatus, Mark, Stage, StageMode};
 use crate::num_complex::Complex64;
-use crate::rules::chain::{self, Record};
 use crate::rules::iq::Coefficient;
 use crate::rules::log::{self, Ring, SpanRing};
-use crate::rules::monitor::Hop;
 use crate::rules::refusals::{self, Answer as Decided, Refusal};
-use crate::rules::{impulse, Calibration, Edition, Input, Mode, Sample, Setting};
+use crate::rules::{Calibration, Edition, Mode, Sample, Setting};
 use crate::sample_guard::replace_unusable;
-use crate::sides::{all_c32, c32, config, original, sample, words, words_c32};
+use crate::sides::{all_c32, config, original, sample, words_c32};
 
 /// Why an operation has no answer here: it is none, or the original can't follow it.
 #[derive(Debug)]
@@ -39,23 +35,11 @@ pub fn first() -> Setting {
     }
 }
 
-/// What accepted calls brought and released, and the accepted hops, since the making: a close asks the
-/// second reading about the whole of it.
-#[derive(Default)]
-struct Stream {
-    samples: Vec<Sample>,
-    released: Vec<u64>,
-    hops: Vec<Hop>,
-}
-
 pub struct Machine {
     setting: Setting,
     chain: InputConditioner,
-    stream: Stream,
     rings: Vec<SpanRing>,
     repairs: Ring,
-    long_runs: u64,
-    closed: bool,
     /// The three stores as they stood when they were last laid out.
     span_words: Vec<u64>,
     repair_words: Vec<u64>,
@@ -227,9 +211,6 @@ impl Default for Machine {
         Machine {
             rings: empty_rings(setting.spans),
             repairs: Ring::empty(setting.repairs, 6),
-            stream: Stream::default(),
-            long_runs: 0,
-            closed: false,
             span_words: vec![0; SPAN_WORDS],
             repair_words: vec![0; REPAIR_WORDS],
             monitor_words: vec![0.0; MONITOR_WORDS],
@@ -246,7 +227,7 @@ impl Machine {
         let mut answer = match o.op {
             MAKE => self.make(o)?,
             CONFIG => config_answer(o)?,
-            CALL | CLOSE => self.conditioned(o)?,
+            CALL => self.call(o)?,
             HOP => self.hop(o),
             LOG => self.log_words(),
             STATE => self.state_words(),
@@ -274,19 +255,9 @@ impl Machine {
         self.chain.held
     }
 
-    /// Whether a close was accepted.
-    pub fn closed(&self) -> bool {
-        self.closed
-    }
-
     /// On how many DC steps the limit acted.
     fn clamped(&self) -> u64 {
-        self.chain.dc.as_ref().map_or(0, |dc| dc.clamped)
-    }
-
-    /// The DC level, unless that stage is off.
-    fn level(&self) -> Option<Complex64> {
-        self.chain.dc.as_ref().map(DcBlocker::level)
+        self.chain.log().dc_clamped()
     }
 
     pub fn setting(&self) -> &Setting {
@@ -426,9 +397,6 @@ impl Machine {
                 self.chain.take_told();
                 self.rings = empty_rings(s.spans);
                 self.repairs = Ring::empty(s.repairs, 6);
-                self.stream = Stream::default();
-                self.long_runs = 0;
-                self.closed = false;
                 self.span_words[..spans].fill(0);
                 self.repair_words[..repairs].fill(0);
                 self.monitor_words[..monitor].fill(0.0);
@@ -439,16 +407,15 @@ impl Machine {
         }
     }
 
-    // ---- a call and a close
+    // ---- a call
 
-    /// Number 5 of a state that differs from the chain's in having seen `seen` samples. Once closed, its
-    /// window is empty.
+    /// Number 5 of a state that differs from the chain's in having seen `seen` samples.
     fn moved_is_bad(&self, seen: u64) -> Result<bool, NoCase> {
         if seen > refusals::COUNTER {
             return Ok(true);
         }
-        let windowed = self.setting.impulse != Mode::Off && !self.closed;
-        if windowed && seen.min(33) != self.seen().min(33) {
+        let runs = self.setting.impulse != Mode::Off;
+        if runs && seen.min(33) != self.seen().min(33) {
             return Err(NoCase("a window of another size"));
         }
         Ok(false)
@@ -458,38 +425,16 @@ impl Machine {
         !self.rings.iter().all(refusals::newest_fits)
     }
 
-    /// The slice of a call or a close.
-    fn slice(&self, o: &Operation) -> Vec<u64> {
-        let front = match o.args[2] {
-            AS_HELD => self.chain.held,
-            c => (c as usize).min(HELD),
-        };
-        filler(front).chain(o.words.iter().copied()).collect()
-    }
-
-    /// Seen, released and held of the state that a call or a close is handed.
-    fn counts(&self, o: &Operation) -> [u64; 3] {
-        let held = self.chain.held as u64;
-        match o.args[3] {
-            0 => [self.seen(), self.chain.released, held],
-            seen => [seen, seen.wrapping_sub(held), held],
-        }
-    }
-
-    /// Why a call or a close is refused: 5, 16, 4, 5 of lent words, and what its slice decides.
-    fn refusal(&self, o: &Operation, slice: &[u64]) -> Result<Option<Answer>, NoCase> {
+    /// Why a call is refused.
+    fn call_refusal(
+        &self,
+        o: &Operation,
+        seen: u64,
+        slice: &[u64],
+    ) -> Result<Option<Answer>, NoCase> {
         let [a, b, ..] = o.args;
-        let [seen, ..] = self.counts(o);
         if self.moved_is_bad(seen)? {
             return Ok(Some(plain(5)));
-        }
-        let (held, slice) = (self.chain.held, samples(slice));
-        let decided = match o.op {
-            CLOSE => refusals::close(self.closed, held, &slice),
-            _ => refusals::call(self.closed, seen, held, &slice),
-        };
-        if self.closed {
-            return Ok(decided.map(refused));
         }
         if b as usize != 6 * self.setting.repairs || a as usize != 24 * self.setting.spans {
             return Ok(Some(plain(4)));
@@ -497,77 +442,40 @@ impl Machine {
         if self.ends_are_bad() {
             return Ok(Some(plain(5)));
         }
-        Ok(decided.map(refused))
+        Ok(refusals::call(seen, self.chain.held, &samples(slice)).map(refused))
     }
 
-    /// With the slice and the counts behind a call or a close.
-    fn counted(&self, o: &Operation, mut answer: Answer, slice: Vec<u64>) -> Answer {
-        answer.front[3..6].copy_from_slice(&self.counts(o));
-        with_clamped(with_slice(answer, o.how, slice), self.clamped())
-    }
-
-    fn conditioned(&mut self, o: &Operation) -> Result<Answer, NoCase> {
-        let mut slice = self.slice(o);
-        if let Some(answer) = self.refusal(o, &slice)? {
-            return Ok(self.counted(o, answer, slice));
+    fn call(&mut self, o: &Operation) -> Result<Answer, NoCase> {
+        let [_, _, c, d, _] = o.args;
+        let front = if c == AS_HELD {
+            self.chain.held
+        } else {
+            (c as usize).min(HELD)
+        };
+        let slice: Vec<u64> = filler(front).chain(o.words.iter().copied()).collect();
+        let seen = if d == 0 { self.seen() } else { d };
+        if let Some(mut answer) = self.call_refusal(o, seen, &slice)? {
+            let held = self.chain.held as u64;
+            answer.front[3..6].copy_from_slice(&[seen, seen.wrapping_sub(held), held]);
+            return Ok(with_clamped(
+                with_slice(answer, o.how, slice),
+                self.clamped(),
+            ));
         }
-        if o.args[3] != 0 {
+        if d != 0 {
             return Err(NoCase("a moved state that is taken"));
         }
-        let ready = match o.op {
-            CLOSE => self.close(&mut slice)?,
-            _ => self.call(&mut slice),
-        };
-        Ok(self.counted(o, said(0, ready as u64), slice))
-    }
-
-    /// An accepted call: how many samples it releases.
-    fn call(&mut self, slice: &mut [u64]) -> usize {
-        let xs = samples(slice);
-        self.stream.samples.extend(&xs[self.chain.held..]);
-        let mut conditioned = all_c32(&xs);
+        let mut conditioned = all_c32(&samples(&slice));
         let ready = self.chain.condition(&mut conditioned);
         self.hear();
-        self.long_runs = self.chain.log().impulse_long_runs();
-        slice.copy_from_slice(&words_c32(&conditioned));
-        self.stream.released.extend(&slice[..ready]);
-        ready
-    }
-
-    /// An accepted close: how many samples it releases.
-    fn close(&mut self, slice: &mut [u64]) -> Result<usize, NoCase> {
-        if self.written {
-            return Err(NoCase("a close of stores that their owner wrote"));
-        }
-        let input = Input::closed(&self.stream.samples);
-        let record = chain::whole(&self.setting, input, &self.stream.hops);
-        let out = words(&record.out);
-        let tail = out
-            .strip_prefix(&self.stream.released[..])
-            .expect("what was released before, by the second reading too");
-        assert_eq!(tail.len(), self.chain.held, "a close releases what is held");
-        slice[..tail.len()].copy_from_slice(tail);
-        let ready = tail.len();
-        self.leave_closed(record);
-        Ok(ready)
-    }
-
-    /// The original's fields, the rings and the repairs as a close leaves them; the monitor's stay.
-    fn leave_closed(&mut self, record: Record) {
-        self.chain.released = record.released;
-        self.chain.held = record.held as usize;
-        if let Some(gate) = &mut self.chain.impulse {
-            *gate = closed_gate(&self.setting, &self.stream.samples);
-        }
-        if let (Some(dc), Some(level)) = (&mut self.chain.dc, record.dc) {
-            dc.n = level.updates;
-            dc.dc = Complex64::new(level.re, level.im);
-            dc.clamped = record.clamped;
-        }
-        self.rings = record.rings;
-        self.repairs = record.repairs;
-        self.long_runs = record.long_runs;
-        self.closed = true;
+        let mut answer = said(0, ready as u64);
+        answer.front[3..6].copy_from_slice(&[
+            self.seen(),
+            self.chain.released,
+            self.chain.held as u64,
+        ]);
+        let answer = with_slice(answer, o.how, words_c32(&conditioned));
+        Ok(with_clamped(answer, self.clamped()))
     }
 
     // ---- a hop
@@ -594,7 +502,6 @@ impl Machine {
             Decided::Accepted => {
                 let result = self.chain.observe_hop(&all_c32(&channels), start);
                 self.hear();
-                self.stream.hops.push(Hop { start, channels });
                 self.monitor_words[3 * n..4 * n].fill(0.0);
                 match result {
                     Some(r) => with_evidence(plain(REPORT), evidence(&r)),
@@ -611,12 +518,7 @@ impl Machine {
         self.rings.iter().map(|r| r.ring.dropped).sum()
     }
 
-    /// Whether the original's log says what the rings do.
-    fn is_logged(&self) -> bool {
-        !self.written && !self.closed
-    }
-
-    /// The original's log, the rings that were laid out and the DC stage say the same.
+    /// The original's log, and the rings that were laid out, say the same.
     fn agree(&self) {
         let log = self.chain.log();
         for (i, ring) in self.rings.iter().enumerate() {
@@ -640,8 +542,6 @@ impl Machine {
             self.repairs.dropped,
             "dropped repairs"
         );
-        assert_eq!(log.dc_level(), self.level(), "DC level");
-        assert_eq!(log.dc_clamped(), self.clamped(), "clamped DC updates");
     }
 
     fn iq_words(&self) -> [u64; 3] {
@@ -656,20 +556,22 @@ impl Machine {
     }
 
     fn log_words(&self) -> Answer {
-        if self.is_logged() {
+        if !self.written {
             self.agree();
         }
+        let log = self.chain.log();
         let mut words = vec![self.seen(), self.chain.released, self.chain.held as u64];
-        for ring in &self.rings {
-            words.extend([ring.count, ring.ring.head as u64, ring.ring.held as u64]);
+        for (i, ring) in self.rings.iter().enumerate() {
+            words.push(log.count(Stage::ALL[i / 4], Mark::ALL[i % 4]));
+            words.extend([ring.ring.head as u64, ring.ring.held as u64]);
             words.push(ring.ring.dropped);
         }
         words.push(self.dropped());
         let r = &self.repairs;
         words.extend([r.head as u64, r.held as u64, r.dropped]);
-        words.push(self.long_runs);
-        let level = self.level().unwrap_or(Complex64::new(0.0, 0.0));
-        words.push(u64::from(self.level().is_some()));
+        words.push(log.impulse_long_runs());
+        let level = log.dc_level().unwrap_or(Complex64::new(0.0, 0.0));
+        words.push(u64::from(log.dc_level().is_some()));
         words.extend([bits(level.re), bits(level.im), self.clamped()]);
         words.extend(self.iq_words());
         let mut answer = plain(0);
@@ -692,7 +594,6 @@ impl Machine {
         let first = self.chain.image.as_ref().and_then(|image| image.start);
         words.extend([u64::from(first.is_some()), first.unwrap_or(0), self.end()]);
         words.extend(array_words(imp));
-        words.push(u64::from(self.closed));
         let mut answer = plain(0);
         answer.words = words;
         answer
@@ -722,7 +623,7 @@ impl Machine {
         }
         let rules = log::undone(&self.repairs, &samples(&o.words), first);
         let words: Vec<u64> = rules.iter().map(|y| y.word()).collect();
-        if self.is_logged() {
+        if !self.written {
             let mut slice = all_c32(&samples(&o.words));
             revert_repairs(&mut slice, first, self.chain.log());
             assert_eq!(words_c32(&slice), words, "undo of repairs");
@@ -732,21 +633,6 @@ impl Machine {
 }
 
 // ---- parts of a state
-
-/// The suppressor as a close of these samples leaves it: nothing is there but the last unflagged sample and
-/// the block of the last one.
-fn closed_gate(s: &Setting, xs: &[Sample]) -> ImpulseSuppressor {
-    let mut gate = ImpulseSuppressor::new(s.fs, s.impulse == Mode::Apply);
-    let flags = impulse::flags(Input::closed(xs));
-    let paused = impulse::paused(|_| s.edition, &flags, gate.block_len);
-    gate.left = flags.iter().rposition(|&f| !f).map(|j| c32(xs[j]));
-    if let Some(block) = flags.chunks(gate.block_len as usize).last() {
-        gate.block = paused.len() as u64 - 1;
-        gate.block_flagged = block.iter().filter(|&&f| f).count() as u64;
-        gate.paused = paused[gate.block as usize];
-    }
-    gate
-}
 
 fn gate_words(imp: &ImpulseSuppressor, edition: Edition) -> Vec<u64> {
     let run = imp.run;

@@ -8,7 +8,7 @@
 //! |---|---|---|---|
 //! | 1 make | lent spans, repairs, monitor words | configuration | 0 made, 100 nothing, 1 to 4 |
 //! | 2 config | | configuration | whether all is off; `observing` of it |
-//! | 3 call | lent spans, repairs; places in front; seen | new samples | 0, 4 to 8, 16; ready or place; seen, released, held, length; slice, clamped DC updates |
+//! | 3 call | lent spans, repairs; places in front; seen | new samples | 0, 4 to 8; ready or place; seen, released, held, length; slice, clamped DC updates |
 //! | 4 hop | start; lent spans, monitor words | channels | 0 no report, 101 report, 100 nothing, 4, 5, 7, 9; place; evidence |
 //! | 5 log | | | the log |
 //! | 6 state | | | the state |
@@ -20,7 +20,6 @@
 //! | 12 guard | | samples | 0; how many; slice |
 //! | 13 validate | gain, phase, centre | | 0, 11, 12, 13 |
 //! | 14 write | store, place, word | | |
-//! | 15 close | as a call's | any | 0, 4, 5, 6, 16; ready; the rest as a call's |
 //!
 //! With `how` 1 slices and stores are answered by a digest of theirs, and `s` is a slice's length.
 //! A configuration is thirteen words: modes of impulse, DC, IQ (0 off, 1 observe, 2 apply), fs, centre, n,
@@ -28,9 +27,8 @@
 //! edition of the pause rule (1, 2).
 //! A call's slice has `c` places in front of the new samples, or as many as are held where `c` is all
 //! ones; a NaN stands in each. Where `d` is not 0, the call is handed a state that has seen so many
-//! samples (of a closed chain's the impulse stage still has none), and the state before it stays. A close's
-//! slice is made alike, of words that it never reads. Operation 14 writes a word of the span store, the
-//! repair store or the monitor's words, as their owner may.
+//! samples, and the state before it stays. Operation 14 writes a word of the span store, the repair
+//! store or the monitor's words, as their owner may.
 //! Before the first making there is a chain of [`machine::first`].
 
 pub mod machine;
@@ -52,7 +50,6 @@ pub const IQ_UNDO: u64 = 11;
 pub const GUARD: u64 = 12;
 pub const VALIDATE: u64 = 13;
 pub const WRITE: u64 = 14;
-pub const CLOSE: u64 = 15;
 
 /// The words in front of an operation and of an answer.
 pub const FRONT: usize = 8;

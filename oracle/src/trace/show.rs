@@ -2,24 +2,21 @@
 
 use super::*;
 
-const NAMES: [&str; 16] = [
+const NAMES: [&str; 15] = [
     "none", "make", "config", "call", "hop", "log", "state", "stores", "span", "undo", "DC undo",
-    "IQ undo", "guard", "validate", "write", "close",
+    "IQ undo", "guard", "validate", "write",
 ];
 
-/// The arguments of a call and of a close.
-const CONDITIONING: [&str; 4] = [
-    "lent spans",
-    "lent repairs",
-    "places in front",
-    "as if seen",
-];
-
-const ARGUMENTS: [&[&str]; 16] = [
+const ARGUMENTS: [&[&str]; 15] = [
     &[],
     &["lent spans", "lent repairs", "lent monitor words"],
     &[],
-    &CONDITIONING,
+    &[
+        "lent spans",
+        "lent repairs",
+        "places in front",
+        "as if seen",
+    ],
     &["start", "lent spans", "lent monitor words"],
     &[],
     &[],
@@ -31,7 +28,6 @@ const ARGUMENTS: [&[&str]; 16] = [
     &[],
     &["gain", "phase", "centre"],
     &["store", "place", "word"],
-    &CONDITIONING,
 ];
 
 const CONFIGURATION: [&str; 13] = [
@@ -199,8 +195,7 @@ fn word_name(op: u64, front: &[u64; FRONT], i: usize) -> String {
             _ if i < 27 => names[i].to_string(),
             27..=59 => format!("power {} of the window", i - 27),
             60..=92 => format!("sorted power {}", i - 60),
-            93..=113 => format!("pending sample {}", i - 93),
-            _ => "closed".to_string(),
+            _ => format!("pending sample {}", i - 93),
         }
     };
     let stores = |i: usize| {
@@ -220,7 +215,7 @@ fn word_name(op: u64, front: &[u64; FRONT], i: usize) -> String {
         STATE => state(i),
         STORES if front[7] != 3 => stores(i),
         STORES => "digest".to_string(),
-        CALL | CLOSE if i + 1 == front[7] as usize => "clamped".to_string(),
+        CALL if i + 1 == front[7] as usize => "clamped".to_string(),
         _ => format!("place {i}"),
     }
 }

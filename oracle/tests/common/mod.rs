@@ -11,7 +11,7 @@ use oracle::num_complex::Complex64;
 use oracle::rules::chain::{self, Record};
 use oracle::rules::iq::{Coefficient, Settled};
 use oracle::rules::monitor::{self, Evidence, Hop};
-use oracle::rules::{dc, iq, log, Input, Mode, Sample, Setting};
+use oracle::rules::{dc, iq, log, Mode, Sample, Setting};
 pub use oracle::sides::*;
 use std::io::Write;
 
@@ -234,7 +234,7 @@ pub fn compare_iq_undo(ys: &[Sample], c: Coefficient, at: &str) {
 
 /// The original and the second reading on the same samples, in one call; answers the record.
 pub fn agree(s: &Setting, xs: &[Sample]) -> Record {
-    let record = chain::whole(s, Input::open(xs), &[]);
+    let record = chain::whole(s, xs, &[]);
     let (chain, out) = run_whole(s, xs);
     assert_eq!(words(&out), words(&record.out), "released samples");
     compare(&chain, s, &record, &[], "one call");

@@ -3,7 +3,7 @@
 
 use super::*;
 use oracle::rules::refusals::{within, TOTAL};
-use oracle::rules::{dc, guard, impulse, Edition, Input};
+use oracle::rules::{dc, guard, impulse, Edition};
 
 pub const IMPULSE: [&str; 15] = [
     "sparse clicks",
@@ -166,7 +166,7 @@ fn signal(rng: &mut Rng, kind: usize) -> Vec<Sample> {
 
 /// How many blocks edition 2 of the pause rule pauses and edition 1 does not.
 fn only_second(xs: &[Sample], fs: f64) -> u64 {
-    let flags = impulse::flags(Input::open(xs));
+    let flags = impulse::flags(xs);
     let paused = |edition| impulse::paused(|_| edition, &flags, impulse::block_length(fs));
     let [first, second] = [Edition::First, Edition::Second].map(paused);
     first.iter().zip(second).filter(|&(&a, b)| !a && b).count() as u64
@@ -175,10 +175,10 @@ fn only_second(xs: &[Sample], fs: f64) -> u64 {
 /// How many samples have a power within a millionth of the flag's limit.
 fn near_ratio(xs: &[Sample]) -> u64 {
     let near = |j: &usize| {
-        let limit = 144.0 * impulse::reference(xs, *j).expect("a judged sample has one");
+        let limit = 144.0 * impulse::reference(xs, *j);
         limit > 0.0 && (power(xs[*j]) / limit - 1.0).abs() < 1e-6
     };
-    let judged = impulse::judged(xs.len(), false);
+    let judged = xs.len().saturating_sub(impulse::HALF);
     (0..judged).filter(near).count() as u64
 }
 
@@ -401,9 +401,6 @@ impl Drawing<'_> {
             }
             let longest = self.rng.pick(&[1, 40, 700, 700, 3000]).max(xs.len() / 400);
             self.fed(&xs, longest, 40);
-            if inputs > 1 && self.rng.once_in(2) {
-                self.close(1_000_000);
-            }
             self.log();
         }
     }

@@ -15,7 +15,7 @@ use Rattle.rules.specs.Lists.{at, up_to}
 use Rattle.rules.specs.Guard.{usable}
 use Rattle.rules.specs.Pauses as pause
 use Rattle.rules.specs.Pauses.{Edition, always, paused}
-use Rattle.rules.specs.Impulse.{Setting, standard, window, reference, flagged, kept, mended, uncertain, events, value, paused_in, unclosed, happened, handed_on}
+use Rattle.rules.specs.Impulse.{Setting, standard, window, reference, flagged, kept, mended, uncertain, events, value, paused_in, happened, handed_on}
 use Rattle.rules.specs.Dc.{corner, first_level, level_after, blocked_all}
 use Rattle.rules.specs.Iq.{Calibration, with, Withheld, Correcting, coefficient, settled}
 use Rattle.rules.specs.Mode.{apply}
@@ -100,24 +100,24 @@ pub record BenchMarks : Type 0 where
   pub thirteen : flagged usual (among (n13 ∷ [])) 20 ≡ true
   pub lone : (xs : List ℕ) (k : ℕ) → usable (at xs k) ≡ true → ((i : ℕ) → i ≢ k → at xs i ≡ n0) → (j : ℕ) → flagged usual xs j ≡ false
   -- 'four (100,0) in a row repaired'
-  pub four : happened usual first_edition (unclosed (among (times 4 n100))) ≡ mended 20 4 (times 4 n100) ∷ []
-  pub four_handed : handed_on usual first_edition (unclosed (among (times 4 n100))) ≡ times 25 n1
+  pub four : happened usual first_edition (among (times 4 n100)) ≡ mended 20 4 (times 4 n100) ∷ []
+  pub four_handed : handed_on usual first_edition (among (times 4 n100)) ≡ times 25 n1
   -- 'five kept, one long run'
-  pub five : happened usual first_edition (unclosed (among (times 5 n100))) ≡ kept 20 5 true ∷ []
-  pub five_handed : handed_on usual first_edition (unclosed (among (times 5 n100))) ≡ times 20 n1 ++ (times 5 n100 ++ times 1 n1)
+  pub five : happened usual first_edition (among (times 5 n100)) ≡ kept 20 5 true ∷ []
+  pub five_handed : handed_on usual first_edition (among (times 5 n100)) ≡ times 20 n1 ++ (times 5 n100 ++ times 1 n1)
   -- 'nine unflagged (full window, reference 400.96)'
-  pub nine : happened usual first_edition (unclosed (among (times 9 n100))) ≡ []
+  pub nine : happened usual first_edition (among (times 9 n100)) ≡ []
   pub nine_reference : reference usual (window usual (among (times 9 n100)) 24) ≡ of_bits binary64 0x4079_0f5c_28f5_c28f
   -- 'sample 0 = (100,0) becomes (1,0)'
-  pub first : handed_on usual first_edition (unclosed (n100 ∷ times 22 n1)) ≡ times 2 n1
+  pub first : handed_on usual first_edition (n100 ∷ times 22 n1) ≡ times 2 n1
   -- '1, three (100,0), 5 mends to 2, 3, 4'
-  pub bridge : handed_on usual first_edition (unclosed (among (times 3 n100 ++ times 1 n5))) ≡ times 20 n1 ++ (n2 ∷ n3 ∷ n4 ∷ n5 ∷ times 1 n1)
+  pub bridge : handed_on usual first_edition (among (times 3 n100 ++ times 1 n5)) ≡ times 20 n1 ++ (n2 ∷ n3 ∷ n4 ∷ n5 ∷ times 1 n1)
   -- 'block 1000: one flagged goes on, two pause'
-  pub goes_on : happened by_thousand first_edition (unclosed one_flagged) ≡ mended 500 1 (n100 ∷ []) ∷ mended 1100 1 (n100 ∷ []) ∷ []
-  pub pauses : happened by_thousand first_edition (unclosed two_flagged)
+  pub goes_on : happened by_thousand first_edition one_flagged ≡ mended 500 1 (n100 ∷ []) ∷ mended 1100 1 (n100 ∷ []) ∷ []
+  pub pauses : happened by_thousand first_edition two_flagged
       ≡ mended 300 1 (n100 ∷ []) ∷ mended 500 1 (n100 ∷ []) ∷ (up_to (λ i. uncertain (1000 + i)) 102 ++ (kept 1100 1 false ∷ up_to (λ i. uncertain (1102 + i)) 4))
   -- '16 samples judge none'
-  pub sixteen : (xs : List ℕ) → length xs ≡ 16 → happened usual first_edition (unclosed xs) ≡ []
+  pub sixteen : (xs : List ℕ) → length xs ≡ 16 → happened usual first_edition xs ≡ []
   -- 'fs 48000, DC first (2,0) gives level (1,0); (0.5,0) twice gives 0.5, 0'
   pub dc_two : (level_after (corner rate) first_level (n2 ∷ [])).level ≡ record { re = of_bits binary64 0x3ff0_0000_0000_0000; im = of_bits binary64 0 }
   pub dc_half : blocked_all (corner rate) first_level (n_half ∷ n_half ∷ []) ≡ n_half ∷ n0 ∷ []
@@ -131,23 +131,23 @@ pub record BenchMarks : Type 0 where
 abbrev in_run : ℕ → ℕ → ℕ → Bool
 in_run a n j = leb a j && ltb j (a + n)
 
-four_flags : flags_of usual (unclosed (among (times 4 n100))) ≡ from (in_run 20 4) 30 0
+four_flags : flags_of usual (among (times 4 n100)) ≡ from (in_run 20 4) 30 0
 unfolding floats impulse_rules flags_of from
 four_flags = refl
 
-five_flags : flags_of usual (unclosed (among (times 5 n100))) ≡ from (in_run 20 5) 31 0
+five_flags : flags_of usual (among (times 5 n100)) ≡ from (in_run 20 5) 31 0
 unfolding floats impulse_rules flags_of from
 five_flags = refl
 
-nine_flags : flags_of usual (unclosed (among (times 9 n100))) ≡ from (in_run 0 0) 35 0
+nine_flags : flags_of usual (among (times 9 n100)) ≡ from (in_run 0 0) 35 0
 unfolding floats impulse_rules flags_of from
 nine_flags = refl
 
-first_flags : flags_of usual (unclosed (n100 ∷ times 22 n1)) ≡ from (in_run 0 1) 7 0
+first_flags : flags_of usual (n100 ∷ times 22 n1) ≡ from (in_run 0 1) 7 0
 unfolding floats impulse_rules flags_of from
 first_flags = refl
 
-bridge_flags : flags_of usual (unclosed (among (times 3 n100 ++ times 1 n5))) ≡ from (in_run 20 3) 30 0
+bridge_flags : flags_of usual (among (times 3 n100 ++ times 1 n5)) ≡ from (in_run 20 3) 30 0
 unfolding floats impulse_rules flags_of from
 bridge_flags = refl
 
@@ -216,7 +216,7 @@ is_nine_reference : reference usual (window usual (among (times 9 n100)) 24) ≡
 unfolding floats impulse_rules
 is_nine_reference = refl
 
-none_judged : (xs : List ℕ) → length xs ≡ 16 → happened usual first_edition (unclosed xs) ≡ []
+none_judged : (xs : List ℕ) → length xs ≡ 16 → happened usual first_edition xs ≡ []
 unfolding happened events
 none_judged xs h = let e : length xs - 16 ≡ 0 = omega arith in ap (events usual (flagged usual xs) (paused_in usual first_edition xs) xs) e
 
@@ -250,16 +250,16 @@ bench_marks =
       twelve = is_twelve;
       thirteen = is_thirteen;
       lone = lone_unflagged usual (lit< tt);
-      four = happened_by usual first_edition (unclosed (among (times 4 n100))) (in_run 20 4) four_flags ∙ four_events;
-      four_handed = handed_by usual first_edition (unclosed (among (times 4 n100))) (in_run 20 4) four_flags ∙ four_values;
-      five = happened_by usual first_edition (unclosed (among (times 5 n100))) (in_run 20 5) five_flags ∙ five_events;
-      five_handed = handed_by usual first_edition (unclosed (among (times 5 n100))) (in_run 20 5) five_flags ∙ five_values;
-      nine = happened_by usual first_edition (unclosed (among (times 9 n100))) (in_run 0 0) nine_flags ∙ nine_events;
+      four = happened_by usual first_edition (among (times 4 n100)) (in_run 20 4) four_flags ∙ four_events;
+      four_handed = handed_by usual first_edition (among (times 4 n100)) (in_run 20 4) four_flags ∙ four_values;
+      five = happened_by usual first_edition (among (times 5 n100)) (in_run 20 5) five_flags ∙ five_events;
+      five_handed = handed_by usual first_edition (among (times 5 n100)) (in_run 20 5) five_flags ∙ five_values;
+      nine = happened_by usual first_edition (among (times 9 n100)) (in_run 0 0) nine_flags ∙ nine_events;
       nine_reference = is_nine_reference;
-      first = handed_by usual first_edition (unclosed (n100 ∷ times 22 n1)) (in_run 0 1) first_flags ∙ first_values;
-      bridge = handed_by usual first_edition (unclosed (among (times 3 n100 ++ times 1 n5))) (in_run 20 3) bridge_flags ∙ bridge_values;
-      goes_on = happened_by by_thousand first_edition (unclosed one_flagged) one_at (quick_flags by_thousand one_flagged (lit≤ tt) ∙ one_quick) ∙ one_events;
-      pauses = happened_by by_thousand first_edition (unclosed two_flagged) two_at (quick_flags by_thousand two_flagged (lit≤ tt) ∙ two_quick) ∙ two_events;
+      first = handed_by usual first_edition (n100 ∷ times 22 n1) (in_run 0 1) first_flags ∙ first_values;
+      bridge = handed_by usual first_edition (among (times 3 n100 ++ times 1 n5)) (in_run 20 3) bridge_flags ∙ bridge_values;
+      goes_on = happened_by by_thousand first_edition one_flagged one_at (quick_flags by_thousand one_flagged (lit≤ tt) ∙ one_quick) ∙ one_events;
+      pauses = happened_by by_thousand first_edition two_flagged two_at (quick_flags by_thousand two_flagged (lit≤ tt) ∙ two_quick) ∙ two_events;
       sixteen = none_judged;
       dc_two = is_dc_two;
       dc_half = is_dc_half;

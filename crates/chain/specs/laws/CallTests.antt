@@ -1,13 +1,12 @@
--- A call and a close by the answers of their tests. Assumes nothing.
-use Rattle.std.specs.Prelude.{◌≡◌, Bool, T, ltb, length, drop}
+-- A call by the answers of its tests. Assumes nothing.
+use Rattle.std.specs.Prelude.{◌≡◌, Bool, ℕ, zero, suc, ◌+◌, ◌-◌, ◌*◌, ◌≤◌, T, ltb, length, drop}
 use Rattle.std.proofs.Math.Path.{refl, ap}
 use Rattle.std.proofs.Common.{sym, ◌∙◌, arith}
 use Rattle.std.proofs.Math.Bool.{true, false, not, cond}
 use Rattle.std.proofs.lemmas.Bool.{false≢true}
 use mathlib.Core.List.{List, [], ◌∷◌, ◌++◌}
-use Prim.Native.Nat.{ℕ, zero, suc, ◌+◌, ◌-◌, ◌*◌, ◌≤◌}
 use Rattle.std.proofs.Math.Dec.{eqb}
-use borrow.Author.Tests.{lt-ltb, le-ltb, eq-eqb, eqb-true, ltb-true, ltb-false, not-false}
+use borrow.Author.Tests.{lt-ltb, le-ltb, eqb-true, ltb-true, ltb-false, not-false}
 use Rattle.rules.specs.Guard.{usable, first_unusable_from, Usable}
 use Rattle.rules.specs.Answers.{Said, accepted, refused, number_of}
 use Rattle.rules.specs.Refusals.{Cause, first_of, too_many, unusable_at, any_unusable}
@@ -21,9 +20,8 @@ use Rattle.sample_guard.specs.declared.Found.TheVariants.{At, Nothing}
 use Rattle.sample_guard.specs.Found.{found, place_in}
 use Rattle.chain_state.specs.declared.InputConditioner.{InputConditioner}
 use Rattle.chain_state.specs.Fits.{state_fits}
-use Rattle.chain.specs.Stages.{new_part, Machine, machine_of, Closable, Acceptable}
-use Rattle.chain.specs.Calls.{close_causes, close_refusal, unread_causes, unread_refusal, call_refusal, told_unread, told_read, Outcome, taken_call, taken_close}
-use Rattle.chain.specs.Calls.{declined, called, closed_by}
+use Rattle.chain.specs.Stages.{new_part, Machine, machine_of, Acceptable}
+use Rattle.chain.specs.Calls.{unread_causes, unread_refusal, call_refusal, told_unread, told_read, Outcome, taken, declined, called}
 
 -- ---- the first cause of a list
 
@@ -61,24 +59,12 @@ none_holds (c ∷ l) a z = go c.holds refl (none_holds l a.1) z
     go true e rest q = absurd (false≢true (sym a.0 ∙ ap (λ (n : ℕ). eqb n 0) q))
     go false e rest q = (e, rest q)
 
--- nor does one behind them
-none_behind : (n : ℕ) (b : Bool) (k : ℕ) → eqb k 0 ≡ false → cond (eqb n 0) (cond b k 0) n ≡ 0 → (n ≡ 0) × (b ≡ false)
-none_behind n b k some z = go (eqb n 0) refl z
-  where
-    last : (b : Bool) → cond b k 0 ≡ 0 → b ≡ false
-    last true q = absurd (false≢true (sym some ∙ eq-eqb k 0 q))
-    last false q = refl
+-- ---- a call's causes
 
-    go : (t : Bool) → eqb n 0 ≡ t → cond t (cond b k 0) n ≡ 0 → (n ≡ 0) × (b ≡ false)
-    go true e q = (eqb-true n 0 e, last b q)
-    go false e q = absurd (false≢true (sym e ∙ eq-eqb n 0 q))
-
--- ---- the causes
-
--- a close's number by the answers of its tests
-abbrev pub close_number : Bool → Bool → Bool → Bool → Bool → Bool → ℕ
-close_number fits closed repairs spans ends short =
-    cond (not fits) 5 (cond closed 16 (cond (not repairs) 4 (cond (not spans) 4 (cond (not ends) 5 (cond short 6 0)))))
+-- a call's number by the answers of its tests
+abbrev pub call_number : Bool → Bool → Bool → Bool → Bool → Bool → Bool → ℕ
+call_number fits repairs spans ends short many unusable =
+    cond (not fits) 5 (cond (not repairs) 4 (cond (not spans) 4 (cond (not ends) 5 (cond short 6 (cond many 8 (cond unusable 7 0))))))
 
 -- the number of what is told unread
 pub told_number : (n k : ℕ) (s : Said ℕ) → s ≡ told_unread n → k ≡ number_of s → n ≡ k
@@ -97,99 +83,77 @@ told_read_lem held xs s e = go (any_unusable held xs).holds ∙ ap (λ (x : Said
     go false = refl
 
 module _ (c : InputConditioner) (len : ℕ) (spans repairs : List ℕ) where
-  pub close_by : (f k r s e h : Bool)
+  pub unread_by : (f r s e h t : Bool)
       → state_fits c ≡ f
-      → c.closed ≡ k
       → eqb (length repairs) (repair_width * c.settings.repairs) ≡ r
       → eqb (length spans) (store_width * c.settings.spans) ≡ s
       → ends_fit c.settings.spans (record { log = c.notes.log; spans = spans }) ≡ e
       → ltb len c.counts.held ≡ h
-      → close_refusal c len spans repairs ≡ close_number f k r s e h
-  unfolding close_refusal first_of
-  close_by f k r s e h a1 a2 a3 a4 a5 a6 = λ i. close_number (a1 i) (a2 i) (a3 i) (a4 i) (a5 i) (a6 i)
+      → (too_many c.counts.seen (len - c.counts.held)).holds ≡ t
+      → unread_refusal c len spans repairs ≡ call_number f r s e h t false
+  unfolding unread_refusal first_of
+  unread_by f r s e h t a1 a2 a3 a4 a5 a6 = λ i. call_number (a1 i) (a2 i) (a3 i) (a4 i) (a5 i) (a6 i) false
 
-  close_numbered : Numbered (close_causes c len spans repairs)
-  close_numbered = (refl, (refl, (refl, (refl, (refl, (refl, tt))))))
-
-  numbered : Numbered (unread_causes c len spans repairs)
-  numbered = (refl, (refl, (refl, (refl, (refl, (refl, (refl, tt)))))))
-
-  -- 8 is told behind them
-  pub unread_by : (n : ℕ) (t : Bool) → close_refusal c len spans repairs ≡ n → (too_many c.counts.seen (len - c.counts.held)).holds ≡ t
-      → unread_refusal c len spans repairs ≡ cond (eqb n 0) (cond t 8 0) n
-  unfolding close_refusal unread_refusal first_of
-  unread_by n t e q =
-      first_append (close_causes c len spans repairs) (too_many c.counts.seen (len - c.counts.held) ∷ []) close_numbered
-      ∙ (λ i. cond (eqb (e i) 0) (cond (q i) 8 0) (e i))
-
-  -- what is not refused has passed all its tests
+  -- what is not refused unread has passed all its tests
   pub record Passes : Type 0 where
     pub fits : state_fits c ≡ true
-    pub still_open : c.closed ≡ false
     pub repairs_long : length repairs ≡ repair_width * c.settings.repairs
     pub spans_long : length spans ≡ store_width * c.settings.spans
     pub ends : ends_fit c.settings.spans (record { log = c.notes.log; spans = spans }) ≡ true
     pub held_in : c.counts.held ≤ len
+    pub few : len - c.counts.held ≤ total_limit - c.counts.seen
 
-  pub closes : close_refusal c len spans repairs ≡ 0 → Passes
-  unfolding close_refusal
-  closes z =
-      let a = none_holds (close_causes c len spans repairs) close_numbered z in
-      let long = ltb-false len c.counts.held a.1.1.1.1.1.0 in
-      record {
-        fits = not-false _ a.0;
-        still_open = a.1.0;
-        repairs_long = eqb-true _ _ (not-false _ a.1.1.0);
-        spans_long = eqb-true _ _ (not-false _ a.1.1.1.0);
-        ends = not-false _ a.1.1.1.1.0;
-        held_in = omega arith;
-      }
-
-  -- a call is refused for what a close is
-  pub unread_none : unread_refusal c len spans repairs ≡ 0
-      → (close_refusal c len spans repairs ≡ 0) × ((too_many c.counts.seen (len - c.counts.held)).holds ≡ false)
-  unread_none z =
-      let n = close_refusal c len spans repairs in
-      let t = (too_many c.counts.seen (len - c.counts.held)).holds in
-      none_behind n t 8 refl (sym (unread_by n t refl refl) ∙ z)
+  numbered : Numbered (unread_causes c len spans repairs)
+  numbered = (refl, (refl, (refl, (refl, (refl, (refl, tt))))))
 
   pub passes : unread_refusal c len spans repairs ≡ 0 → Passes
-  passes z = closes (unread_none z).0
-
-  pub few_more : (too_many c.counts.seen (len - c.counts.held)).holds ≡ false → len - c.counts.held ≤ total_limit - c.counts.seen
-  few_more e = let few = ltb-false total_limit (c.counts.seen + (len - c.counts.held)) e in omega arith
-
-  pub closable : close_refusal c len spans repairs ≡ 0 → length c.notes.log.rings ≡ 12 → length c.notes.log.counts ≡ 12
-      → Closable c len spans repairs
-  closable z rings counts =
-      let p = closes z in
+  unfolding unread_refusal
+  passes z =
+      let a = none_holds (unread_causes c len spans repairs) numbered z in
+      let long = ltb-false len c.counts.held a.1.1.1.1.0 in
+      let few = ltb-false total_limit (c.counts.seen + (len - c.counts.held)) a.1.1.1.1.1.0 in
       record {
-        stored = record { fits = p.fits; rings = rings; counts = counts; repairs_long = p.repairs_long; spans_long = p.spans_long; ends = p.ends };
-        still_open = p.still_open;
-        held_in = p.held_in;
+        fits = not-false _ a.0;
+        repairs_long = eqb-true _ _ (not-false _ a.1.0);
+        spans_long = eqb-true _ _ (not-false _ a.1.1.0);
+        ends = not-false _ a.1.1.1.0;
+        held_in = omega arith;
+        few = omega arith;
       }
 
   -- 7 is not among them
   no_seven : eqb (unread_refusal c len spans repairs) 7 ≡ false
   unfolding unread_refusal
-  no_seven = number_in (λ n. eqb n 7 ≡ false) refl (unread_causes c len spans repairs) (refl, (refl, (refl, (refl, (refl, (refl, (refl, tt)))))))
+  no_seven = number_in (λ n. eqb n 7 ≡ false) refl (unread_causes c len spans repairs) (refl, (refl, (refl, (refl, (refl, (refl, tt))))))
 
 module _ (c : InputConditioner) (samples spans repairs : List ℕ) where
+  pub refusal_by : (f r s e h t u : Bool)
+      → state_fits c ≡ f
+      → eqb (length repairs) (repair_width * c.settings.repairs) ≡ r
+      → eqb (length spans) (store_width * c.settings.spans) ≡ s
+      → ends_fit c.settings.spans (record { log = c.notes.log; spans = spans }) ≡ e
+      → ltb (length samples) c.counts.held ≡ h
+      → (too_many c.counts.seen (length samples - c.counts.held)).holds ≡ t
+      → (any_unusable c.counts.held (new_part c samples)).holds ≡ u
+      → call_refusal c samples spans repairs ≡ call_number f r s e h t u
+  unfolding call_refusal first_of
+  refusal_by f r s e h t u a1 a2 a3 a4 a5 a6 a7 = λ i. call_number (a1 i) (a2 i) (a3 i) (a4 i) (a5 i) (a6 i) (a7 i)
+
   -- a refusal, by its number
   pub declined_by : (n : ℕ) → call_refusal c samples spans repairs ≡ n → eqb n 0 ≡ false
       → called (machine_of c spans repairs) samples
       ≡ declined (machine_of c spans repairs) samples (returned n (unusable_at c.counts.held (new_part c samples)))
   unfolding called
   declined_by n e z =
-      ap (λ (k : ℕ). cond (eqb k 0) (taken_call (machine_of c spans repairs) samples)
+      ap (λ (k : ℕ). cond (eqb k 0) (taken (machine_of c spans repairs) samples)
       (declined (machine_of c spans repairs) samples (returned k (unusable_at c.counts.held (new_part c samples))))) e
-      ∙ ap (λ (b : Bool). cond b (taken_call (machine_of c spans repairs) samples)
+      ∙ ap (λ (b : Bool). cond b (taken (machine_of c spans repairs) samples)
       (declined (machine_of c spans repairs) samples (returned n (unusable_at c.counts.held (new_part c samples))))) z
 
-  pub taken_by : call_refusal c samples spans repairs ≡ 0 → called (machine_of c spans repairs) samples ≡ taken_call (machine_of c spans repairs) samples
+  pub taken_by : call_refusal c samples spans repairs ≡ 0 → called (machine_of c spans repairs) samples ≡ taken (machine_of c spans repairs) samples
   unfolding called
   taken_by e =
-      ap (λ (k : ℕ). cond (eqb k 0) (taken_call (machine_of c spans repairs) samples)
+      ap (λ (k : ℕ). cond (eqb k 0) (taken (machine_of c spans repairs) samples)
       (declined (machine_of c spans repairs) samples (returned k (unusable_at c.counts.held (new_part c samples))))) e
 
 -- ---- the first unusable place, counted from another place on
@@ -290,14 +254,6 @@ module _ (c : InputConditioner) (samples spans repairs : List ℕ) where
       (numbered c (length samples) spans repairs)
       ∙ (λ i. cond (eqb (e i) 0) (cond (q i) 7 0) (e i))
 
-  -- a call that is not refused has no unusable sample
-  pub call_none : call_refusal c samples spans repairs ≡ 0
-      → (unread_refusal c (length samples) spans repairs ≡ 0) × ((any_unusable c.counts.held (new_part c samples)).holds ≡ false)
-  call_none z =
-      let n = unread_refusal c (length samples) spans repairs in
-      let u = (any_unusable c.counts.held (new_part c samples)).holds in
-      none_behind n u 7 refl (sym (by_order n u refl refl) ∙ z)
-
   -- what is refused unread leaves all
   pub unread_declined : (n : ℕ) → unread_refusal c (length samples) spans repairs ≡ n → eqb n 0 ≡ false
       → Is (called (machine_of c spans repairs) samples) (told_unread n) (machine_of c spans repairs) samples
@@ -321,36 +277,21 @@ module _ (c : InputConditioner) (samples spans repairs : List ℕ) where
         (seven ∙ d.0, d.1)
 
     pub accepted_call : (any_unusable c.counts.held (new_part c samples)).holds ≡ false
-        → called (machine_of c spans repairs) samples ≡ taken_call (machine_of c spans repairs) samples
+        → called (machine_of c spans repairs) samples ≡ taken (machine_of c spans repairs) samples
     accepted_call u = taken_by c samples spans repairs (by_order 0 false z u)
 
     -- what is not refused for a sample either is accepted
     pub read_accepted : (s : Said ℕ) → s ≡ told_read c.counts.held (new_part c samples) → number_of s ≡ 0
-        → called (machine_of c spans repairs) samples ≡ taken_call (machine_of c spans repairs) samples
+        → called (machine_of c spans repairs) samples ≡ taken (machine_of c spans repairs) samples
     read_accepted s e none = accepted_call (told_read_lem c.counts.held (new_part c samples) s e ∙ ap (λ (n : ℕ). not (eqb n 0)) none)
 
     pub acceptable : length c.notes.log.rings ≡ 12 → length c.notes.log.counts ≡ 12 → Acceptable c samples spans repairs
     acceptable rings counts =
-        let n = unread_none c (length samples) spans repairs z in
-        record { closable = closable c (length samples) spans repairs n.0 rings counts; few = few_more c (length samples) spans repairs n.1 }
-
--- ---- the outcome of a close
-
-module _ (m : Machine) (samples : List ℕ) where
-  abbrev number : ℕ
-  number = close_refusal m.state (length samples) m.spans m.repairs
-
-  pub shut_by : number ≡ 0 → closed_by m samples ≡ taken_close m samples
-  unfolding closed_by
-  shut_by e = ap (λ (n : ℕ). cond (eqb n 0) (taken_close m samples) (declined m samples (n ∷ []))) e
-
-  pub shut_declined : eqb number 0 ≡ false → Is (closed_by m samples) (told_unread number) m samples
-  unfolding closed_by
-  shut_declined e =
-      is_by (closed_by m samples) (told_unread number) m samples
-      (ap (λ (b : Bool). cond b (taken_close m samples) (declined m samples (number ∷ []))) e
-      ∙ ap (λ (s : Said ℕ). record { said = s; machine = m; samples = samples }) (told number e))
-    where
-      told : (n : ℕ) → eqb n 0 ≡ false → refused (n ∷ []) ≡ told_unread n
-      told zero e = absurd (false≢true (sym e))
-      told (suc n) e = refl
+        let p = passes c (length samples) spans repairs z in
+        record {
+          stored =
+              record { fits = p.fits; rings = rings; counts = counts; repairs_long = p.repairs_long; spans_long = p.spans_long; ends = p.ends };
+          held_in =
+              p.held_in;
+          few = p.few;
+        }

@@ -1,27 +1,31 @@
--- The stages one after another make `carried` and `released_by`. Assumes nothing.
-use Rattle.std.specs.Prelude.{◌≡◌, refl, Bool, true, false, cond, List, ◌++◌, map, ℕ, ◌+◌, ◌-◌, ◌^◌, ◌≤◌, length, take, drop}
-use Rattle.std.proofs.Common.{sym, ◌∙◌, subst, arith, length-append, length-drop, take_at, drop_at}
-use Rattle.std.proofs.Math.Path.{ap}
+-- The stages one after another make `process` and `hands_on`. Assumes nothing.
+use Rattle.std.specs.Prelude.{◌≡◌, refl, Bool, true, false, cond, ℕ, ◌+◌, ◌-◌, ◌^◌, ◌≤◌, take}
+use Rattle.std.proofs.Math.Path.{sym, ap}
+use Rattle.std.proofs.Common.{◌∙◌, subst, arith, length-append, length-drop, take_at, drop_at}
+use mathlib.Core.List.{List, ◌++◌, map}
+use Rattle.std.proofs.Math.ListN.{length, drop}
 use Rattle.rules.specs.Impulse.{Event}
 use Rattle.rules.specs.laws.ListLaws.{length-map}
 use Rattle.rules.specs.Iq.{corrected_by}
 use Rattle.rules.specs.Log.{Span, span_of}
 use Rattle.rules.specs.Constants.{total_limit}
+use Rattle.log.specs.declared.Log.{Log}
 use Rattle.log.specs.View.{Logged, with_log}
 use Rattle.log.specs.Ready.{Bounded}
 use Rattle.impulse.specs.declared.ImpulseSuppressor.{ImpulseSuppressor}
 use Rattle.impulse_slice.specs.declared.Ran.{Ran}
 use Rattle.impulse_slice.specs.Noted.{Noted, noted_of, note_all, handed, over, Roomy}
-use Rattle.impulse_slice.specs.laws.NotesLaws.{note_none, roomy_up}
+use Rattle.impulse_slice.specs.laws.NotesLaws.{note_none, bounded_up, roomy_up}
 use Rattle.impulse_slice.specs.laws.StageLaws.{handed_most, roomy_run}
+use Rattle.dc.specs.declared.Blocked.{Blocked}
 use Rattle.iq.specs.View.{settled_of}
 use Rattle.stage_mode.specs.View.{mode_of}
 use Rattle.chain_state.specs.declared.Counts.{Counts}
 use Rattle.chain_state.specs.declared.InputConditioner.{InputConditioner}
-use Rattle.chain_state.specs.Changed.{after_turn}
-use Rattle.chain.specs.Stages.{setting_in, new_part, Turn, call_turn, machine_of, notes_in, impulse_out, impulse_told, dc_after, blocked_by, noted_dc, noted_iq}
-use Rattle.chain.specs.Stages.{released_by, notes_after, logged_after, counts_after, machine_after, carried, Acceptable}
-use Rattle.chain.specs.laws.SliceLaws.{stored_roomy, call_room, new_length, new_few, off_told, on_told, blocked_by_length}
+use Rattle.chain_state.specs.Changed.{after_call}
+use Rattle.chain.specs.Stages.{setting_in, new_part, machine_of, notes_in, impulse_after, impulse_out, impulse_told, dc_after, blocked_by, noted_dc, noted_iq}
+use Rattle.chain.specs.Stages.{hands_on, notes_after, logged_after, counts_after, machine_after, process, Acceptable}
+use Rattle.chain.specs.laws.SliceLaws.{call_roomy, call_room, new_length, new_few, off_told, on_told, blocked_by_length, dc_few}
 
 -- ---- how many samples are handed on
 
@@ -34,113 +38,124 @@ out_most c new = go c.settings.impulse
     go true = handed_most (setting_in c) c.suppressor new
     go false = omega arith
 
--- DC first, and then IQ
-pub released_by_lem : (c : InputConditioner) (out : List ℕ)
-    → released_by c out ≡ map (corrected_by (settled_of c.settings.iq)) (blocked_by (mode_of c.settings.dc) c.blocker out)
-unfolding released_by
-released_by_lem c out = refl
-
 -- and the other stages hand on as many as they get
-pub released_length : (c : InputConditioner) (out : List ℕ) → length (released_by c out) ≡ length out
-released_length c out = simp (released_by_lem c out, length-map, blocked_by_length)
+pub hands_length : (c : InputConditioner) (new : List ℕ) → length (hands_on c new) ≡ length (impulse_out c new)
+unfolding hands_on
+hands_length c new = simp (length-map, blocked_by_length)
 
--- ---- what a turn needs, of a slice of so many places
-
-pub record Carries (c : InputConditioner) (len : ℕ) (spans repairs : List ℕ) (t : Turn) : Type 0 where
-  pub inside : length t.out ≤ len
-  pub few : length t.out ≤ total_limit
-  pub new : t.new ≤ total_limit
-  pub kept : length t.out ≤ c.counts.held + t.new
-  -- the notes of the impulse stage leave room for the marks of the others
-  pub roomy : Roomy c.settings.spans c.settings.repairs (2 ^ 54) (notes_after (machine_of c spans repairs) t)
-
--- a call
 module _ (c : InputConditioner) (samples spans repairs : List ℕ) (a : Acceptable c samples spans repairs) where
+  pub ready_few : (ready : ℕ) → ready ≡ length (impulse_out c (new_part c samples)) → ready ≤ total_limit
+  ready_few ready e = omega (arith, out_most c (new_part c samples), new_few c samples spans repairs a)
+
+  pub ready_inside : (ready : ℕ) → ready ≡ length (impulse_out c (new_part c samples)) → ready ≤ length samples
+  ready_inside ready e = omega (arith, out_most c (new_part c samples), new_length c samples spans repairs a)
+
+  -- the notes of the impulse stage
   abbrev notesFrom : List Event → Noted
   notesFrom es = note_all c.settings.spans c.settings.repairs (notes_in (machine_of c spans repairs)) es
 
-  notes_roomy : Roomy c.settings.spans c.settings.repairs (2 ^ 54) (notesFrom (impulse_told c (new_part c samples)))
+  -- they leave room for the marks of the other stages
+  notes_roomy : Roomy c.settings.spans c.settings.repairs (2 ^ 53) (notesFrom (impulse_told c (new_part c samples)))
   notes_roomy = go c.settings.impulse refl
     where
-      go : (b : Bool) → c.settings.impulse ≡ b → Roomy c.settings.spans c.settings.repairs (2 ^ 54) (notesFrom (impulse_told c (new_part c samples)))
+      go : (b : Bool) → c.settings.impulse ≡ b → Roomy c.settings.spans c.settings.repairs (2 ^ 53) (notesFrom (impulse_told c (new_part c samples)))
       go true on =
-          subst (λ (es : List Event). Roomy c.settings.spans c.settings.repairs (2 ^ 54) (notesFrom es)) (on_told c samples spans repairs a on)
+          subst (λ (es : List Event). Roomy c.settings.spans c.settings.repairs (2 ^ 53) (notesFrom es)) (on_told c samples spans repairs a on)
           (roomy_run c.settings.spans c.settings.repairs (notes_in (machine_of c spans repairs)) (setting_in c) c.suppressor c.counts.held samples
-          (call_room c samples spans repairs a on) (stored_roomy c spans repairs a.closable.stored))
+          (call_room c samples spans repairs a on) (call_roomy c samples spans repairs a))
       go false off =
-          subst (λ (es : List Event). Roomy c.settings.spans c.settings.repairs (2 ^ 54) (notesFrom es)) (off_told c samples spans repairs a off)
-          (subst (Roomy c.settings.spans c.settings.repairs (2 ^ 54))
+          subst (λ (es : List Event). Roomy c.settings.spans c.settings.repairs (2 ^ 53) (notesFrom es)) (off_told c samples spans repairs a off)
+          (subst (Roomy c.settings.spans c.settings.repairs (2 ^ 53))
           (sym (note_none c.settings.spans c.settings.repairs (notes_in (machine_of c spans repairs))))
-          (roomy_up c.settings.spans c.settings.repairs (2 ^ 52) (2 ^ 54) (notes_in (machine_of c spans repairs)) (omega arith)
-          (stored_roomy c spans repairs a.closable.stored)))
+          (roomy_up c.settings.spans c.settings.repairs (2 ^ 52) (2 ^ 53) (notes_in (machine_of c spans repairs)) (omega arith)
+          (call_roomy c samples spans repairs a)))
 
-  pub call_carries : Carries c (length samples) spans repairs (call_turn c (new_part c samples))
-  unfolding notes_after
-  call_carries =
-      let most = out_most c (new_part c samples) in
-      let n = new_length c samples spans repairs a in
-      let few = new_few c samples spans repairs a in
-      record { inside = omega arith; few = omega arith; new = few; kept = omega arith; roomy = notes_roomy }
+  -- ---- the impulse stage has run
 
--- ---- the impulse stage has run
+  module _ (ran : Ran) (samples₁ spans₁ repairs₁ : List ℕ)
+      (noted : noted_of ran.notes spans₁ repairs₁ ≡ notesFrom (impulse_told c (new_part c samples)))
+      (count : ran.ready ≡ length (impulse_out c (new_part c samples)))
+      (written : samples₁ ≡ over (impulse_out c (new_part c samples)) samples) where
+    pub ran_bounded : Bounded c.settings.spans (2 ^ 54) (record { log = ran.notes.log; spans = spans₁ })
+    ran_bounded =
+        bounded_up c.settings.spans (2 ^ 53) (2 ^ 54) (record { log = ran.notes.log; spans = spans₁ }) (omega arith)
+        (subst (λ (x : Noted). Bounded c.settings.spans (2 ^ 53) x.logged) (sym noted) notes_roomy.spans)
 
-module _ (c : InputConditioner) (samples spans repairs : List ℕ) (t : Turn) (a : Carries c (length samples) spans repairs t)
-    (ran : Ran) (samples₁ spans₁ repairs₁ : List ℕ)
-    (noted : noted_of ran.notes spans₁ repairs₁ ≡ notes_after (machine_of c spans repairs) t)
-    (count : ran.ready ≡ length t.out)
-    (written : samples₁ ≡ over t.out samples) where
-  pub ran_bounded : Bounded c.settings.spans (2 ^ 54) (record { log = ran.notes.log; spans = spans₁ })
-  ran_bounded =
-      subst (λ (x : Noted). Bounded c.settings.spans (2 ^ 54) x.logged) (sym noted) a.roomy.spans
+    -- what it wrote in front, and the rest
+    front : take ran.ready samples₁ ≡ impulse_out c (new_part c samples)
+    front =
+        ap (take ran.ready) written
+        ∙ take_at (impulse_out c (new_part c samples)) (drop (length (impulse_out c (new_part c samples))) samples) ran.ready (sym count)
 
-  -- what it wrote in front, and the rest
-  front : take ran.ready samples₁ ≡ t.out
-  front = ap (take ran.ready) written ∙ take_at t.out (drop (length t.out) samples) ran.ready (sym count)
+    rest : drop ran.ready samples₁ ≡ drop (length (impulse_out c (new_part c samples))) samples
+    rest =
+        ap (drop ran.ready) written
+        ∙ drop_at (impulse_out c (new_part c samples)) (drop (length (impulse_out c (new_part c samples))) samples) ran.ready (sym count)
 
-  rest : drop ran.ready samples₁ ≡ drop (length t.out) samples
-  rest = ap (drop ran.ready) written ∙ drop_at t.out (drop (length t.out) samples) ran.ready (sym count)
+    -- the slice is as long as it was
+    pub ran_length : length samples₁ ≡ length samples
+    ran_length =
+        let out = impulse_out c (new_part c samples) in
+        ap length written ∙ length-append out (drop (length out) samples)
+        ∙ (let d = length-drop (length out) samples in let i = ready_inside (length out) refl in
+        let q : length out + length (drop (length out) samples) ≡ length samples = omega arith in q)
 
-  -- the slice is as long as it was
-  pub ran_length : length samples₁ ≡ length samples
-  ran_length =
-      ap length written ∙ length-append t.out (drop (length t.out) samples)
-      ∙ (let d = length-drop (length t.out) samples in let i = a.inside in
-      let q : length t.out + length (drop (length t.out) samples) ≡ length samples = omega arith in q)
+    -- ---- and the others
 
-  -- ---- and the others
+    pub ready_count : ran.ready ≡ length (hands_on c (new_part c samples))
+    ready_count = count ∙ sym (hands_length c (new_part c samples))
 
-  pub ready_count : ran.ready ≡ length (released_by c t.out)
-  ready_count = count ∙ sym (released_length c t.out)
+    pub processed_written : (samples₂ : List ℕ)
+        → samples₂
+        ≡ map (corrected_by (settled_of c.settings.iq)) (blocked_by (mode_of c.settings.dc) c.blocker (take ran.ready samples₁))
+        ++ drop ran.ready samples₁
+        → samples₂ ≡ over (hands_on c (new_part c samples)) samples
+    unfolding hands_on
+    processed_written samples₂ e =
+        e
+        ∙ (λ i. map (corrected_by (settled_of c.settings.iq)) (blocked_by (mode_of c.settings.dc) c.blocker (front i)) ++ rest i)
+        ∙ ap (λ (n : ℕ). hands_on c (new_part c samples) ++ drop n samples) (sym (hands_length c (new_part c samples)))
 
-  pub carried_written : (samples₂ : List ℕ) → samples₂ ≡ released_by c (take ran.ready samples₁) ++ drop ran.ready samples₁
-      → samples₂ ≡ over (released_by c t.out) samples
-  carried_written samples₂ e =
-      e
-      ∙ (λ i. released_by c (front i) ++ rest i)
-      ∙ ap (λ (n : ℕ). released_by c t.out ++ drop n samples) (sym (released_length c t.out))
+    -- on no more than 2^48 of them the DC limit acted
+    pub ready_clamped : (dc : Blocked) → dc ≡ dc_after (mode_of c.settings.dc) c.blocker (take ran.ready samples₁) → dc.clamped ≤ total_limit
+    ready_clamped dc e =
+        let out = impulse_out c (new_part c samples) in
+        let d = dc_after (mode_of c.settings.dc) c.blocker in
+        let k = ap (λ (b : Blocked). b.clamped) (e ∙ ap d front) in
+        omega (arith, k, dc_few (mode_of c.settings.dc) c.blocker out, ready_few (length out) refl)
 
-  pub carried_chain : (new : ℕ) → new ≡ t.new → (suppressor : ImpulseSuppressor) → suppressor ≡ t.after
-      → (next : InputConditioner) (spans₂ : List ℕ)
-      → next
-      ≡ (let d = dc_after (mode_of c.settings.dc) c.blocker (take ran.ready samples₁) in
-      let n : Counts = record {
-        seen = c.counts.seen + new;
-        released = c.counts.released + ran.ready;
-        held = c.counts.held + new - ran.ready;
-        clamped = c.counts.clamped + d.clamped;
-      } in
-      after_turn c n suppressor d.blocker (with_log ran.notes next.notes.log) t.closed)
-      → ◌≡◌ {A = Logged} (record { log = next.notes.log; spans = spans₂ })
-      (noted_iq c.settings.spans (settled_of c.settings.iq)
-      (noted_dc c.settings.spans (mode_of c.settings.dc) (record { log = ran.notes.log; spans = spans₁ }) (span_of c.counts.released ran.ready))
-      (span_of c.counts.released ran.ready))
-      → machine_of next spans₂ repairs₁ ≡ carried (machine_of c spans repairs) t
-  unfolding carried logged_after
-  carried_chain new same suppressor after next spans₂ is logged =
-      let cap = c.settings.spans in
-      let marks : Logged → Span → Logged = λ x m. noted_iq cap (settled_of c.settings.iq) (noted_dc cap (mode_of c.settings.dc) x m) m in
-      let d = ap (dc_after (mode_of c.settings.dc) c.blocker) front in
-      let l = logged ∙ (λ i. marks (noted i).logged (span_of c.counts.released (count i))) in
-      ap (λ (n : InputConditioner). machine_of n spans₂ repairs₁) is
-      ∙ (λ i. machine_after c (counts_after c (same i) (count i) (d i).clamped) (after i) (d i).blocker (l i) (noted i).repairs (noted i).longruns
-      t.closed)
+    -- the counts by the length of the slice, how many of it are released, and on how many of these the DC limit acted
+    abbrev countsBy : ℕ → ℕ → ℕ → Counts
+    countsBy len ready clamped =
+        record {
+          seen = c.counts.seen + (len - c.counts.held);
+          released = c.counts.released + ready;
+          held = len - ready;
+          clamped = c.counts.clamped + clamped;
+        }
+
+    pub processed_chain : (suppressor : ImpulseSuppressor) → suppressor ≡ impulse_after c (new_part c samples)
+        → (dc : Blocked) → dc ≡ dc_after (mode_of c.settings.dc) c.blocker (take ran.ready samples₁)
+        → (log : Log) (spans₂ : List ℕ)
+        → ◌≡◌ {A = Logged} (record { log = log; spans = spans₂ })
+        (noted_iq c.settings.spans (settled_of c.settings.iq)
+        (noted_dc c.settings.spans (mode_of c.settings.dc) (record { log = ran.notes.log; spans = spans₁ }) (span_of c.counts.released ran.ready))
+        (span_of c.counts.released ran.ready))
+        → machine_of (after_call c (countsBy (length samples) ran.ready dc.clamped) suppressor dc.blocker (with_log ran.notes log)) spans₂ repairs₁
+        ≡ process (machine_of c spans repairs) (new_part c samples)
+    unfolding process notes_after logged_after
+    processed_chain suppressor after dc level log spans₂ logged =
+        let cap = c.settings.spans in
+        let marks : Logged → Span → Logged = λ x m. noted_iq cap (settled_of c.settings.iq) (noted_dc cap (mode_of c.settings.dc) x m) m in
+        let n = new_length c samples spans repairs a in
+        let h = a.held_in in
+        let kept : length samples - ran.ready ≡ c.counts.held + length (new_part c samples) - length (impulse_out c (new_part c samples)) =
+        omega (arith, count) in
+        let d = level ∙ ap (dc_after (mode_of c.settings.dc) c.blocker) front in
+        let l = logged ∙ (λ i. marks (noted i).logged (span_of c.counts.released (count i))) in
+        let out = impulse_out c (new_part c samples) in
+        let counts : countsBy (length samples) ran.ready dc.clamped
+        ≡ counts_after c (length (new_part c samples)) (length out) (dc_after (mode_of c.settings.dc) c.blocker out).clamped
+        = λ i.
+        record { seen = c.counts.seen + sym n i; released = c.counts.released + count i; held = kept i; clamped = c.counts.clamped + (d i).clamped } in
+        λ i. machine_after c (counts i) (after i) (d i).blocker (l i) (noted i).repairs (noted i).longruns

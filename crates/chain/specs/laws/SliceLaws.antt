@@ -1,6 +1,9 @@
 -- What an acceptable slice leaves room for, the impulse stage on and off, and DC and IQ over what is ready. Assumes nothing.
-use Rattle.std.specs.Prelude.{◌≡◌, refl, Bool, true, false, ◌&&◌, List, [], ◌++◌, map, ℕ, ◌+◌, ◌-◌, ◌^◌, ◌≤◌, ◌<◌, length, take, drop}
-use Rattle.std.proofs.Common.{sym, ap, ◌∙◌, append-nil, arith, length-drop, drop_of_length-le, take_at, drop_at, lit<}
+use Rattle.std.specs.Prelude.{◌≡◌, refl, Bool, true, false, ◌&&◌, List, [], ◌++◌, map, ℕ, ◌+◌, ◌-◌, ◌^◌, ◌≤◌, ◌<◌, length, take}
+use Rattle.std.proofs.Math.Path.{sym, ap}
+use Rattle.std.proofs.Common.{◌∙◌, append-nil, arith, length-drop, drop_of_length-le, take_at, drop_at, lit<}
+use Rattle.std.proofs.Math.Bool.{cond}
+use Rattle.std.proofs.Math.ListN.{drop}
 use Rattle.rules.specs.Mode.{Mode, off, observe, apply}
 use Rattle.rules.specs.Log.{Span}
 use Rattle.rules.specs.Constants.{total_limit}
@@ -15,9 +18,9 @@ use Rattle.dc.specs.laws.Cutting.{blocked_length, clamped_few}
 use Rattle.impulse_slice.specs.laws.NotesLaws.{bounded_up}
 use Rattle.impulse_slice.specs.Noted.{state_after, handed, told, over, Roomy}
 use Rattle.chain_state.specs.declared.InputConditioner.{InputConditioner}
-use Rattle.chain_state.specs.Fits.{waiting, held_by}
+use Rattle.chain_state.specs.Fits.{held_by}
 use Rattle.chain_state.specs.laws.FitsLaws.{Fit, state_fit}
-use Rattle.chain.specs.Stages.{setting_in, new_part, machine_of, notes_in, impulse_after, impulse_out, impulse_told, dc_after, blocked_by, noted_dc, Stored, Acceptable}
+use Rattle.chain.specs.Stages.{setting_in, new_part, machine_of, notes_in, impulse_after, impulse_out, impulse_told, dc_after, blocked_by, noted_dc, Acceptable}
 
 -- ---- the log
 
@@ -32,28 +35,24 @@ fits_bounded cap x t e =
       count = λ k h. (log_range cap x.log k e h).count;
     }
 
-module _ (c : InputConditioner) (spans repairs : List ℕ) (a : Stored c spans repairs) where
-  pub stored_fit : Fit c
-  stored_fit = state_fit c a.fits
+module _ (c : InputConditioner) (samples spans repairs : List ℕ) (a : Acceptable c samples spans repairs) where
+  fit : Fit c
+  fit = state_fit c a.stored.fits
 
-  stored_twelve : Twelve c.settings.spans (record { log = c.notes.log; spans = spans })
-  stored_twelve = record { rings = a.rings; counts = a.counts; store = omega (arith, a.spans_long) }
+  pub call_twelve : Twelve c.settings.spans (record { log = c.notes.log; spans = spans })
+  call_twelve = record { rings = a.stored.rings; counts = a.stored.counts; store = omega (arith, a.stored.spans_long) }
 
-  pub stored_roomy : Roomy c.settings.spans c.settings.repairs (2 ^ 52) (notes_in (machine_of c spans repairs))
-  stored_roomy =
-      let r = ring_range c.settings.repairs c.notes.repairs c.notes.longruns stored_fit.repairs in
+  pub call_roomy : Roomy c.settings.spans c.settings.repairs (2 ^ 52) (notes_in (machine_of c spans repairs))
+  call_roomy =
+      let r = ring_range c.settings.repairs c.notes.repairs c.notes.longruns fit.repairs in
       record {
-        spans = fits_bounded c.settings.spans (record { log = c.notes.log; spans = spans }) stored_twelve stored_fit.log;
-        repairs = record { some = stored_fit.settings.some_repairs; long = a.repairs_long; head_in = r.head_in; count_in = r.count_in };
+        spans = fits_bounded c.settings.spans (record { log = c.notes.log; spans = spans }) call_twelve fit.log;
+        repairs = record { some = fit.settings.some_repairs; long = a.stored.repairs_long; head_in = r.head_in; count_in = r.count_in };
         dropped = r.dropped;
         longruns = r.count;
       }
 
--- ---- new samples
-
-module _ (c : InputConditioner) (samples spans repairs : List ℕ) (a : Acceptable c samples spans repairs) where
-  fit : Fit c
-  fit = stored_fit c spans repairs a.closable.stored
+  -- ---- new samples
 
   pub new_length : length (new_part c samples) ≡ length samples - c.counts.held
   new_length = length-drop c.counts.held samples
@@ -65,7 +64,7 @@ module _ (c : InputConditioner) (samples spans repairs : List ℕ) (a : Acceptab
   pub call_room : c.settings.impulse ≡ true → c.counts.held < length samples
       → Room c.suppressor.gate × (c.suppressor.gate.received + (length samples - c.counts.held) ≤ 2 ^ 50)
   call_room on some =
-      let n = fit.runs on ∙ ap (λ (b : Bool). waiting b c.counts.seen) a.closable.still_open in
+      let n = fit.runs on in
       let few = a.few in
       let flags = fit.flags in
       (record { blocks = fit.blocks; early = omega arith; few = omega arith; behind = fit.run }, omega arith)
@@ -74,7 +73,7 @@ module _ (c : InputConditioner) (samples spans repairs : List ℕ) (a : Acceptab
 
   module _ (off : c.settings.impulse ≡ false) where
     none_held : c.counts.held ≡ 0
-    none_held = fit.held ∙ ap (λ (t : Bool). held_by (t && c.suppressor.gate.settings.apply) (waiting c.closed c.counts.seen)) off
+    none_held = fit.held ∙ ap (λ (t : Bool). held_by (t && c.suppressor.gate.settings.apply) c.counts.seen) off
 
     pub off_after : c.suppressor ≡ impulse_after c (new_part c samples)
     unfolding impulse_after
@@ -84,12 +83,11 @@ module _ (c : InputConditioner) (samples spans repairs : List ℕ) (a : Acceptab
     unfolding impulse_told
     off_told = rw off
 
-    off_passes : new_part c samples ≡ impulse_out c (new_part c samples)
-    unfolding impulse_out
-    off_passes = rw off
-
     pub off_out : samples ≡ impulse_out c (new_part c samples)
-    off_out = ap (λ (n : ℕ). drop n samples) (sym none_held) ∙ off_passes
+    unfolding impulse_out
+    off_out =
+        ap (λ (n : ℕ). drop n samples) (sym none_held)
+        ∙ sym (ap (λ (t : Bool). cond t (handed (setting_in c) c.suppressor (new_part c samples)) (new_part c samples)) off)
 
     pub off_written : samples ≡ over (impulse_out c (new_part c samples)) samples
     off_written =

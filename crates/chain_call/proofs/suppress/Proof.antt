@@ -7,7 +7,7 @@ use borrow.Author.Tests.{not-true, not-false}
 use Rattle.impulse.specs.declared.ImpulseSuppressor.{ImpulseSuppressor}
 use Rattle.impulse_slice.specs.Noted.{note_all, state_after, handed, told, over}
 use Rattle.chain.specs.Stages.{setting_in, new_part, machine_of, notes_in}
-use Rattle.chain.specs.laws.SliceLaws.{stored_roomy, call_room, off_after, off_told, off_out, off_written, on_after, on_told, on_out}
+use Rattle.chain.specs.laws.SliceLaws.{call_roomy, call_room, off_after, off_told, off_out, off_written, on_after, on_told, on_out}
 use borrow.Author.Rules.{rules}
 use Rattle.chain_call.proofs.suppress.Statement.{statement}
 use Rattle.chain_call.proofs.suppress.Tie as tie
@@ -36,10 +36,10 @@ run-requires c κs =
     let s = c.before.before.before.before.before.before.before.before.before.before.before.before.before.before in
     let a = s.args in
     let on = not-false _ c.before.before.before.before.before.before.if1.false in (
-      s.requires.0.closable.held_in,
+      s.requires.0.held_in,
       (
         call_room a.state a.samples.now a.spans.now a.repairs.now s.requires.0 on,
-        (s.requires.1.1, stored_roomy a.state a.spans.now a.repairs.now s.requires.0.closable.stored),
+        (s.requires.1.1, call_roomy a.state a.samples.now a.spans.now a.repairs.now s.requires.0),
       ),
     )
 

@@ -13,13 +13,13 @@ by_mode : (a b : Bool) (n : ℕ) → a ≡ b → held_by b n ≡ held_by a n
 by_mode a b n e = sym (ap (λ (t : Bool). held_by t n) e)
 
 returns : tie.Need-returns
-returns c = by_mode c.before.args.applies false c.before.args.n (not-true _ c.if1.true)
+returns c = by_mode c.before.args.applies false c.before.args.seen (not-true _ c.if1.true)
 
 holds-requires : tie.Need-holds-requires
 holds-requires c κs = search rules
 
 returns-2 : tie.Need-returns-2
-returns-2 c = c.holds.ensures ∙ by_mode c.before.before.args.applies true c.before.before.args.n (not-false _ c.before.if1.false)
+returns-2 c = c.holds.ensures ∙ by_mode c.before.before.args.applies true c.before.before.args.seen (not-false _ c.before.if1.false)
 
 pub held-by-spec : {M : Type 1} → statement M
 held-by-spec = tie.close (tie.spec returns holds-requires returns-2)

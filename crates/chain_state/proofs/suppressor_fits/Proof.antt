@@ -24,22 +24,22 @@ arrays : (c : tie.Else1)
 arrays c = sym c.before.arrays_fit_lem.ensures ∙ not-false _ c.if1.false
 
 -- with arrays that fit, by whether the stage runs, and what the rest is then
-by_run : (m : ImpulseSuppressor) (running : Bool) (n : ℕ) (b t : Bool) → arrays_fit m.gate.received m.window m.pending ≡ true
-    → running ≡ b → cond b (running_fits m n) true ≡ t → t ≡ suppressor_fits m running n
+by_run : (m : ImpulseSuppressor) (running : Bool) (seen : ℕ) (b t : Bool) → arrays_fit m.gate.received m.window m.pending ≡ true
+    → running ≡ b → cond b (running_fits m seen) true ≡ t → t ≡ suppressor_fits m running seen
 unfolding suppressor_fits
-by_run m running n b t a r e = two _ _ true t a (ap (λ (x : Bool). cond x (running_fits m n) true) r ∙ e)
+by_run m running seen b t a r e = two _ _ true t a (ap (λ (x : Bool). cond x (running_fits m seen) true) r ∙ e)
 
 returns-2 : tie.Need-returns-2
 returns-2 c =
     let a = c.before.before.before.before.before.before.before.before.before.args in
-    by_run a.m a.running a.n false true (arrays c.before) (not-true _ c.if2.true) refl
+    by_run a.m a.running a.seen false true (arrays c.before) (not-true _ c.if2.true) refl
 
 returns-3 : tie.Need-returns-3
 unfolding running_fits
 returns-3 c =
     let r = c.before.before in
     let a = r.before.before.before.before.before.before.before.before.before.args in
-    by_run a.m a.running a.n true false (arrays r.before) (not-false _ r.if2.false) (sym (two _ _ false _ (ne_eqb _ _ c.if3.true) refl))
+    by_run a.m a.running a.seen true false (arrays r.before) (not-false _ r.if2.false) (sym (two _ _ false _ (ne_eqb _ _ c.if3.true) refl))
 
 holds-requires : tie.Need-holds-requires
 holds-requires c κs = search rules
@@ -54,7 +54,7 @@ returns-4 c =
     let r = e.before.before in
     let a = r.before.before.before.before.before.before.before.before.before.args in
     let sorted = sym (c.sorted-fits.ensures ∙ ap (λ (n : ℕ). sorted_fits n a.m.window a.m.sorted) c.before.before.before.holds.ensures) in
-    by_run a.m a.running a.n true _ (arrays r.before) (not-false _ r.if2.false) (sym (two _ _ true _ (eq-eqb _ _ e.if3.false) sorted))
+    by_run a.m a.running a.seen true _ (arrays r.before) (not-false _ r.if2.false) (sym (two _ _ true _ (eq-eqb _ _ e.if3.false) sorted))
 
 pub suppressor-fits-spec : {M : Type 1} → statement M
 suppressor-fits-spec =

@@ -1,5 +1,5 @@
 -- What a state that fits keeps to. Assumes nothing.
-use Rattle.std.specs.Prelude.{◌≡◌, Bool, true, false, cond, ◌&&◌, ℕ, ◌+◌, ◌^◌, ◌≤◌, ◌<◌, ltb, eqb}
+use Rattle.std.specs.Prelude.{◌≡◌, Bool, true, cond, ◌&&◌, ℕ, ◌+◌, ◌^◌, ◌≤◌, ◌<◌, ltb, eqb}
 use Rattle.std.proofs.Common.{sym, ap, ◌∙◌, subst, arith, leb-true, eqb-true}
 use Rattle.rules.specs.laws.TestLaws.{both}
 use Rattle.rules.specs.Impulse.{block_length, next_judged}
@@ -20,7 +20,7 @@ use Rattle.chain_config.specs.laws.ConfigLaws.{Limits, setting_limits}
 use Rattle.chain_state.specs.declared.Settings.{Settings}
 use Rattle.chain_state.specs.declared.Counts.{Counts}
 use Rattle.chain_state.specs.declared.InputConditioner.{InputConditioner}
-use Rattle.chain_state.specs.Fits.{counter, settings_fit, applies, waiting, held_by, counts_fit, run_fits, left_fits, gate_fits, running_fits, suppressor_fits}
+use Rattle.chain_state.specs.Fits.{counter, settings_fit, applies, held_by, counts_fit, run_fits, left_fits, gate_fits, running_fits, suppressor_fits}
 use Rattle.chain_state.specs.Fits.{blocker_fits, coefficient_fits, begun_fits, monitor_fits, logs_fit, stages_fit, front_fits, state_fits}
 use Rattle.chain_state.specs.laws.Blocks.{block_some}
 
@@ -45,17 +45,17 @@ settings_fit_lem s block e =
     let b = eqb-true block (block_length s.fs) p.1 in
     record { limits = l; block = b; blocks = subst (λ (k : ℕ). 0 < k) (sym b) (block_some s.fs l.rate) }
 
-pub record CountsFit (a closed : Bool) (n : Counts) : Type 0 where
+pub record CountsFit (a : Bool) (n : Counts) : Type 0 where
   pub seen : n.seen ≤ 2 ^ 52
   pub released : n.released ≤ 2 ^ 52
   pub clamped : n.clamped ≤ 2 ^ 52
-  pub held : n.held ≡ held_by a (waiting closed n.seen)
+  pub held : n.held ≡ held_by a n.seen
   pub sum : n.released + n.held ≡ n.seen
 
-pub counts_fit_lem : (a closed : Bool) (n : Counts) → counts_fit a closed n ≡ true → CountsFit a closed n
+pub counts_fit_lem : (a : Bool) (n : Counts) → counts_fit a n ≡ true → CountsFit a n
 unfolding counts_fit
-counts_fit_lem a closed n e =
-    let p = three (counter n.seen && counter n.released && counter n.clamped) (eqb n.held (held_by a (waiting closed n.seen)))
+counts_fit_lem a n e =
+    let p = three (counter n.seen && counter n.released && counter n.clamped) (eqb n.held (held_by a n.seen))
     (eqb (n.released + n.held) n.seen) e in
     let q = three (counter n.seen) (counter n.released) (counter n.clamped) p.0 in
     record {
@@ -72,27 +72,21 @@ run_end_lem (Running r) j e =
     let q = eqb-true (r.start + r.len) j (both (ltb 0 r.len) (eqb (r.start + r.len) j) e).1 in
     omega arith
 
-pub record GateFits (g : Gate) (closed : Bool) : Type 0 where
+pub record GateFits (g : Gate) : Type 0 where
   pub received : g.received ≤ 2 ^ 52
   pub block : g.block.number ≤ 2 ^ 52
   pub flagged : g.block.flagged ≤ 2 ^ 52
-  pub open_run : run_fits g.mending.run (next_judged (waiting closed g.received)) ≡ true
+  pub open_run : run_fits g.mending.run (next_judged g.received) ≡ true
   pub run : run_end g.mending.run ≤ g.received
   pub left : left_fits g.mending.left ≡ true
 
-waiting_most : (closed : Bool) (n : ℕ) → waiting closed n ≤ n
-waiting_most true n = omega arith
-waiting_most false n = omega arith
-
-pub gate_fits_lem : (g : Gate) (closed : Bool) → gate_fits g closed ≡ true → GateFits g closed
+pub gate_fits_lem : (g : Gate) → gate_fits g ≡ true → GateFits g
 unfolding gate_fits
-gate_fits_lem g closed e =
-    let j = next_judged (waiting closed g.received) in
-    let r = run_fits g.mending.run j in
+gate_fits_lem g e =
+    let r = run_fits g.mending.run (next_judged g.received) in
     let p = both (counter g.received && counter g.block.number && counter g.block.flagged && r) (left_fits g.mending.left) e in
     let q = four (counter g.received) (counter g.block.number) (counter g.block.flagged) r p.0 in
-    let h = run_end_lem g.mending.run j q.3 in
-    let w = waiting_most closed g.received in
+    let h : run_end g.mending.run ≤ next_judged g.received = run_end_lem g.mending.run (next_judged g.received) q.3 in
     record {
       received = leb-true _ _ q.0;
       block = leb-true _ _ q.1;
@@ -150,9 +144,9 @@ monitor_fits_lem m e =
 
 pub record Groups (c : InputConditioner) : Type 0 where
   pub settings : SettingsFit c.settings c.suppressor.gate.settings.blocklen
-  pub counts : CountsFit (applies c) c.closed c.counts
-  pub gate : GateFits c.suppressor.gate c.closed
-  pub suppressor : SuppressorFits c.suppressor c.settings.impulse (waiting c.closed c.counts.seen)
+  pub counts : CountsFit (applies c) c.counts
+  pub gate : GateFits c.suppressor.gate
+  pub suppressor : SuppressorFits c.suppressor c.settings.impulse c.counts.seen
   pub log : log_fits c.settings.spans c.notes.log ≡ true
   pub repairs : ring_fits c.settings.repairs c.notes.repairs c.notes.longruns ≡ true
   pub blocker : BlockerFits c.blocker
@@ -161,12 +155,11 @@ pub record Groups (c : InputConditioner) : Type 0 where
 
 module _ (c : InputConditioner) where
   front : front_fits c ≡ true
-      → (settings_fit c.settings c.suppressor.gate.settings.blocklen ≡ true) × (counts_fit (applies c) c.closed c.counts ≡ true)
-      × (gate_fits c.suppressor.gate c.closed ≡ true)
+      → (settings_fit c.settings c.suppressor.gate.settings.blocklen ≡ true) × (counts_fit (applies c) c.counts ≡ true)
+      × (gate_fits c.suppressor.gate ≡ true)
   unfolding front_fits
   front e =
-      three (settings_fit c.settings c.suppressor.gate.settings.blocklen) (counts_fit (applies c) c.closed c.counts)
-      (gate_fits c.suppressor.gate c.closed) e
+      three (settings_fit c.settings c.suppressor.gate.settings.blocklen) (counts_fit (applies c) c.counts) (gate_fits c.suppressor.gate) e
 
   logs : logs_fit c ≡ true
       → (log_fits c.settings.spans c.notes.log ≡ true) × (ring_fits c.settings.repairs c.notes.repairs c.notes.longruns ≡ true)
@@ -178,10 +171,9 @@ module _ (c : InputConditioner) where
   stages e = three (blocker_fits c.blocker) (coefficient_fits (settled_of c.settings.iq)) (monitor_fits c.monitor) e
 
   parts : state_fits c ≡ true
-      → (front_fits c ≡ true) × (suppressor_fits c.suppressor c.settings.impulse (waiting c.closed c.counts.seen) ≡ true)
-      × (logs_fit c ≡ true) × (stages_fit c ≡ true)
+      → (front_fits c ≡ true) × (suppressor_fits c.suppressor c.settings.impulse c.counts.seen ≡ true) × (logs_fit c ≡ true) × (stages_fit c ≡ true)
   unfolding state_fits
-  parts e = four (front_fits c) (suppressor_fits c.suppressor c.settings.impulse (waiting c.closed c.counts.seen)) (logs_fit c) (stages_fit c) e
+  parts e = four (front_fits c) (suppressor_fits c.suppressor c.settings.impulse c.counts.seen) (logs_fit c) (stages_fit c) e
 
   pub state_groups : state_fits c ≡ true → Groups c
   state_groups e =
@@ -191,9 +183,9 @@ module _ (c : InputConditioner) where
       let t = stages p.3 in
       record {
         settings = settings_fit_lem c.settings c.suppressor.gate.settings.blocklen f.0;
-        counts = counts_fit_lem (applies c) c.closed c.counts f.1;
-        gate = gate_fits_lem c.suppressor.gate c.closed f.2;
-        suppressor = suppressor_fits_lem c.suppressor c.settings.impulse (waiting c.closed c.counts.seen) p.1;
+        counts = counts_fit_lem (applies c) c.counts f.1;
+        gate = gate_fits_lem c.suppressor.gate f.2;
+        suppressor = suppressor_fits_lem c.suppressor c.settings.impulse c.counts.seen p.1;
         log = l.0;
         repairs = l.1;
         blocker = blocker_fits_lem c.blocker t.0;
@@ -209,12 +201,12 @@ pub record Fit (c : InputConditioner) : Type 0 where
   pub seen : c.counts.seen ≤ 2 ^ 52
   pub released : c.counts.released ≤ 2 ^ 52
   pub clamped : c.counts.clamped ≤ 2 ^ 52
-  pub held : c.counts.held ≡ held_by (applies c) (waiting c.closed c.counts.seen)
+  pub held : c.counts.held ≡ held_by (applies c) c.counts.seen
   pub sum : c.counts.released + c.counts.held ≡ c.counts.seen
   pub flags : c.suppressor.gate.block.flagged ≤ 2 ^ 52
   pub received : c.suppressor.gate.received ≤ 2 ^ 52
   pub run : run_end c.suppressor.gate.mending.run ≤ c.suppressor.gate.received
-  pub runs : c.settings.impulse ≡ true → c.suppressor.gate.received ≡ waiting c.closed c.counts.seen
+  pub runs : c.settings.impulse ≡ true → c.suppressor.gate.received ≡ c.counts.seen
   pub log : log_fits c.settings.spans c.notes.log ≡ true
   pub repairs : ring_fits c.settings.repairs c.notes.repairs c.notes.longruns ≡ true
   pub updates : c.blocker.n ≤ 2 ^ 52

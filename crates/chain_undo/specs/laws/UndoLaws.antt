@@ -7,7 +7,7 @@ use Rattle.std.proofs.Math.Seq.{take-length}
 use Rattle.rules.specs.Answers.{accepted}
 use Rattle.rules.specs.Lists.{at, All}
 use Rattle.rules.specs.Pauses.{Edition}
-use Rattle.rules.specs.Impulse.{Setting, flagged, value, Input, judged_in, paused_in, handed_on, happened, longest_run}
+use Rattle.rules.specs.Impulse.{Setting, flagged, judged, value, events, paused_in, handed_on, happened, longest_run}
 use Rattle.rules.specs.Log as rules
 use Rattle.rules.specs.Log.{repair_width, repaired, repairs_of}
 use Rattle.rules.specs.Undo.{held_records, undone_all}
@@ -17,7 +17,7 @@ use Rattle.rules.specs.Mode.{runs}
 use Rattle.rules.specs.laws.EventLaws.{repairs_wide}
 use Rattle.rules.specs.Constants.{total_limit}
 use Rattle.log.specs.View.{ring_in}
-use Rattle.impulse.specs.laws.Repairs.{Original, happened_original, undo_slice, undo_handed}
+use Rattle.impulse.specs.laws.Repairs.{Original, all_original, undo_slice, undo_handed}
 use Rattle.chain_state.specs.declared.InputConditioner.{InputConditioner}
 use Rattle.chain_state.specs.Fits.{state_fits}
 use Rattle.chain_state.specs.laws.FitsLaws.{state_fit}
@@ -77,64 +77,66 @@ all_fit xs [] h o = tt
 all_fit xs (e ∷ es) h o = (record { some = o.0.some; short = o.0.short; early = omega (arith, o.0.inside) }, all_fit xs es h o.1)
 
 -- their records fit
-pub repairs_fit : (s : Setting) → s.run ≤ longest_run → (E : ℕ → Edition) (i : Input) → length i.samples ≤ total_limit → All Fit (repairs_of (happened s E i))
-repairs_fit s r E i h = all_fit i.samples (repairs_of (happened s E i)) h (happened_original s r E i)
+pub repairs_fit : (s : Setting) → s.run ≤ longest_run → (E : ℕ → Edition) (xs : List ℕ) → length xs ≤ total_limit → All Fit (repairs_of (happened s E xs))
+unfolding happened
+repairs_fit s r E xs h =
+    all_fit xs (repairs_of (events s (flagged s xs) (paused_in s E xs) xs (judged s (length xs)))) h
+    (all_original s (flagged s xs) (paused_in s E xs) xs r (judged s (length xs)) (omega arith))
 
 -- a state whose repair ring stands as the rules say for an input
-module _ (c : InputConditioner) (repairs : List ℕ) (i : Input) (s : Setting) (r : s.run ≤ longest_run) (E : ℕ → Edition)
-    (long : length i.samples ≤ total_limit) (f : state_fits c ≡ true)
-    (ring : ring_in c.notes.repairs repairs ≡ repaired c.settings.repairs (repairs_of (happened s E i))) where
-  stage_made : Made c repairs (repairs_of (happened s E i))
-  stage_made = record { fits = f; ring = ring; wide = repairs_wide (happened s E i); each = repairs_fit s r E i long }
+module _ (c : InputConditioner) (repairs xs : List ℕ) (s : Setting) (r : s.run ≤ longest_run) (E : ℕ → Edition) (long : length xs ≤ total_limit) (f : state_fits c ≡ true)
+    (ring : ring_in c.notes.repairs repairs ≡ repaired c.settings.repairs (repairs_of (happened s E xs))) where
+  stage_made : Made c repairs (repairs_of (happened s E xs))
+  stage_made = record { fits = f; ring = ring; wide = repairs_wide (happened s E xs); each = repairs_fit s r E xs long }
 
   -- no repair was dropped: any slice of what the stage hands on becomes that of the input
-  pub slice_returns : length (repairs_of (happened s E i)) ≤ c.settings.repairs → (ys : List ℕ) (first : ℕ) → first + length ys ≤ length i.samples
-      → ((k : ℕ) → k < length ys → at ys k ≡ value s (flagged s i.samples) (paused_in s E i.samples) i.samples (judged_in s i) (first + k))
-      → undo_of c repairs ys first ≡ record { said = accepted tt; samples = take (length ys) (drop first i.samples) }
+  pub slice_returns : length (repairs_of (happened s E xs)) ≤ c.settings.repairs → (ys : List ℕ) (first : ℕ) → first + length ys ≤ length xs
+      → ((i : ℕ) → i < length ys → at ys i ≡ value s (flagged s xs) (paused_in s E xs) xs (judged s (length xs)) (first + i))
+      → undo_of c repairs ys first ≡ record { said = accepted tt; samples = take (length ys) (drop first xs) }
   slice_returns h ys first w same =
-      made_undone c repairs (repairs_of (happened s E i)) stage_made h ys first
-      ∙ ap (λ (l : List ℕ). record { said = accepted tt; samples = l }) (undo_slice s r E i ys first w same)
+      made_undone c repairs (repairs_of (happened s E xs)) stage_made h ys first
+      ∙ ap (λ (l : List ℕ). record { said = accepted tt; samples = l }) (undo_slice s r E xs ys first w same)
 
 -- ---- a chain, by its configuration
 
 -- what a configuration repairs in an input fits, whether or not its impulse stage runs
-chain_fit : (k : Config) (i : Input) → length i.samples ≤ total_limit → All Fit (repairs_of (impulse_events k i))
+chain_fit : (k : Config) (xs : List ℕ) → length xs ≤ total_limit → All Fit (repairs_of (impulse_events k xs))
 unfolding impulse_events repairs_of
-chain_fit k i long = go (runs k.impulse_mode)
+chain_fit k xs long = go (runs k.impulse_mode)
   where
-    go : (b : Bool) → All Fit (repairs_of (cond b (happened (setting_of k) (editions_of k) i) []))
-    go true = repairs_fit (setting_of k) (lit≤ tt) (editions_of k) i long
+    go : (b : Bool) → All Fit (repairs_of (cond b (happened (setting_of k) (editions_of k) xs) []))
+    go true = repairs_fit (setting_of k) (lit≤ tt) (editions_of k) xs long
     go false = tt
 
-chain_back : (k : Config) (i : Input) → undone_all 0 (repairs_of (impulse_events k i)) (after_impulse k i) ≡ take (length (after_impulse k i)) i.samples
+chain_back : (k : Config) (xs : List ℕ) → undone_all 0 (repairs_of (impulse_events k xs)) (after_impulse k xs) ≡ take (length (after_impulse k xs)) xs
 unfolding impulse_events after_impulse repairs_of undone_all
-chain_back k i = go (runs k.impulse_mode)
+chain_back k xs = go (runs k.impulse_mode)
   where
     go : (b : Bool)
-        → undone_all 0 (repairs_of (cond b (happened (setting_of k) (editions_of k) i) [])) (cond b (handed_on (setting_of k) (editions_of k) i) i.samples)
-        ≡ take (length (cond b (handed_on (setting_of k) (editions_of k) i) i.samples)) i.samples
-    go true = undo_handed (setting_of k) (lit≤ tt) (editions_of k) i
-    go false = sym (take-length i.samples)
+        → undone_all 0 (repairs_of (cond b (happened (setting_of k) (editions_of k) xs) [])) (cond b (handed_on (setting_of k) (editions_of k) xs) xs)
+        ≡ take (length (cond b (handed_on (setting_of k) (editions_of k) xs) xs)) xs
+    go true = undo_handed (setting_of k) (lit≤ tt) (editions_of k) xs
+    go false = sym (take-length xs)
 
 -- a state whose repair ring stands as the rules say for a configuration and an input
-module _ (k : Config) (c : InputConditioner) (repairs : List ℕ) (i : Input) (long : length i.samples ≤ total_limit) (f : state_fits c ≡ true)
-    (same : c.settings.repairs ≡ k.repairs) (ring : ring_in c.notes.repairs repairs ≡ repair_ring k i) where
-  pub chain_made : Made c repairs (repairs_of (impulse_events k i))
+module _ (k : Config) (c : InputConditioner) (repairs xs : List ℕ) (long : length xs ≤ total_limit) (f : state_fits c ≡ true)
+    (same : c.settings.repairs ≡ k.repairs) (ring : ring_in c.notes.repairs repairs ≡ repair_ring k xs) where
+  pub chain_made : Made c repairs (repairs_of (impulse_events k xs))
   unfolding repair_ring
   chain_made =
       record {
         fits = f;
-        ring = ring ∙ ap (λ (cap : ℕ). repaired cap (repairs_of (impulse_events k i))) (sym same);
-        wide = repairs_wide (impulse_events k i);
-        each = chain_fit k i long;
+        ring = ring ∙ ap (λ (cap : ℕ). repaired cap (repairs_of (impulse_events k xs))) (sym same);
+        wide = repairs_wide (impulse_events k xs);
+        each = chain_fit k xs long;
       }
 
   pub chain_accepted : undo_refusal c repairs ≡ 0
-  chain_accepted = made_accepted c repairs (repairs_of (impulse_events k i)) chain_made
+  chain_accepted = made_accepted c repairs (repairs_of (impulse_events k xs)) chain_made
 
   -- no repair was dropped: what the impulse stage handed on becomes the input
-  pub chain_returns : length (repairs_of (impulse_events k i)) ≤ k.repairs
-      → undo_of c repairs (after_impulse k i) 0 ≡ record { said = accepted tt; samples = take (length (after_impulse k i)) i.samples }
+  pub chain_returns : length (repairs_of (impulse_events k xs)) ≤ k.repairs
+      → undo_of c repairs (after_impulse k xs) 0 ≡ record { said = accepted tt; samples = take (length (after_impulse k xs)) xs }
   chain_returns h =
-      made_undone c repairs (repairs_of (impulse_events k i)) chain_made (omega arith) (after_impulse k i) 0
-      ∙ ap (λ (l : List ℕ). record { said = accepted tt; samples = l }) (chain_back k i)
+      made_undone c repairs (repairs_of (impulse_events k xs)) chain_made (omega arith) (after_impulse k xs) 0
+      ∙ ap (λ (l : List ℕ). record { said = accepted tt; samples = l }) (chain_back k xs)

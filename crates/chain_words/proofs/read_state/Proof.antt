@@ -25,22 +25,14 @@ read-monitor-requires c κs = search rules
 read-notes-requires : tie.Need-read-notes-requires
 read-notes-requires c κs = search rules
 
-element-copy-out-flag-of : tie.Need-element-copy-out-flag-of
-element-copy-out-flag-of c = search rules
-
-flag-of-requires : tie.Need-flag-of-requires
-flag-of-requires c κs = search rules
-
 returns : tie.Need-returns
 unfolding state_of
 returns c =
-    let notes = c.before.before in
-    let levels = notes.before.before in
+    let levels = c.before.before in
     let front = levels.before.before in
     rw (
-      c.flag-of.ensures,
-      notes.read-notes.ensures,
-      notes.before.read-monitor.ensures,
+      c.read-notes.ensures,
+      c.before.read-monitor.ensures,
       levels.read-blocker.ensures,
       levels.before.read-suppressor.ensures,
       front.read-counts.ensures,
@@ -58,6 +50,4 @@ read-state-spec =
     read-blocker-requires
     read-monitor-requires
     read-notes-requires
-    element-copy-out-flag-of
-    flag-of-requires
     returns)

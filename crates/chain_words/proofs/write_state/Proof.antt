@@ -1,14 +1,16 @@
 -- `chain_words::write_state`: the parts stand one behind another, and the types say the rest. Assumes nothing.
 use mathlib.Core.List.{List, ◌++◌}
 use mathlib.Core.Path.{◌≡◌, sym, ap, ◌∙◌}
-use Prim.Native.Nat.{ℕ}
-use lib.ListN.{take}
+use Prim.Native.Nat.{ℕ, ◌≤◌}
+use native.Mathlib.Omega.{arith}
+use lib.Seq.{take_all}
+use lib.ListN.{length, take}
 use borrow.Author.Rules.{rules}
 use Rattle.rules.specs.laws.ListLaws.{length-map}
 use Rattle.chain_words.specs.laws.Again.{again}
 use Rattle.chain_words.specs.Typed.{Typed}
 use Rattle.chain_words.specs.States.{state_of}
-use Rattle.chain_words.specs.Words.{counter_words, arrays_words, last_words, words_of}
+use Rattle.chain_words.specs.Words.{counter_words, arrays_words, log_words, words_of}
 use Rattle.chain_words.specs.Places as place
 use Rattle.chain_words.proofs.Filling.{two}
 use Rattle.chain_words.proofs.write_state.Statement.{statement}
@@ -32,22 +34,26 @@ write-counters-requires c κs = search rules
 write-arrays-requires : tie.Need-write-arrays-requires
 write-arrays-requires c κs = search rules
 
-write-last-requires : tie.Need-write-last-requires
-write-last-requires c κs = search rules
+put-log-requires : tie.Need-put-log-requires
+put-log-requires c κs = search rules
 
 returns : tie.Need-returns
 unfolding words_of
 returns c =
-    let start = c.before.before.before.before.before.before.before.before.before.before.before.before.before.before.before in
+    let start = c.before.before.before.before.before.before.before.before.before.before.before.before.before.before.before.before in
     let s = start.args.state in
     let stages = c.before.before.before.before.before.before.write-stages in
     let counters = c.before.before.before.before.write-counters in
     let arrays = c.before.before.write-arrays in
-    let last = c.write-last in
-    let front = ap (λ (x : List ℕ). x ++ (counter_words s ++ (arrays_words s.suppressor ++ last_words s))) stages.ensures.0 in
-    let later = two (take place.window counters.new.1.0) (arrays_words s.suppressor) (last_words s) arrays.ensures.0 last.ensures in
-    let all = two (take place.begun stages.new.1.0) (counter_words s) (arrays_words s.suppressor ++ last_words s) counters.ensures.0 later in
-    let words : last.new.1.0 ≡ words_of s = all ∙ front in
+    let log = c.put-log in
+    let end = log.new.1.0 in
+    let long : length end ≤ place.state_words = omega (arith, log.ensures.1, arrays.ensures.1.0) in
+    let front = ap (λ (x : List ℕ). x ++ (counter_words s ++ (arrays_words s.suppressor ++ log_words s.notes.log))) stages.ensures.0 in
+    let later =
+    two (take place.window counters.new.1.0) (arrays_words s.suppressor) (log_words s.notes.log) arrays.ensures.0 log.ensures.0 in
+    let all =
+    two (take place.begun stages.new.1.0) (counter_words s) (arrays_words s.suppressor ++ log_words s.notes.log) counters.ensures.0 later in
+    let words : end ≡ words_of s = sym (take_all place.state_words end long) ∙ all ∙ front in
     let settings = c.before.before.before.before.before.before.before.before.before.settings-typed.ensures in
     let blocker = c.before.before.before.before.before.before.before.before.blocker-typed.ensures in
     let gs = start.well-formed.0.1.1.1.1.0 in
@@ -78,5 +84,5 @@ write-state-spec =
     write-stages-requires
     write-counters-requires
     write-arrays-requires
-    write-last-requires
+    put-log-requires
     returns)

@@ -1,7 +1,6 @@
 -- A state's words say that state. Assumes nothing.
-use Rattle.std.specs.Prelude.{◌≡◌, refl, Bool, true, false, List, [], ◌∷◌, ◌++◌, map, ℕ, ◌+◌, ◌^◌, ◌<◌, length, get_or, take, drop, Float}
-use Rattle.std.proofs.Common.{sym, ap, ◌∙◌, append_assoc, arith, mod-eq_of_lt, length-append, take_at, drop_at, drop-drop, get_or-drop}
-use Rattle.std.proofs.lemmas.List.{get_or_at}
+use Rattle.std.specs.Prelude.{◌≡◌, refl, Bool, true, false, List, [], ◌∷◌, ◌++◌, map, ℕ, ◌+◌, ◌^◌, ◌<◌, length, take, drop, Float}
+use Rattle.std.proofs.Common.{sym, ap, ◌∙◌, append_assoc, append-nil, arith, mod-eq_of_lt, length-append, take_at, drop_at}
 use Rattle.std.specs.Float.{binary32, binary64}
 use Rattle.std.specs.Float.Ieee.{to_bits, of_bits}
 use Rattle.std.specs.Float.Ieee.Bits.{of_bits-to_bits, to_bits-lt}
@@ -100,13 +99,6 @@ module _ (s : InputConditioner) (t : Typed s) where
   abbrev k : List ℕ
   k = s.notes.log.counts
 
-  abbrev z : List ℕ
-  z = flag_word s.closed ∷ []
-
-  -- what stands behind the arrays
-  abbrev e : List ℕ
-  e = (r ++ k) ++ z
-
   w_long : length w ≡ window_size
   w_long = length-map power_word s.suppressor.window ∙ t.window_long
 
@@ -118,7 +110,7 @@ module _ (s : InputConditioner) (t : Typed s) where
 
   -- what stands behind the numbers
   abbrev rest : List ℕ
-  rest = (w ++ (o ++ p)) ++ e
+  rest = (w ++ (o ++ p)) ++ (r ++ k)
 
   arrays_long : length (w ++ (o ++ p)) ≡ 87
   arrays_long =
@@ -128,44 +120,37 @@ module _ (s : InputConditioner) (t : Typed s) where
       omega (arith, w_long, o_long)
 
   window_there : take window_size rest ≡ w
-  window_there = ap (take window_size) (append_assoc w (o ++ p) e) ∙ take_at w ((o ++ p) ++ e) window_size w_long
+  window_there = ap (take window_size) (append_assoc w (o ++ p) (r ++ k)) ∙ take_at w ((o ++ p) ++ (r ++ k)) window_size w_long
 
-  split : rest ≡ w ++ (o ++ (p ++ e))
-  split = append_assoc w (o ++ p) e ∙ ap (λ (l : List ℕ). w ++ l) (append_assoc o p e)
+  split : rest ≡ w ++ (o ++ (p ++ (r ++ k)))
+  split = append_assoc w (o ++ p) (r ++ k) ∙ ap (λ (l : List ℕ). w ++ l) (append_assoc o p (r ++ k))
 
   sorted_there : take window_size (drop window_size rest) ≡ o
   sorted_there =
       ap (λ (l : List ℕ). take window_size (drop window_size l)) split
-      ∙ middle w o (p ++ e) window_size window_size w_long o_long
+      ∙ middle w o (p ++ (r ++ k)) window_size window_size w_long o_long
 
   pending_there : take lookahead_size (drop (window_size + window_size) rest) ≡ p
   pending_there =
       let n : length (w ++ o) ≡ window_size + window_size = let a = length-append w o in omega (arith, w_long, o_long) in
-      ap (λ (l : List ℕ). take lookahead_size (drop (window_size + window_size) l)) (split ∙ sym (append_assoc w o (p ++ e)))
-      ∙ middle (w ++ o) p e (window_size + window_size) lookahead_size n t.pending_long
+      ap (λ (l : List ℕ). take lookahead_size (drop (window_size + window_size) l)) (split ∙ sym (append_assoc w o (p ++ (r ++ k))))
+      ∙ middle (w ++ o) p (r ++ k) (window_size + window_size) lookahead_size n t.pending_long
 
-  last_there : drop 87 rest ≡ e
-  last_there = drop_at (w ++ (o ++ p)) e 87 arrays_long
-
-  log_there : drop 87 rest ≡ r ++ (k ++ z)
-  log_there = last_there ∙ append_assoc r k z
+  log_there : drop 87 rest ≡ r ++ k
+  log_there = drop_at (w ++ (o ++ p)) (r ++ k) 87 arrays_long
 
   rings_there : rings_in 12 (drop 87 rest) ≡ s.notes.log.rings
   rings_there =
       ap (rings_in 12) log_there
-      ∙ ap (λ (n : ℕ). rings_in n (r ++ (k ++ z))) (sym t.rings_long)
-      ∙ rings_again s.notes.log.rings (k ++ z)
+      ∙ ap (λ (n : ℕ). rings_in n (r ++ k)) (sym t.rings_long)
+      ∙ rings_again s.notes.log.rings k
 
   counts_there : take 12 (drop 123 rest) ≡ k
   counts_there =
-      ap (take 12) (sym (drop-drop 36 87 rest) ∙ ap (drop 36) log_there) ∙ middle r k z 36 12 r_long t.counts_long
-
-  closed_there : get_or rest 135 0 ≡ flag_word s.closed
-  closed_there =
-      let n : length (r ++ k) ≡ 48 = let a = length-append r k in let l = t.counts_long in omega (arith, r_long) in
-      sym (get_or-drop 87 rest 48 0)
-      ∙ ap (λ (l : List ℕ). get_or l 48 0) last_there
-      ∙ get_or_at (r ++ k) (flag_word s.closed) [] 0 48 n
+      let n : length ((w ++ (o ++ p)) ++ r) ≡ 123 = let a = length-append (w ++ (o ++ p)) r in omega (arith, arrays_long, r_long) in
+      ap (λ (l : List ℕ). take 12 (drop 123 l))
+      (sym (append_assoc (w ++ (o ++ p)) r k) ∙ ap (λ (l : List ℕ). ((w ++ (o ++ p)) ++ r) ++ l) (sym (append-nil k)))
+      ∙ middle ((w ++ (o ++ p)) ++ r) k [] 123 12 n t.counts_long
 
   -- ---- the state
 
@@ -210,5 +195,4 @@ module _ (s : InputConditioner) (t : Typed s) where
               repairs = s.notes.repairs;
               longruns = s.notes.longruns;
             };
-        closed = (ap flag_of closed_there ∙ flag_again s.closed) i;
       }

@@ -12,7 +12,7 @@ enum-known-run : tie.Need-enum-known-run
 enum-known-run c = search rules
 
 add-t8 : tie.Need-overflow-add-t8
-add-t8 c = let h = subst (λ (o : Open). run_end o ≤ 2 ^ 53) c.before.run.given.1 c.before.before.before.requires in omega arith
+add-t8 c = let h = subst (λ (o : Open). run_end o ≤ 2 ^ 52) c.before.run.given.1 c.before.before.before.requires in omega arith
 
 enum_told : tie.Need-enum-told
 enum_told c = search rules

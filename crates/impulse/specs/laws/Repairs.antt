@@ -5,7 +5,7 @@ use Rattle.std.proofs.Math.Path.{refl, ap}
 use Rattle.std.proofs.Common.{sym, ◌∙◌, ⊎_elim, arith, length-set, length-drop, get_or-set_same, get_or-set_other, get_or-take, get_or-drop, ext_get_or, length-take-le}
 use Rattle.std.proofs.Math.Logic.{inl, inr}
 use Rattle.std.proofs.Math.Bool.{true, false, cond, not, false≢true}
-use mathlib.Core.List.{List, [], ◌∷◌, ◌++◌, append-nil}
+use mathlib.Core.List.{List, [], ◌∷◌, ◌++◌}
 use Prim.Native.Nat.{ℕ, zero, suc, ◌+◌, ◌-◌, ◌≤◌, ◌<◌}
 use Rattle.std.proofs.Math.Decide.{ℕ_discrete}
 use Rattle.std.proofs.Math.Dec.{ltb}
@@ -16,9 +16,8 @@ use Rattle.rules.specs.laws.ListLaws.{length_up_to, get_d_up_to}
 use Rattle.rules.specs.laws.EventLaws.{repairs_append}
 use Rattle.rules.specs.laws.SortLaws.{all_append}
 use Rattle.rules.specs.Pauses.{Edition}
-use Rattle.rules.specs.Impulse.{Setting, flagged, before, start, closes, block_of, touches, mendable, mends, covers, value, uncertain}
-use Rattle.rules.specs.Impulse.{kept, mended, events_at, events, Input, judged_in, paused_in, last_run, happened, released_in, handed_on, longest_run}
-use Rattle.rules.specs.laws.ClosingLaws.{judged_most, released_most}
+use Rattle.rules.specs.Impulse.{Setting, lookahead, flagged, judged, before, start, closes, block_of, touches, mendable, mends, covers, value, uncertain}
+use Rattle.rules.specs.Impulse.{kept, mended, events_at, events, paused_in, handed_on, happened, longest_run}
 use Rattle.rules.specs.Log.{repair_words, repairs_of}
 use Rattle.rules.specs.Undo.{returned, undone, undone_all}
 use Rattle.rules.specs.laws.Runs.{before_le, hit_says, value_missed}
@@ -255,68 +254,31 @@ module _ (xs : List ℕ) (first : ℕ) where
       let k : i < length ys = omega arith in
       all_at es o ys i k (d i k) ∙ sym (get_or-take (length ys) (drop first xs) i 0 k ∙ get_or-drop first xs i 0))
 
--- ---- the stage, of an input that may be closed
+-- any slice of what the stage hands on
+pub undo_slice : (s : Setting) → s.run ≤ longest_run → (E : ℕ → Edition) (xs ys : List ℕ) (first : ℕ) → first + length ys ≤ length xs
+    → ((i : ℕ) → i < length ys → at ys i ≡ value s (flagged s xs) (paused_in s E xs) xs (judged s (length xs)) (first + i))
+    → undone_all first (repairs_of (happened s E xs)) ys ≡ take (length ys) (drop first xs)
+unfolding happened
+undo_slice s r E xs ys first w same =
+    undo_returns xs first (repairs_of (events s (flagged s xs) (paused_in s E xs) xs (judged s (length xs)))) ys
+    (all_original s (flagged s xs) (paused_in s E xs) xs r (judged s (length xs)) (omega arith)) w
+    (λ i h. ⊎_elim (λ e. inl (same i h ∙ e)) (λ c. inr c) (raw_or_recorded s (flagged s xs) (paused_in s E xs) xs (judged s (length xs)) (first + i)))
 
-module _ (s : Setting) (r : s.run ≤ longest_run) (E : ℕ → Edition) (i : Input) where
-  abbrev xs : List ℕ
-  xs = i.samples
+pub undo_handed : (s : Setting) → s.run ≤ longest_run → (E : ℕ → Edition) (xs : List ℕ)
+    → undone_all 0 (repairs_of (happened s E xs)) (handed_on s E xs) ≡ take (length (handed_on s E xs)) xs
+unfolding handed_on
+undo_handed s r E xs = go s.apply refl
+  where
+    f : ℕ → ℕ
+    f = value s (flagged s xs) (paused_in s E xs) xs (judged s (length xs))
 
-  abbrev F : ℕ → Bool
-  F = flagged s xs
+    n : ℕ
+    n = length xs - lookahead s
 
-  abbrev P : ℕ → Bool
-  P = paused_in s E xs
-
-  abbrev J : ℕ
-  J = judged_in s i
-
-  -- a run with no right neighbour has no record
-  last_unrecorded : repairs_of (last_run s F (length xs)) ≡ []
-  unfolding last_run repairs_of
-  last_unrecorded = go (ltb 0 (before F (length xs)))
-    where
-      go : (b : Bool) → repairs_of (cond b (kept (start F (length xs)) (before F (length xs)) (ltb s.run (before F (length xs))) ∷ []) []) ≡ []
-      go true = refl
-      go false = refl
-
-  repairs_happened : repairs_of (happened s E i) ≡ repairs_of (events s F P xs J)
-  unfolding happened
-  repairs_happened = go i.closed
-    where
-      go : (c : Bool)
-          → repairs_of (happened s E (record { samples = xs; closed = c })) ≡ repairs_of (events s F P xs (judged_in s (record { samples = xs; closed = c })))
-      go true =
-          let es = events s F P xs (length xs) in
-          repairs_append es (last_run s F (length xs))
-          ∙ ap (λ (rs : List (List ℕ)). repairs_of es ++ rs) last_unrecorded
-          ∙ append-nil (repairs_of es)
-      go false = refl
-
-  -- each record is the input's
-  pub happened_original : All (Original xs) (repairs_of (happened s E i))
-  happened_original = rw repairs_happened (all_original s F P xs r J (judged_most s i))
-
-  -- any slice of what the stage hands on
-  pub undo_slice : (ys : List ℕ) (first : ℕ) → first + length ys ≤ length xs
-      → ((k : ℕ) → k < length ys → at ys k ≡ value s F P xs J (first + k))
-      → undone_all first (repairs_of (happened s E i)) ys ≡ take (length ys) (drop first xs)
-  undo_slice ys first w same =
-      undo_returns xs first (repairs_of (happened s E i)) ys happened_original w
-      (λ k h. ⊎_elim (λ e. inl (same k h ∙ e)) (λ c. inr (rw repairs_happened c)) (raw_or_recorded s F P xs J (first + k)))
-
-  pub undo_handed : undone_all 0 (repairs_of (happened s E i)) (handed_on s E i) ≡ take (length (handed_on s E i)) xs
-  unfolding handed_on
-  undo_handed = go s.apply refl
-    where
-      f : ℕ → ℕ
-      f = value s F P xs J
-
-      n : ℕ
-      n = released_in s i
-
-      go : (a : Bool) → s.apply ≡ a → undone_all 0 (repairs_of (happened s E i)) (cond a (up_to f n) xs) ≡ take (length (cond a (up_to f n) xs)) xs
-      go true e =
-          let len = length_up_to f n in
-          undo_slice (up_to f n) 0 (omega (arith, released_most s i)) (λ k h. get_d_up_to 0 f n k (omega arith) ∙ ap f (let q : k ≡ 0 + k = omega arith in q))
-      go false e =
-          undo_slice xs 0 (omega arith) (λ k h. ap (at xs) (let q : k ≡ 0 + k = omega arith in q) ∙ sym (value_observed s F P xs e J (0 + k)))
+    go : (a : Bool) → s.apply ≡ a → undone_all 0 (repairs_of (happened s E xs)) (cond a (up_to f n) xs) ≡ take (length (cond a (up_to f n) xs)) xs
+    go true e =
+        let len = length_up_to f n in
+        undo_slice s r E xs (up_to f n) 0 (omega arith) (λ i h. get_d_up_to 0 f n i (omega arith) ∙ ap f (let q : i ≡ 0 + i = omega arith in q))
+    go false e =
+        undo_slice s r E xs xs 0 (omega arith)
+        (λ i h. ap (at xs) (let q : i ≡ 0 + i = omega arith in q) ∙ sym (value_observed s (flagged s xs) (paused_in s E xs) xs e (judged s (length xs)) (0 + i)))

@@ -1,4 +1,4 @@
--- Judging a sample, and so a push, leaves the gate room for the next, and the ordered array its length. Assumes nothing.
+-- A push leaves the gate room for the next one, and the ordered array its length. Assumes nothing.
 use Rattle.std.specs.Prelude.{◌≡◌, refl, Bool, true, false, cond, List, ◌++◌, ℕ, ◌+◌, ◌-◌, ◌/◌, ◌%◌, ◌^◌, ◌≤◌, ◌<◌, ltb, eqb, length, get_or, take, drop, Float}
 use Rattle.std.proofs.Common.{ap, sym, subst, arith, length-append, length-take, length-drop, length-take-le, ltb-true}
 use Rattle.std.specs.Float.{nan}
@@ -55,59 +55,41 @@ grown_end : (o : Open) (j n : ℕ) (paused : Bool) → run_end o ≤ n → j ≤
 grown_end Closed j n paused h k = omega arith
 grown_end (Running r) j n paused h k = omega arith
 
--- what judging asks of the gate's numbers, by a number n that rises with each sample judged
-pub record Able (n : ℕ) (g : Gate) : Type 0 where
-  pub blocks : 0 < g.settings.blocklen
-  pub few : g.block.flagged ≤ 2 ^ 52 + n
-  pub behind : run_end g.mending.run ≤ n
-
-pub room_able : (g : Gate) → Room g → Able g.received g
-room_able g r = record { blocks = r.blocks; few = r.few; behind = r.behind }
-
-pub judge_able : (s : Setting) (g : Gate) (j n : ℕ) (p : Float) (sorted : List Float) (l : List ℕ) (k : ℕ)
-    → Able k g → j ≤ k → Able (k + 1) (judge s g j n p sorted l).gate
+judge_room : (s : Setting) (g : Gate) (j : ℕ) (p : Float) (sorted : List Float) (l : List ℕ)
+    → Room g → g.received < 2 ^ 50 → j ≤ g.received → Room (judge s (arrived g) j p sorted l).gate
 unfolding judge
-judge_able s g j n p sorted l k r h = go (flagged_by (width s) s.trim n sorted p)
+judge_room s g j p sorted l r h k = go (flagged_by (width s) s.trim e.received sorted p)
   where
     e : Gate
-    e = entered g j
+    e = entered (arrived g) j
 
-    t : Entered g (entered g j)
-    t = entered_keeps g j
+    t : Entered (arrived g) (entered (arrived g) j)
+    t = entered_keeps (arrived g) j
 
-    blocks : 0 < (entered g j).settings.blocklen
+    blocks : 0 < (entered (arrived g) j).settings.blocklen
     blocks = subst (λ (x : GateSettings). 0 < x.blocklen) (sym t.settings) r.blocks
 
-    go : (b : Bool) → Able (k + 1) (decided s (entered g j) j l b).gate
+    go : (b : Bool) → Room (decided s (entered (arrived g) j) j l b).gate
     go true =
-        let o = subst (λ (x : Mending). run_end x.run ≤ k) (sym t.mending) r.behind in
-        record { blocks = blocks; few = omega (arith, t.flagged, r.few); behind = grown_end e.mending.run j k e.block.paused o h }
-    go false = record { blocks = blocks; few = omega (arith, t.flagged, r.few); behind = omega arith }
-
-pub judge_received : (s : Setting) (g : Gate) (j n : ℕ) (p : Float) (sorted : List Float) (l : List ℕ) → (judge s g j n p sorted l).gate.received ≡ g.received
-unfolding judge
-judge_received s g j n p sorted l = go (flagged_by (width s) s.trim n sorted p)
-  where
-    go : (b : Bool) → (decided s (entered g j) j l b).gate.received ≡ g.received
-    go true = (entered_keeps g j).received
-    go false = (entered_keeps g j).received
-
-judge_room : (s : Setting) (g : Gate) (j n : ℕ) (p : Float) (sorted : List Float) (l : List ℕ)
-    → Room g → g.received < 2 ^ 50 → j ≤ g.received → Room (judge s (arrived g) j n p sorted l).gate
-judge_room s g j n p sorted l r h k =
-    let q = judge_able s (arrived g) j n p sorted l g.received (record { blocks = r.blocks; few = r.few; behind = r.behind }) k in
-    let e = judge_received s (arrived g) j n p sorted l in
-    record { blocks = q.blocks; early = omega arith; few = omega (arith, q.few); behind = omega (arith, q.behind) }
+        let o = subst (λ (x : Mending). run_end x.run ≤ g.received) (sym t.mending) r.behind in
+        let w = grown_end e.mending.run j g.received e.block.paused o k in
+        record {
+          blocks = blocks;
+          early = omega (arith, t.received);
+          few = omega (arith, t.received, t.flagged, r.few);
+          behind =
+              omega (arith, w, t.received);
+        }
+    go false =
+        record { blocks = blocks; early = omega (arith, t.received); few = omega (arith, t.received, t.flagged, r.few); behind = omega arith }
 
 pub room_step : (s : Setting) (m : ImpulseSuppressor) (x : ℕ) → Room m.gate → m.gate.received < 2 ^ 50 → Room (push s m x).state.gate
 unfolding push verdict
 room_step s m x r h =
     go (ltb m.gate.received s.half)
-    (judge s (arrived m.gate) (m.gate.received - s.half) (arrived m.gate).received
-    (get_or (window_with s m x) ((m.gate.received - s.half) % width s) nan) (sorted_with s m x)
+    (judge s (arrived m.gate) (m.gate.received - s.half) (get_or (window_with s m x) ((m.gate.received - s.half) % width s) nan) (sorted_with s m x)
     (pending_with s m x))
-    (judge_room s m.gate (m.gate.received - s.half) (arrived m.gate).received
-    (get_or (window_with s m x) ((m.gate.received - s.half) % width s) nan) (sorted_with s m x)
+    (judge_room s m.gate (m.gate.received - s.half) (get_or (window_with s m x) ((m.gate.received - s.half) % width s) nan) (sorted_with s m x)
     (pending_with s m x) r h (omega arith))
   where
     go : (b : Bool) (d : Judgement) → Room d.gate
@@ -117,15 +99,21 @@ room_step s m x r h =
 
 -- ---- the count and the setting
 
+judge_received : (s : Setting) (g : Gate) (j : ℕ) (p : Float) (sorted : List Float) (l : List ℕ) → (judge s g j p sorted l).gate.received ≡ g.received
+unfolding judge
+judge_received s g j p sorted l = go (flagged_by (width s) s.trim (entered g j).received sorted p)
+  where
+    go : (b : Bool) → (decided s (entered g j) j l b).gate.received ≡ g.received
+    go true = (entered_keeps g j).received
+    go false = (entered_keeps g j).received
+
 pub received_step : (s : Setting) (m : ImpulseSuppressor) (x : ℕ) → (push s m x).state.gate.received ≡ m.gate.received + 1
 unfolding push verdict
 received_step s m x =
     go (ltb m.gate.received s.half)
-    (judge s (arrived m.gate) (m.gate.received - s.half) (arrived m.gate).received
-    (get_or (window_with s m x) ((m.gate.received - s.half) % width s) nan) (sorted_with s m x)
+    (judge s (arrived m.gate) (m.gate.received - s.half) (get_or (window_with s m x) ((m.gate.received - s.half) % width s) nan) (sorted_with s m x)
     (pending_with s m x))
-    (judge_received s (arrived m.gate) (m.gate.received - s.half) (arrived m.gate).received
-    (get_or (window_with s m x) ((m.gate.received - s.half) % width s) nan)
+    (judge_received s (arrived m.gate) (m.gate.received - s.half) (get_or (window_with s m x) ((m.gate.received - s.half) % width s) nan)
     (sorted_with s m x) (pending_with s m x))
   where
     go : (b : Bool) (d : Judgement) → d.gate.received ≡ m.gate.received + 1
@@ -133,9 +121,9 @@ received_step s m x =
     go true d q = refl
     go false d q = q
 
-pub judge_setting : (s : Setting) (g : Gate) (j n : ℕ) (p : Float) (sorted : List Float) (l : List ℕ) → setting_of (judge s g j n p sorted l).gate ≡ setting_of g
+judge_setting : (s : Setting) (g : Gate) (j : ℕ) (p : Float) (sorted : List Float) (l : List ℕ) → setting_of (judge s g j p sorted l).gate ≡ setting_of g
 unfolding judge
-judge_setting s g j n p sorted l = go (flagged_by (width s) s.trim n sorted p)
+judge_setting s g j p sorted l = go (flagged_by (width s) s.trim (entered g j).received sorted p)
   where
     go : (b : Bool) → setting_of (decided s (entered g j) j l b).gate ≡ setting_of g
     go true = entered_setting g j
@@ -145,11 +133,9 @@ pub setting_step : (s : Setting) (m : ImpulseSuppressor) (x : ℕ) → setting_o
 unfolding push verdict
 setting_step s m x =
     go (ltb m.gate.received s.half)
-    (judge s (arrived m.gate) (m.gate.received - s.half) (arrived m.gate).received
-    (get_or (window_with s m x) ((m.gate.received - s.half) % width s) nan) (sorted_with s m x)
+    (judge s (arrived m.gate) (m.gate.received - s.half) (get_or (window_with s m x) ((m.gate.received - s.half) % width s) nan) (sorted_with s m x)
     (pending_with s m x))
-    (judge_setting s (arrived m.gate) (m.gate.received - s.half) (arrived m.gate).received
-    (get_or (window_with s m x) ((m.gate.received - s.half) % width s) nan)
+    (judge_setting s (arrived m.gate) (m.gate.received - s.half) (get_or (window_with s m x) ((m.gate.received - s.half) % width s) nan)
     (sorted_with s m x) (pending_with s m x))
   where
     go : (b : Bool) (d : Judgement) → setting_of d.gate ≡ setting_of m.gate

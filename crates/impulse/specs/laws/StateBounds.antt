@@ -14,7 +14,7 @@ use Rattle.ieee.specs.Plain.{Plain}
 use Rattle.complex.specs.Complex.{word_of, sample_of, WordWithin}
 use Rattle.rules.specs.Constants.{zero_f}
 use Rattle.rules.specs.Lists.{at, All}
-use Rattle.rules.specs.Guard.{usable, Usable}
+use Rattle.rules.specs.Guard.{usable}
 use Rattle.rules.specs.Sort.{insert, remove, sort}
 use Rattle.rules.specs.laws.SortLaws.{all_take, all_get_d, Ordered, insert_comm, remove_insert, sort_good, sort_snoc, sort_length, plain_order}
 use Rattle.rules.specs.Impulse.{Setting, width, lookahead, power_of, flagged, judged, before, start, mends, between, left_of, mended_at, covers, value}
@@ -26,13 +26,12 @@ use Rattle.impulse.specs.declared.Open.{Open}
 use Rattle.impulse.specs.declared.Open.TheVariants.{Running, Closed}
 use Rattle.impulse.specs.declared.Left.{Left}
 use Rattle.impulse.specs.declared.Left.TheVariants.{Neighbour, Missing}
-use Rattle.impulse.specs.Machine.{gate_settings}
 use Rattle.impulse.specs.Circle.{circle}
 use Rattle.impulse.specs.laws.CircleLaws.{circle_length, circle_read_any, circle_blank, around}
-use Rattle.impulse.specs.State.{runBefore, open_at, left_at, block_at, newest_powers, padded, paused_by, state_at}
+use Rattle.impulse.specs.State.{runBefore, open_at, left_at, newest_powers, padded, paused_by, state_at}
 use Rattle.impulse.specs.laws.Step.{Fine, newest_length, window_grows, window_moves}
 use Rattle.impulse.specs.laws.Theorem.{Clean, fine_all}
-use Rattle.impulse.specs.Sound.{PowerWithin, SoundGate, Sound}
+use Rattle.impulse.specs.Sound.{PowerWithin, Sound}
 use Rattle.impulse.specs.laws.PartBounds.{usable_within, within_clean, within_more, mended_within, power_sound}
 
 -- ---- all of a circle
@@ -213,41 +212,22 @@ zero_within : WordWithin (2 ^ 59) 0
 unfolding sample_of of_bits
 zero_within = (lit≤ tt, lit≤ tt)
 
-pub usable_clean : (xs : List ℕ) → Usable xs → All Clean xs
-usable_clean [] g = tt
-usable_clean (x ∷ xs) g = (within_clean (2 ^ 57) x (usable_within x g.0), usable_clean xs g.1)
-
-each_within : (xs : List ℕ) → Usable xs → (i : ℕ) → i < length xs → WordWithin (2 ^ 57) (at xs i)
-each_within xs good i q = usable_within (at xs i) (all_get_d (λ w. T (usable w)) xs i 0 good q)
-
--- the gate that has received k, with the block and the left neighbour of j judged samples
-pub gate_sound : (s : Setting) (ed : PauseEdition) (F P : ℕ → Bool) (xs : List ℕ) → Usable xs → (n k j : ℕ) (run : Open) → k ≤ n → j ≤ n → n ≤ length xs
-    → ((r : Run) → run ≡ Running r → (0 < r.len) × (r.start + r.len ≡ judged s k))
-    → SoundGate s n
-    (record { settings = gate_settings s ed; received = k; mending = record { run = run; left = left_at F xs j }; block = block_at s F P j (newest_block s j) })
-gate_sound s ed F P xs good n k j run few past inside ends =
-    record {
-      received = few;
-      block = let d = div-le_self (j - 1) s.block in omega arith;
-      flags = let c = count_le F (newest_block s j * s.block) (j - newest_block s j * s.block) in omega arith;
-      run = ends;
-      left = λ x e. within_more (2 ^ 57) (2 ^ 59) x (lit≤ tt) (left_keeps (WordWithin (2 ^ 57)) F xs (each_within xs good) j (omega arith) x e);
-    }
-
-pub state_sound : (s : Setting) → s.run ≤ 32 → (ed : PauseEdition) (xs : List ℕ) → Usable xs → (n : ℕ) → n ≤ length xs → Sound s n (state_at s ed xs n)
+pub state_sound : (s : Setting) → s.run ≤ 32 → (ed : PauseEdition) (xs : List ℕ) → All (λ w. T (usable w)) xs → (n : ℕ) → n ≤ length xs → Sound s n (state_at s ed xs n)
 unfolding state_at
 state_sound s short ed xs good n h =
     record {
       apply = refl;
       blocklen = refl;
       received = refl;
-      gate = gate_sound s ed F P xs good n n (judged s n) (open_at s F P (judged s n)) (omega arith) (omega arith) h (open_ends s F P (judged s n));
+      block = let d = div-le_self (judged s n - 1) s.block in omega arith;
+      flags = let c = count_le F (newest_block s (judged s n) * s.block) (judged s n - newest_block s (judged s n) * s.block) in omega arith;
+      run = open_ends s F P (judged s n);
+      left = λ x e. within_more (2 ^ 57) (2 ^ 59) x (lit≤ tt) (left_keeps (WordWithin (2 ^ 57)) F xs each (judged s n) (omega arith) x e);
       pending = all_circle (WordWithin (2 ^ 59)) 0 (lookahead s) n (value s F P xs (judged s n)) zero_within
           (λ k q. value_keeps (WordWithin (2 ^ 57)) (WordWithin (2 ^ 59)) s F P xs (λ x w. within_more (2 ^ 57) (2 ^ 59) x (lit≤ tt) w)
           (λ l r t m wl wr a b. mended_within l r t m a (omega arith) wl wr) each (judged s n) k (omega arith) (omega arith));
       powers = all_circle PowerWithin zero_f (width s) n (λ k. power_of (at xs k)) zero_sound (λ k q. power_sound (at xs k) (each k (omega arith)));
-      sorted = ap (padded (width s)) (sym (window_sorted (Plain binary32) (plain_order binary32) zero_sound.1 s xs
-          (fine_all xs (usable_clean xs good)) n h));
+      sorted = ap (padded (width s)) (sym (window_sorted (Plain binary32) (plain_order binary32) zero_sound.1 s xs (fine_all xs (cleans xs good)) n h));
       no_power = λ i a b. circle_blank zero_f (width s) n (λ k. power_of (at xs k)) i a b;
       no_sample = λ i a b. circle_blank 0 (lookahead s) n (value s F P xs (judged s n)) i a b;
       window_length_lem = circle_length zero_f (width s) n (λ k. power_of (at xs k));
@@ -267,4 +247,8 @@ state_sound s short ed xs good n h =
     P = paused_by s ed xs
 
     each : (i : ℕ) → i < length xs → WordWithin (2 ^ 57) (at xs i)
-    each = each_within xs good
+    each i q = usable_within (at xs i) (all_get_d (λ w. T (usable w)) xs i 0 good q)
+
+    cleans : (l : List ℕ) → All (λ w. T (usable w)) l → All Clean l
+    cleans [] g = tt
+    cleans (x ∷ l) g = (within_clean (2 ^ 57) x (usable_within x g.0), cleans l g.1)

@@ -67,14 +67,6 @@ padded_more w l p h =
     let left : w - length (insert lt p l) ≡ w - suc (length l) = omega arith in
     rw (left, take_at l (replicate (w - length l) zero_f) (length l) refl, drop-append-add l (replicate (w - length l) zero_f) 1, more)
 
--- the first of the samples from a on goes
-pub first_goes : (good : Float → Type 0) → Ordered lt good → (xs : List ℕ) → All (Fine good) xs → (a : ℕ) → a < length xs
-    → remove lt (power_of (at xs a)) (sort lt (map power_of (drop a xs))) ≡ sort lt (map power_of (drop (suc a) xs))
-unfolding sort
-first_goes good o xs fine a h =
-    ap (λ (l : List ℕ). remove lt (power_of (at xs a)) (sort lt (map power_of l))) (drop-cons xs a 0 h)
-    ∙ remove_insert o (power_of (at xs a)) (sort lt (map power_of (drop (suc a) xs))) (all_get_d (Fine good) xs a 0 fine h)
-
 module _ (good : Float → Type 0) (o : Ordered lt good) (xs : List ℕ) (fine : All (Fine good) xs) where
   take_more : (n : ℕ) → n < length xs → take (suc n) xs ≡ take n xs ++ (at xs n ∷ [])
   take_more n h = take-suc xs n 0 h
@@ -87,14 +79,19 @@ module _ (good : Float → Type 0) (o : Ordered lt good) (xs : List ℕ) (fine :
 
   -- a full window, and a is the oldest's number
   module _ (n a : ℕ) (h : n < length xs) (k : a < n) where
+    cut : drop a (take n xs) ≡ at xs a ∷ drop (suc a) (take n xs)
+    cut =
+        let len = length-take-le n xs (omega arith) in
+        drop-cons (take n xs) a 0 (omega arith) ∙ ap (λ (x : ℕ). x ∷ drop (suc a) (take n xs)) (get_or-take n xs a 0 k)
+
     rest_good : All good (map power_of (drop (suc a) (take n xs)))
     rest_good = all_map good power_of (drop (suc a) (take n xs)) (all_drop (Fine good) (suc a) (take n xs) (all_take (Fine good) n xs fine))
 
     goes : remove lt (power_of (at xs a)) (sort lt (map power_of (drop a (take n xs)))) ≡ sort lt (map power_of (drop (suc a) (take n xs)))
+    unfolding sort
     goes =
-        let len = length-take-le n xs (omega arith) in
-        ap (λ (x : ℕ). remove lt (power_of x) (sort lt (map power_of (drop a (take n xs))))) (sym (get_or-take n xs a 0 k))
-        ∙ first_goes good o (take n xs) (all_take (Fine good) n xs fine) a (omega arith)
+        ap (λ (l : List ℕ). remove lt (power_of (at xs a)) (sort lt (map power_of l))) cut
+        ∙ remove_insert o (power_of (at xs a)) (sort lt (map power_of (drop (suc a) (take n xs)))) (all_get_d (Fine good) xs a 0 fine (omega arith))
 
     comes : insert lt (power_of (at xs n)) (sort lt (map power_of (drop (suc a) (take n xs)))) ≡ sort lt (map power_of (drop (suc a) (take (suc n) xs)))
     comes =
@@ -160,25 +157,21 @@ module _ (good : Float → Type 0) (o : Ordered lt good) (xs : List ℕ) (fine :
 
 -- ---- the flag
 
--- by the sorted powers of the window of j, which are c, or a whole window of them
-pub flag_by : (s : Setting) (xs : List ℕ) (j c : ℕ) → min c (width s) ≡ length (window s xs j)
-    → flagged_by (width s) s.trim c (padded (width s) (sort lt (window s xs j))) (power_of (at xs j)) ≡ flagged s xs j
-unfolding flagged_by flagged reference mean
-flag_by s xs j c many =
-    let W = window s xs j in
-    let size = sort_length lt W in
-    let front = take-append-le (min c (width s) - s.trim) (sort lt W) (replicate (width s - length (sort lt W)) zero_f) (omega arith) in
-    ap (λ (l : List Float). stands_out (mean l) (power_of (at xs j))) (front ∙ ap (λ (k : ℕ). take (k - s.trim) (sort lt W)) many)
-
--- of the newest powers
-flag_is : (s : Setting) (xs : List ℕ) (n j : ℕ) → n ≡ j + s.half → n < length xs
+pub flag_is : (s : Setting) (xs : List ℕ) (n j : ℕ) → n ≡ j + s.half → n < length xs
     → flagged_by (width s) s.trim (suc n) (padded (width s) (sort lt (newest_powers s xs (suc n)))) (power_of (at xs j)) ≡ flagged s xs j
+unfolding flagged_by flagged reference mean
 flag_is s xs n j e h =
+    let W = newest_powers s xs (suc n) in
     let a : suc n - width s ≡ j - s.half = omega arith in
     let b : suc n ≡ j + s.half + 1 = omega arith in
-    let same : newest_powers s xs (suc n) ≡ window s xs j = λ i. map power_of (drop (a i) (take (b i) xs)) in
-    ap (λ (l : List Float). flagged_by (width s) s.trim (suc n) (padded (width s) (sort lt l)) (power_of (at xs j))) same
-    ∙ flag_by s xs j (suc n) (sym (newest_length s xs (suc n) h) ∙ ap length same)
+    let same : W ≡ window s xs j = λ i. map power_of (drop (a i) (take (b i) xs)) in
+    let len = newest_length s xs (suc n) h in
+    let size = sort_length lt W in
+    let front = take-append-le (min (suc n) (width s) - s.trim) (sort lt W) (replicate (width s - length (sort lt W)) zero_f) (omega arith) in
+    ap (λ (l : List Float). stands_out (mean l) (power_of (at xs j)))
+    (front
+    ∙ ap (λ (k : ℕ). take (k - s.trim) (sort lt W)) (sym len)
+    ∙ ap (λ (l : List Float). take (length l - s.trim) (sort lt l)) same)
 
 -- ---- the run and its left neighbour, for any flags and any paused blocks
 
@@ -247,29 +240,25 @@ mendable_short s t n = go s.apply (leb n s.run) t refl
     go false false c e q = absurd (false≢true q)
 
 module _ (s : Setting) (ed : PauseEdition) (F P : ℕ → Bool) (xs : List ℕ) where
-  -- what stands in pending when n have come and j are judged
+  -- what stands in pending when n + 1 have come and j are judged
   abbrev pend : ℕ → ℕ → List ℕ
-  pend n j = circle 0 (lookahead s) n (value s F P xs j)
-
-  -- what the rules say of the judging of j
-  abbrev pub judgementAt : ℕ → ℕ → Judgement
-  judgementAt n j = record { gate = gate_at s ed F P xs n (suc j); uncertain = P (block_of s j); ended = ending_at s F P xs j; pending = pend n (suc j) }
+  pend n j = circle 0 (lookahead s) (suc n) (value s F P xs j)
 
   -- no run, or one that is kept, leaves what is pending
   pend_same : (n j : ℕ) → mends s F P j ≡ false → pend n j ≡ pend n (suc j)
   unfolding value
-  pend_same n j e = circle_same 0 (lookahead s) n (value s F P xs j) (value s F P xs (suc j)) (λ k h w. rw e)
+  pend_same n j e = circle_same 0 (lookahead s) (suc n) (value s F P xs j) (value s F P xs (suc j)) (λ k h w. rw e)
 
   -- a run that is mended
-  module _ (n j : ℕ) (past : j < n) (here : n ≤ suc (j + s.half)) (inside : n ≤ length xs) where
-    pend_read : (k : ℕ) → before F j ≤ s.run → j ≤ k + before F j → k < n → get_or (pend n j) (k % lookahead s) 0 ≡ at xs k
+  module _ (n j : ℕ) (here : n ≡ j + s.half) (inside : n < length xs) where
+    pend_read : (k : ℕ) → before F j ≤ s.run → j ≤ k + before F j → k ≤ n → get_or (pend n j) (k % lookahead s) 0 ≡ at xs k
     pend_read k short h w =
         let b = before_le F j in
-        circle_read 0 (lookahead s) n (value s F P xs j) k (omega arith) (omega arith) ∙ value_raw s F P xs j k h
+        circle_read 0 (lookahead s) (suc n) (value s F P xs j) k (omega arith) (omega arith) ∙ value_raw s F P xs j k h
 
     pend_right : get_or (pend n j) (j % lookahead s) 0 ≡ at xs j
     pend_right =
-        circle_read 0 (lookahead s) n (value s F P xs j) j (omega arith) (omega arith) ∙ value_raw s F P xs j j (omega arith)
+        circle_read 0 (lookahead s) (suc n) (value s F P xs j) j (omega arith) (omega arith) ∙ value_raw s F P xs j j (omega arith)
 
     pend_run : before F j ≤ s.run → read_run (lookahead s) (pend n j) (start F j) (before F j) ≡ take (before F j) (drop (start F j) xs)
     pend_run short =
@@ -280,7 +269,7 @@ module _ (s : Setting) (ed : PauseEdition) (F P : ℕ → Bool) (xs : List ℕ) 
     written = write_run (lookahead s) (pend n j) (left_of xs (start F j) (at xs j)) (at xs j) (start F j) (before F j) (before F j)
 
     -- a place outside the run keeps what it has
-    outside : (k : ℕ) → before F j ≤ s.run → k < n → n ≤ k + lookahead s → covers F j k ≡ false → (i : ℕ) → i < before F j
+    outside : (k : ℕ) → before F j ≤ s.run → k < suc n → suc n ≤ k + lookahead s → covers F j k ≡ false → (i : ℕ) → i < before F j
         → k % lookahead s ≢ (start F j + i) % lookahead s
     outside k short h w c i q =
         let b = before_le F j in
@@ -293,17 +282,17 @@ module _ (s : Setting) (ed : PauseEdition) (F P : ℕ → Bool) (xs : List ℕ) 
 
     pend_mended : before F j ≤ s.run → mends s F P j ≡ true → written ≡ pend n (suc j)
     pend_mended short m =
-        circle_is 0 (lookahead s) n (value s F P xs (suc j)) written
+        circle_is 0 (lookahead s) (suc n) (value s F P xs (suc j)) written
         (write_length (lookahead s) (pend n j) (left_of xs (start F j) (at xs j)) (at xs j) (start F j) (before F j) (before F j) ∙ len)
         (λ k h w. reads k h w (covers F j k) refl) blank
       where
         len : length (pend n j) ≡ lookahead s
-        len = circle_length 0 (lookahead s) n (value s F P xs j)
+        len = circle_length 0 (lookahead s) (suc n) (value s F P xs j)
 
         hits : (k : ℕ) (c : Bool) → covers F j k ≡ c → mends s F P j && covers F j k ≡ c
         hits k c e = rw m e
 
-        reads : (k : ℕ) → k < n → n ≤ k + lookahead s → (c : Bool) → covers F j k ≡ c → get_or written (k % lookahead s) 0 ≡ value s F P xs (suc j) k
+        reads : (k : ℕ) → k < suc n → suc n ≤ k + lookahead s → (c : Bool) → covers F j k ≡ c → get_or written (k % lookahead s) 0 ≡ value s F P xs (suc j) k
         reads k h w true c =
             let t = hit_says s F P xs j k (hits k true c) in
             let b = before_le F j in
@@ -316,15 +305,15 @@ module _ (s : Setting) (ed : PauseEdition) (F P : ℕ → Bool) (xs : List ℕ) 
         reads k h w false c =
             write_other (lookahead s) (pend n j) (left_of xs (start F j) (at xs j)) (at xs j) (start F j) (before F j) (before F j) (k % lookahead s)
             (outside k short h w c)
-            ∙ circle_read 0 (lookahead s) n (value s F P xs j) k h w
+            ∙ circle_read 0 (lookahead s) (suc n) (value s F P xs j) k h w
             ∙ sym (value_miss s F P xs j k (hits k false c))
 
-        blank : (p : ℕ) → n ≤ p → p < lookahead s → get_or written p 0 ≡ 0
+        blank : (p : ℕ) → suc n ≤ p → p < lookahead s → get_or written p 0 ≡ 0
         blank p h w =
             let b = before_le F j in
             write_other (lookahead s) (pend n j) (left_of xs (start F j) (at xs j)) (at xs j) (start F j) (before F j) (before F j) p
             (λ i q. let g : start F j + i < lookahead s = omega arith in let e = mod-eq_of_lt g in omega arith)
-            ∙ circle_blank 0 (lookahead s) n (value s F P xs j) p h w
+            ∙ circle_blank 0 (lookahead s) (suc n) (value s F P xs j) p h w
 
     -- the run that ends at j, which is not flagged
     abbrev able : Bool
@@ -375,9 +364,14 @@ module _ (s : Setting) (ed : PauseEdition) (F P : ℕ → Bool) (xs : List ℕ) 
         go true t = closing_pending_lem e t
         go false t = let m : mends s F P j ≡ false = rw (e, t) in pend_same n j m
 
+    -- what the rules say of the judging of j
+    abbrev judgementAt : Judgement
+    judgementAt =
+        record { gate = gate_at s ed F P xs (suc n) (suc j); uncertain = P (block_of s j); ended = ending_at s F P xs j; pending = pend n (suc j) }
+
     -- the gate in the block of j
     abbrev entering : Gate
-    entering = gate_in s ed F P xs n j (block_of s j)
+    entering = gate_in s ed F P xs (suc n) j (block_of s j)
 
     -- the block when j is judged too, and its flag counted
     block_is : (flag : Bool) (flags : ℕ) → F j ≡ flag → flags ≡ indicator flag + flags_in s F (block_of s j) j
@@ -387,7 +381,7 @@ module _ (s : Setting) (ed : PauseEdition) (F P : ℕ → Bool) (xs : List ℕ) 
         let t = count ∙ ap (λ (c : Bool). indicator c + flags_in s F (block_of s j) j) (sym e) ∙ sym (tally_flags s F j) in
         ap (with_flagged entering.block) t ∙ ap (λ (i : ℕ). block_at s F P (suc j) (block_of s i)) k
 
-    decided_is : (flag : Bool) → F j ≡ flag → decided s entering j (pend n j) flag ≡ judgementAt n j
+    pub decided_is : (flag : Bool) → F j ≡ flag → decided s entering j (pend n j) flag ≡ judgementAt
     unfolding mends ending_at
     decided_is true e =
         let m : mends s F P j ≡ false = rw e in
@@ -417,7 +411,8 @@ module _ (s : Setting) (ed : PauseEdition) (F P : ℕ → Bool) (xs : List ℕ) 
 
 -- ---- the step
 
-module _ (s : Setting) (ed : PauseEdition) (l : 0 < s.block) (xs : List ℕ) where
+module _ (good : Float → Type 0) (o : Ordered lt good) (s : Setting) (ed : PauseEdition) (l : 0 < s.block) (xs : List ℕ)
+    (fine : All (Fine good) xs) (n : ℕ) (inside : n < length xs) where
   abbrev F : ℕ → Bool
   F = flagged s xs
 
@@ -427,128 +422,135 @@ module _ (s : Setting) (ed : PauseEdition) (l : 0 < s.block) (xs : List ℕ) whe
   abbrev power_at : ℕ → Float
   power_at k = power_of (at xs k)
 
+  window_is : window_with s (state_at s ed xs n) (at xs n) ≡ circle zero_f (width s) (suc n) power_at
+  unfolding state_at
+  window_is = circle_push zero_f (width s) n power_at
+
+  pending_is : pending_with s (state_at s ed xs n) (at xs n) ≡ circle 0 (lookahead s) (suc n) (value s F P xs (judged s n))
+  unfolding state_at
+  pending_is =
+      ap (set (circle 0 (lookahead s) n (value s F P xs (judged s n))) (n % lookahead s)) (sym (value_raw s F P xs (judged s n) n (omega arith)))
+      ∙ circle_push 0 (lookahead s) n (value s F P xs (judged s n))
+
+  pub sorted_is : sorted_with s (state_at s ed xs n) (at xs n) ≡ padded (width s) (sort lt (newest_powers s xs (suc n)))
+  unfolding state_at
+  sorted_is =
+      ordered_is good o xs fine s n (get_or (circle zero_f (width s) n power_at) (n % width s) nan) inside
+      (λ w.
+      let same = around (width s) (n - width s) n (omega arith) in
+      ap (λ (q : ℕ). get_or (circle zero_f (width s) n power_at) q nan) same
+      ∙ circle_read_any zero_f (width s) nan n power_at (n - width s) (omega arith) (omega arith))
+
+  answer_is : released (lookahead s) s.apply n (get_or (circle 0 (lookahead s) n (value s F P xs (judged s n))) (n % lookahead s) 0) (at xs n) ≡ answer_at s ed xs n
+  unfolding released answer_at
+  answer_is = ap (λ (a : Answer). cond s.apply a (Released (at xs n))) (go (ltb n (lookahead s)) refl)
+    where
+      go : (b : Bool) → ltb n (lookahead s) ≡ b
+          → cond b Nothing (Released (get_or (circle 0 (lookahead s) n (value s F P xs (judged s n))) (n % lookahead s) 0))
+          ≡ cond b Nothing (Released (value s F P xs (judged s (length xs)) (n - lookahead s)))
+      go true e = refl
+      go false e =
+          let w = ltb-false n (lookahead s) e in
+          let same = around (lookahead s) (n - lookahead s) n (omega arith) in
+          let read = circle_read 0 (lookahead s) n (value s F P xs (judged s n)) (n - lookahead s) (omega arith) (omega arith) in
+          let later : judged s n + (length xs - n) ≡ judged s (length xs) = omega arith in
+          let fixed = value_fixed s F P xs (length xs - n) (judged s n) (n - lookahead s) (omega arith) in
+          ap (λ (q : ℕ). Released q)
+          (ap (λ (q : ℕ). get_or (circle 0 (lookahead s) n (value s F P xs (judged s n))) q 0) same
+          ∙ read
+          ∙ sym fixed
+          ∙ ap (λ (q : ℕ). value s F P xs q (n - lookahead s)) later)
+
   -- the gate in the block of j: what knows the pause rule
-  entered_is : (n j : ℕ) → entered (gate_at s ed F P xs n j) j ≡ gate_in s ed F P xs n j (block_of s j)
+  entered_is : (j : ℕ) → entered (gate_at s ed F P xs (suc n) j) j ≡ gate_in s ed F P xs (suc n) j (block_of s j)
   unfolding entered
-  entered_is n j = go (eqb (block_of s j) (newest_block s j)) refl
+  entered_is j = go (eqb (block_of s j) (newest_block s j)) refl
     where
       before_it : Gate
-      before_it = gate_at s ed F P xs n j
+      before_it = gate_at s ed F P xs (suc n) j
 
       go : (b : Bool) → eqb (block_of s j) (newest_block s j) ≡ b
-          → cond b before_it (with_block before_it (next_block before_it (block_of s j))) ≡ gate_in s ed F P xs n j (block_of s j)
-      go true e = ap (gate_in s ed F P xs n j) (sym (eqb-true (block_of s j) (newest_block s j) e))
+          → cond b before_it (with_block before_it (next_block before_it (block_of s j))) ≡ gate_in s ed F P xs (suc n) j (block_of s j)
+      go true e = ap (gate_in s ed F P xs (suc n) j) (sym (eqb-true (block_of s j) (newest_block s j) e))
       go false e =
           let differ = eqb-false (block_of s j) (newest_block s j) e in
           let stops = enter_paused s F l (always (edition_of ed)) j differ in
           λ i. with_block before_it (record { number = block_of s j; flagged = sym (enter_flags s F l j differ) i; paused = stops i })
 
-  -- the judging of j, by a list that gives its flag
-  pub judge_is : (n j c : ℕ) (sorted : List Float) → j < n → n ≤ suc (j + s.half) → n ≤ length xs
-      → flagged_by (width s) s.trim c sorted (power_at j) ≡ F j
-      → judge s (gate_at s ed F P xs n j) j c (power_at j) sorted (circle 0 (lookahead s) n (value s F P xs j)) ≡ judgementAt s ed F P xs n j
+  -- when j is judged
+  judge_is : (j : ℕ) → n ≡ j + s.half
+      → judge s (gate_at s ed F P xs (suc n) j) j (power_at j) (padded (width s) (sort lt (newest_powers s xs (suc n))))
+      (circle 0 (lookahead s) (suc n) (value s F P xs j))
+      ≡ record {
+        gate = gate_at s ed F P xs (suc n) (suc j);
+        uncertain = P (block_of s j);
+        ended = ending_at s F P xs j;
+        pending =
+            circle 0 (lookahead s) (suc n) (value s F P xs (suc j));
+      }
   unfolding judge
-  judge_is n j c sorted past here inside flag =
-      (λ i. decided s (entered_is n j i) j (circle 0 (lookahead s) n (value s F P xs j)) (flag i))
-      ∙ decided_is s ed F P xs n j past here inside (F j) refl
+  judge_is j here =
+      let sorted = padded (width s) (sort lt (newest_powers s xs (suc n))) in
+      let pending = circle 0 (lookahead s) (suc n) (value s F P xs j) in
+      ap (λ (g : Gate). decided s g j pending (flagged_by (width s) s.trim g.received sorted (power_at j))) (entered_is j)
+      ∙ ap (decided s (gate_in s ed F P xs (suc n) j (block_of s j)) j pending) (flag_is s xs n j here inside)
+      ∙ decided_is s ed F P xs n j here inside (F j) refl
 
-  -- sample n comes
-  module _ (good : Float → Type 0) (o : Ordered lt good) (fine : All (Fine good) xs) (n : ℕ) (inside : n < length xs) where
-    window_is : window_with s (state_at s ed xs n) (at xs n) ≡ circle zero_f (width s) (suc n) power_at
-    unfolding state_at
-    window_is = circle_push zero_f (width s) n power_at
+  abbrev verdictAt : Bool → Judgement
+  verdictAt b =
+      record {
+        gate = gate_at s ed F P xs (suc n) (judged s (suc n));
+        uncertain = cond b false (P (block_of s (n - s.half)));
+        ended = cond b going (ending_at s F P xs (n - s.half));
+        pending = circle 0 (lookahead s) (suc n) (value s F P xs (judged s (suc n)));
+      }
 
-    pending_is : pending_with s (state_at s ed xs n) (at xs n) ≡ circle 0 (lookahead s) (suc n) (value s F P xs (judged s n))
-    unfolding state_at
-    pending_is =
-        ap (set (circle 0 (lookahead s) n (value s F P xs (judged s n))) (n % lookahead s)) (sym (value_raw s F P xs (judged s n) n (omega arith)))
-        ∙ circle_push 0 (lookahead s) n (value s F P xs (judged s n))
+  -- the gate that has received one more
+  received_is : arrived (gate_at s ed F P xs n (judged s n)) ≡ gate_at s ed F P xs (suc n) (judged s n)
+  received_is =
+      let e : n + 1 ≡ suc n = omega arith in
+      ap (λ (k : ℕ). gate_at s ed F P xs k (judged s n)) e
 
-    pub sorted_is : sorted_with s (state_at s ed xs n) (at xs n) ≡ padded (width s) (sort lt (newest_powers s xs (suc n)))
-    unfolding state_at
-    sorted_is =
-        ordered_is good o xs fine s n (get_or (circle zero_f (width s) n power_at) (n % width s) nan) inside
-        (λ w.
-        let same = around (width s) (n - width s) n (omega arith) in
-        ap (λ (q : ℕ). get_or (circle zero_f (width s) n power_at) q nan) same
-        ∙ circle_read_any zero_f (width s) nan n power_at (n - width s) (omega arith) (omega arith))
+  -- of the gate and the arrays with sample n in them
+  verdict_is : verdict s (gate_at s ed F P xs (suc n) (judged s n)) n (circle zero_f (width s) (suc n) power_at)
+      (padded (width s) (sort lt (newest_powers s xs (suc n)))) (circle 0 (lookahead s) (suc n) (value s F P xs (judged s n)))
+      ≡ verdictAt (ltb n s.half)
+  unfolding verdict
+  verdict_is = go (ltb n s.half) refl
+    where
+      sorted : List Float
+      sorted = padded (width s) (sort lt (newest_powers s xs (suc n)))
 
-    answer_is : released (lookahead s) s.apply n (get_or (circle 0 (lookahead s) n (value s F P xs (judged s n))) (n % lookahead s) 0) (at xs n)
-        ≡ answer_at s ed xs n
-    unfolding released answer_at
-    answer_is = ap (λ (a : Answer). cond s.apply a (Released (at xs n))) (go (ltb n (lookahead s)) refl)
-      where
-        go : (b : Bool) → ltb n (lookahead s) ≡ b
-            → cond b Nothing (Released (get_or (circle 0 (lookahead s) n (value s F P xs (judged s n))) (n % lookahead s) 0))
-            ≡ cond b Nothing (Released (value s F P xs (judged s (length xs)) (n - lookahead s)))
-        go true e = refl
-        go false e =
-            let w = ltb-false n (lookahead s) e in
-            let same = around (lookahead s) (n - lookahead s) n (omega arith) in
-            let read = circle_read 0 (lookahead s) n (value s F P xs (judged s n)) (n - lookahead s) (omega arith) (omega arith) in
-            let later : judged s n + (length xs - n) ≡ judged s (length xs) = omega arith in
-            let fixed = value_fixed s F P xs (length xs - n) (judged s n) (n - lookahead s) (omega arith) in
-            ap (λ (q : ℕ). Released q)
-            (ap (λ (q : ℕ). get_or (circle 0 (lookahead s) n (value s F P xs (judged s n))) q 0) same
-            ∙ read
-            ∙ sym fixed
-            ∙ ap (λ (q : ℕ). value s F P xs q (n - lookahead s)) later)
+      pending : ℕ → List ℕ
+      pending j = circle 0 (lookahead s) (suc n) (value s F P xs j)
 
-    abbrev verdictAt : Bool → Judgement
-    verdictAt b =
-        record {
-          gate = gate_at s ed F P xs (suc n) (judged s (suc n));
-          uncertain = cond b false (P (block_of s (n - s.half)));
-          ended = cond b going (ending_at s F P xs (n - s.half));
-          pending = circle 0 (lookahead s) (suc n) (value s F P xs (judged s (suc n)));
-        }
+      go : (b : Bool) → ltb n s.half ≡ b
+          → cond b (record { gate = gate_at s ed F P xs (suc n) (judged s n); uncertain = false; ended = going; pending = pending (judged s n) })
+          (judge s (gate_at s ed F P xs (suc n) (judged s n)) (n - s.half) (get_or (circle zero_f (width s) (suc n) power_at) ((n - s.half) % width s) nan) sorted
+          (pending (judged s n)))
+          ≡ verdictAt b
+      go true e =
+          let h = ltb-true n s.half e in
+          let same : n - s.half ≡ suc n - s.half = omega arith in
+          λ i. record { gate = gate_at s ed F P xs (suc n) (same i); uncertain = false; ended = going; pending = pending (same i) }
+      go false e =
+          let h = ltb-false n s.half e in
+          let j = n - s.half in
+          let next : suc (n - s.half) ≡ suc n - s.half = omega arith in
+          let own = circle_read_any zero_f (width s) nan (suc n) power_at j (omega arith) (omega arith) in
+          ap (λ (p : Float). judge s (gate_at s ed F P xs (suc n) j) j p sorted (pending j)) own
+          ∙ judge_is j (omega arith)
+          ∙ ap (λ (k : ℕ). record
+          { gate = gate_at s ed F P xs (suc n) k; uncertain = P (block_of s j); ended = ending_at s F P xs j; pending = pending k }) next
 
-    -- the gate that has received one more
-    received_is : arrived (gate_at s ed F P xs n (judged s n)) ≡ gate_at s ed F P xs (suc n) (judged s n)
-    received_is =
-        let e : n + 1 ≡ suc n = omega arith in
-        ap (λ (k : ℕ). gate_at s ed F P xs k (judged s n)) e
-
-    -- of the gate and the arrays with sample n in them
-    verdict_is : verdict s (gate_at s ed F P xs (suc n) (judged s n)) n (circle zero_f (width s) (suc n) power_at)
-        (padded (width s) (sort lt (newest_powers s xs (suc n)))) (circle 0 (lookahead s) (suc n) (value s F P xs (judged s n)))
-        ≡ verdictAt (ltb n s.half)
-    unfolding verdict
-    verdict_is = go (ltb n s.half) refl
-      where
-        sorted : List Float
-        sorted = padded (width s) (sort lt (newest_powers s xs (suc n)))
-
-        pending : ℕ → List ℕ
-        pending j = circle 0 (lookahead s) (suc n) (value s F P xs j)
-
-        go : (b : Bool) → ltb n s.half ≡ b
-            → cond b (record { gate = gate_at s ed F P xs (suc n) (judged s n); uncertain = false; ended = going; pending = pending (judged s n) })
-            (judge s (gate_at s ed F P xs (suc n) (judged s n)) (n - s.half) (suc n)
-            (get_or (circle zero_f (width s) (suc n) power_at) ((n - s.half) % width s) nan) sorted (pending (judged s n)))
-            ≡ verdictAt b
-        go true e =
-            let h = ltb-true n s.half e in
-            let same : n - s.half ≡ suc n - s.half = omega arith in
-            λ i. record { gate = gate_at s ed F P xs (suc n) (same i); uncertain = false; ended = going; pending = pending (same i) }
-        go false e =
-            let h = ltb-false n s.half e in
-            let j = n - s.half in
-            let next : suc (n - s.half) ≡ suc n - s.half = omega arith in
-            let own = circle_read_any zero_f (width s) nan (suc n) power_at j (omega arith) (omega arith) in
-            ap (λ (p : Float). judge s (gate_at s ed F P xs (suc n) j) j (suc n) p sorted (pending j)) own
-            ∙ judge_is (suc n) j (suc n) sorted (omega arith) (omega arith) inside (flag_is s xs n j (omega arith) inside)
-            ∙ ap (λ (k : ℕ). record
-            { gate = gate_at s ed F P xs (suc n) k; uncertain = P (block_of s j); ended = ending_at s F P xs j; pending = pending k }) next
-
-    pub push_is : push s (state_at s ed xs n) (at xs n) ≡ outcome_at s ed xs n
-    unfolding push state_at
-    push_is =
-        let v = (λ i. verdict s (received_is i) n (window_is i) (sorted_is i) (pending_is i)) ∙ verdict_is in
-        λ i.
-        record {
-          state = record { gate = (v i).gate; window = window_is i; sorted = sorted_is i; pending = (v i).pending };
-          answer = answer_is i;
-          uncertain = (v i).uncertain;
-          ended = (v i).ended;
-        }
+  pub push_is : push s (state_at s ed xs n) (at xs n) ≡ outcome_at s ed xs n
+  unfolding push state_at
+  push_is =
+      let v = (λ i. verdict s (received_is i) n (window_is i) (sorted_is i) (pending_is i)) ∙ verdict_is in
+      λ i.
+      record {
+        state = record { gate = (v i).gate; window = window_is i; sorted = sorted_is i; pending = (v i).pending };
+        answer = answer_is i;
+        uncertain = (v i).uncertain;
+        ended = (v i).ended;
+      }

@@ -18,7 +18,7 @@ use Rattle.rules.specs.Sort.{sort}
 use Rattle.rules.specs.laws.SortLaws.{all_append, Ordered, plain_order, power_plain}
 use Rattle.rules.specs.Pauses.{always, paused}
 use Rattle.rules.specs.Impulse.{Setting, width, lookahead, power_of, flagged, judged, before, start, closes, block_of, touches, mendable, value, Event}
-use Rattle.rules.specs.Impulse.{uncertain, kept, mended, events_at, events, unclosed, handed_on, happened}
+use Rattle.rules.specs.Impulse.{uncertain, kept, mended, events_at, events, handed_on, happened}
 use Rattle.impulse_pause.specs.declared.PauseEdition.{PauseEdition}
 use Rattle.impulse_pause.specs.View.{edition_of}
 use Rattle.impulse.specs.declared.ImpulseSuppressor.{ImpulseSuppressor}
@@ -79,7 +79,7 @@ handed_step s ed xs n h = go s.apply (ltb n (lookahead s)) refl
     go false b e = take_step xs n h
 
 -- what is told when j is judged
-pub told_is : (s : Setting) (F P : ℕ → Bool) (xs : List ℕ) (j : ℕ) → told j (P (block_of s j)) (ending_events (ending_at s F P xs j)) ≡ events_at s F P xs j
+told_is : (s : Setting) (F P : ℕ → Bool) (xs : List ℕ) (j : ℕ) → told j (P (block_of s j)) (ending_events (ending_at s F P xs j)) ≡ events_at s F P xs j
 unfolding ending_at events_at
 told_is s F P xs j =
     ap (λ (es : List Event). cond (P (block_of s j)) (uncertain j ∷ []) [] ++ es)
@@ -142,7 +142,7 @@ module _ (good : Float → Type 0) (o : Ordered lt good) (s : Setting) (ed : Pau
   leads (suc d) n e =
       let h : n < length xs = omega arith in
       let more : drop n xs ≡ at xs n ∷ drop (suc n) xs = drop-cons xs n 0 h in
-      let p = push_is s ed l xs good o fine n h in
+      let p = push_is good o s ed l xs fine n h in
       let r = leads d (suc n) (omega arith) in
       record {
         state = rw more (ap (λ (q : Outcome). after (step s) q.state (drop (suc n) xs)) p ∙ r.state);
@@ -167,8 +167,8 @@ module _ (good : Float → Type 0) (o : Ordered lt good) (s : Setting) (ed : Pau
   -- run from fresh over all of xs, the machine stands as the rules say, has handed on what they say, and has told what they say
   pub record Ruled : Type 0 where
     pub stands_so : after (step s) (fresh s ed) xs ≡ state_at s ed xs (length xs)
-    pub hands_on : outs (step s) (emit s) (fresh s ed) xs ≡ handed_on s (always (edition_of ed)) (unclosed xs)
-    pub tells : outs (step s) (news s) (fresh s ed) xs ≡ happened s (always (edition_of ed)) (unclosed xs)
+    pub hands_on : outs (step s) (emit s) (fresh s ed) xs ≡ handed_on s (always (edition_of ed)) xs
+    pub tells : outs (step s) (news s) (fresh s ed) xs ≡ happened s (always (edition_of ed)) xs
 
   none_handed : handed s ed xs 0 ≡ []
   unfolding up_to
@@ -182,7 +182,7 @@ module _ (good : Float → Type 0) (o : Ordered lt good) (s : Setting) (ed : Pau
   unfolding events
   none_told = let h : 0 - s.half ≡ 0 = omega arith in rw h
 
-  all_handed : handed s ed xs (length xs) ≡ handed_on s (always (edition_of ed)) (unclosed xs)
+  all_handed : handed s ed xs (length xs) ≡ handed_on s (always (edition_of ed)) xs
   unfolding handed_on
   all_handed = rw (take-length xs)
 
@@ -225,10 +225,8 @@ module _ (s : Setting) (ed : PauseEdition) (l : 0 < s.block) where
   -- more samples, from where the rules for the first ones stand
   pub record Goes (xs ys : List ℕ) : Type 0 where
     pub state : after (step s) (state_of s ed xs) ys ≡ state_of s ed (xs ++ ys)
-    pub out : handed_on s (always (edition_of ed)) (unclosed xs) ++ outs (step s) (emit s) (state_of s ed xs) ys
-        ≡ handed_on s (always (edition_of ed)) (unclosed (xs ++ ys))
-    pub told : happened s (always (edition_of ed)) (unclosed xs) ++ outs (step s) (news s) (state_of s ed xs) ys
-        ≡ happened s (always (edition_of ed)) (unclosed (xs ++ ys))
+    pub out : handed_on s (always (edition_of ed)) xs ++ outs (step s) (emit s) (state_of s ed xs) ys ≡ handed_on s (always (edition_of ed)) (xs ++ ys)
+    pub told : happened s (always (edition_of ed)) xs ++ outs (step s) (news s) (state_of s ed xs) ys ≡ happened s (always (edition_of ed)) (xs ++ ys)
 
   pub goes_on : (xs ys : List ℕ) → All Clean xs → All Clean ys → Goes xs ys
   goes_on xs ys a b =

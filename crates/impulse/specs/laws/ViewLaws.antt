@@ -72,9 +72,9 @@ ending_same : (s : Setting) → s.run ≤ longest_run → (o : Open) (l : List �
 ending_same s h Closed l = refl
 ending_same s h (Running r) l = closing_same s h r l
 
-judge_same : (s : Setting) → s.run ≤ longest_run → (g : Gate) (j n : ℕ) (p : Float) (sorted : List Float) (l : List ℕ) → Same (judge s g j n p sorted l).ended
+judge_same : (s : Setting) → s.run ≤ longest_run → (g : Gate) (j : ℕ) (p : Float) (sorted : List Float) (l : List ℕ) → Same (judge s g j p sorted l).ended
 unfolding judge
-judge_same s h g j n p sorted l = go (entered g j) (flagged_by (width s) s.trim n sorted p)
+judge_same s h g j p sorted l = go (entered g j) (flagged_by (width s) s.trim (entered g j).received sorted p)
   where
     go : (g : Gate) (b : Bool) → Same (decided s g j l b).ended
     go g true = refl
@@ -83,8 +83,8 @@ judge_same s h g j n p sorted l = go (entered g j) (flagged_by (width s) s.trim 
 verdict_same : (s : Setting) → s.run ≤ longest_run → (g : Gate) (i : ℕ) (window sorted : List Float) (l : List ℕ) → Same (verdict s g i window sorted l).ended
 unfolding verdict
 verdict_same s h g i window sorted l =
-    go (ltb i s.half) (judge s g (i - s.half) g.received (get_or window ((i - s.half) % width s) nan) sorted l)
-    (judge_same s h g (i - s.half) g.received (get_or window ((i - s.half) % width s) nan) sorted l)
+    go (ltb i s.half) (judge s g (i - s.half) (get_or window ((i - s.half) % width s) nan) sorted l)
+    (judge_same s h g (i - s.half) (get_or window ((i - s.half) % width s) nan) sorted l)
   where
     go : (b : Bool) (d : Judgement) → Same d.ended → Same (cond b (record { gate = g; uncertain = false; ended = going; pending = l }) d).ended
     go true d q = refl

@@ -149,9 +149,9 @@ returns c =
     let s = setting_of a.first in
     let same = length_same a.span-capacity a.repair-capacity a.held m₀ n₀ a.samples.now m n l.samples l.out l.k g in
     let all = going_last a.span-capacity a.repair-capacity a.held m₀ n₀ a.samples.now m n l.samples l.out l.k g (omega (arith, same)) in (
-      g.led.state ∙ ap (state_after s m₀) all,
+      g.state ∙ ap (state_after s m₀) all,
       (
-        g.led.notes ∙ ap (λ (xs : List ℕ). note_all a.span-capacity a.repair-capacity n₀ (told s m₀ xs)) all,
+        g.notes ∙ ap (λ (xs : List ℕ). note_all a.span-capacity a.repair-capacity n₀ (told s m₀ xs)) all,
         (
           g.ready ∙ ap (λ (xs : List ℕ). length (handed s m₀ xs)) all,
           g.written ∙ ap (λ (xs : List ℕ). over (handed s m₀ xs) a.samples.now) all,

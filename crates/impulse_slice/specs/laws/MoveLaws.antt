@@ -1,5 +1,5 @@
--- How a sample that is judged moves the open run: one that ends is told whole, another grows by one at most. So what is told and what is open rise by three at
--- most. Assumes nothing.
+-- How a push moves the open run: one that ends is told whole, another grows by one at most. So what is told and what is open rise by three at most. Assumes
+-- nothing.
 use Rattle.std.proofs.Common.{subst, arith}
 use Rattle.std.specs.Prelude.{Bool, true, false, cond, List, ℕ, ◌+◌, ◌-◌, ◌%◌, ◌≤◌, ltb, length, get_or, Float}
 use Rattle.std.specs.Float.{nan}
@@ -18,7 +18,6 @@ use Rattle.impulse.specs.View.{repair_of, ended_of, ending_events, told, given}
 use Rattle.impulse.specs.Room.{run_end}
 use Rattle.impulse.specs.laws.RoomLaws.{entered_keeps}
 use Rattle.impulse.specs.Running.{emit, news}
-use Rattle.impulse.specs.Closing.{cut_width, cut_sorted, cut_judgement, judge_step, judge_news, last_ending}
 use Rattle.impulse_slice.specs.Noted.{ended_end, run_length, events_size}
 
 abbrev ending_size : Ending → ℕ
@@ -49,12 +48,12 @@ ending_moves : (s : Setting) (o : Open) (l : List ℕ) → Moves o (ending s o l
 ending_moves s Closed l = record { size = omega arith; last = omega arith }
 ending_moves s (Running r) l = closing_moves s r l
 
-judge_moves : (s : Setting) (g : Gate) (j n : ℕ) (p : Float) (sorted : List Float) (l : List ℕ)
-    → Moves g.mending.run (judge s g j n p sorted l).ended (judge s g j n p sorted l).gate.mending.run
+judge_moves : (s : Setting) (g : Gate) (j : ℕ) (p : Float) (sorted : List Float) (l : List ℕ)
+    → Moves g.mending.run (judge s g j p sorted l).ended (judge s g j p sorted l).gate.mending.run
 unfolding judge
-judge_moves s g j n p sorted l =
-    subst (λ (o : Mending). Moves o.run (judge s g j n p sorted l).ended (judge s g j n p sorted l).gate.mending.run) (entered_keeps g j).mending
-    (go (entered g j) (flagged_by (width s) s.trim n sorted p))
+judge_moves s g j p sorted l =
+    subst (λ (o : Mending). Moves o.run (judge s g j p sorted l).ended (judge s g j p sorted l).gate.mending.run) (entered_keeps g j).mending
+    (go (entered g j) (flagged_by (width s) s.trim (entered g j).received sorted p))
   where
     go : (h : Gate) (b : Bool) → Moves h.mending.run (decided s h j l b).ended (decided s h j l b).gate.mending.run
     go h true = grown_moves h.mending.run j h.block.paused
@@ -64,34 +63,16 @@ pub push_moves : (s : Setting) (m : ImpulseSuppressor) (x : ℕ) → Moves m.gat
 unfolding push verdict
 push_moves s m x =
     go (ltb m.gate.received s.half)
-    (judge s (arrived m.gate) (m.gate.received - s.half) (arrived m.gate).received
-    (get_or (window_with s m x) ((m.gate.received - s.half) % width s) nan)
-    (sorted_with s m x) (pending_with s m x))
-    (judge_moves s (arrived m.gate) (m.gate.received - s.half) (arrived m.gate).received
-    (get_or (window_with s m x) ((m.gate.received - s.half) % width s) nan) (sorted_with s m x) (pending_with s m x))
+    (judge s (arrived m.gate) (m.gate.received - s.half) (get_or (window_with s m x) ((m.gate.received - s.half) % width s) nan) (sorted_with s m x)
+    (pending_with s m x))
+    (judge_moves s (arrived m.gate) (m.gate.received - s.half) (get_or (window_with s m x) ((m.gate.received - s.half) % width s) nan) (sorted_with s m x)
+    (pending_with s m x))
   where
     go : (b : Bool) (d : Judgement) → Moves m.gate.mending.run d.ended d.gate.mending.run
         → let v = cond b (record { gate = arrived m.gate; uncertain = false; ended = going; pending = pending_with s m x }) d in
         Moves m.gate.mending.run v.ended v.gate.mending.run
     go true d q = record { size = omega arith; last = omega arith }
     go false d q = q
-
--- a sample of the rest, at a close
-pub cut_moves : (s : Setting) (m : ImpulseSuppressor) (j : ℕ)
-    → Moves m.gate.mending.run (cut_judgement s m j).ended (judge_step s m j).gate.mending.run
-unfolding judge_step
-cut_moves s m j =
-    judge_moves s m.gate j (cut_width s m.gate.received j) (get_or m.window (j % width s) nan)
-    (cut_sorted s m.gate.received j m.window m.sorted) m.pending
-
--- the last run, which no sample ends
-pub last_end : (s : Setting) (o : Open) → ended_end (ended_of (last_ending s o)) ≤ run_end o
-last_end s Closed = omega arith
-last_end s (Running r) = omega arith
-
-pub last_size : (s : Setting) (o : Open) → events_size (ending_events (last_ending s o)) ≤ run_length o + 1
-last_size s Closed = omega arith
-last_size s (Running r) = omega arith
 
 told_size : (j : ℕ) (doubt : Bool) (e : Ending) → events_size (told j doubt (ending_events e)) ≤ 2 + ending_size e
 told_size j true going = omega arith
@@ -104,11 +85,6 @@ told_size j false (mended_run a n os) = omega arith
 pub news_size : (s : Setting) (m : ImpulseSuppressor) (x : ℕ)
     → events_size (news s m x) + run_length (push s m x).state.gate.mending.run ≤ run_length m.gate.mending.run + 3
 news_size s m x = omega (arith, told_size (m.gate.received - s.half) (push s m x).uncertain (push s m x).ended, (push_moves s m x).size)
-
-pub judge_news_size : (s : Setting) (m : ImpulseSuppressor) (j : ℕ)
-    → events_size (judge_news s m j) + run_length (judge_step s m j).gate.mending.run ≤ run_length m.gate.mending.run + 3
-unfolding judge_news
-judge_news_size s m j = let d = cut_judgement s m j in omega (arith, told_size j d.uncertain d.ended, (cut_moves s m j).size)
 
 -- ---- what a push hands on
 

@@ -1,5 +1,5 @@
 -- Events one after another, in the log with its stores: what they come to, and how far the counters rise. Assumes nothing.
-use Rattle.std.specs.Prelude.{◌≡◌, Bool, true, false, ℕ, ◌+◌, ◌^◌, ◌≤◌, ◌<◌}
+use Rattle.std.specs.Prelude.{◌≡◌, Bool, true, false, ℕ, ◌+◌, ◌≤◌, ◌<◌}
 use Rattle.std.proofs.Math.Path.{refl}
 use Rattle.std.proofs.Common.{sym, ◌∙◌, arith, lit<}
 use mathlib.Core.List.{List, [], ◌∷◌, ◌++◌, foldl-append}
@@ -113,9 +113,3 @@ module _ (span_capacity repair_capacity : ℕ) where
       roomy_up span_capacity repair_capacity (b + event_size e + events_size es) (b + (event_size e + events_size es))
       (note_all span_capacity repair_capacity (note_event span_capacity repair_capacity x e) es) (omega arith)
       (roomy_all (b + event_size e) (note_event span_capacity repair_capacity x e) es (roomy_event b x e r))
-
-  -- from counters that are in range
-  pub roomy_few : (x : Noted) (es : List Event) (b : ℕ) → 2 ^ 52 + events_size es ≤ b → Roomy span_capacity repair_capacity (2 ^ 52) x
-      → Roomy span_capacity repair_capacity b (note_all span_capacity repair_capacity x es)
-  roomy_few x es b h r = roomy_up span_capacity repair_capacity (2 ^ 52 + events_size es) b (note_all span_capacity repair_capacity x es) h
-      (roomy_all (2 ^ 52) x es r)

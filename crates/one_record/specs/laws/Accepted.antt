@@ -1,23 +1,56 @@
--- A scan that finds nothing has usable samples; what an accepted hop has. Assumes nothing.
-use Rattle.std.specs.Prelude.{◌≡◌, Bool, cond, List, [], ◌∷◌, ◌++◌, ℕ, zero, suc, ◌+◌, T, eqb, ltb, length, Float}
+-- What an accepted call and an accepted hop have, and that one that is not accepted leaves all. Assumes nothing.
+use Rattle.std.specs.Prelude.{◌≡◌, Bool, cond, List, [], ◌∷◌, ◌++◌, ℕ, zero, suc, ◌+◌, ◌-◌, ◌*◌, T, eqb, ltb, length, Float}
 use Rattle.std.proofs.Math.Path.{refl}
 use Rattle.std.proofs.Common.{ap, sym, ◌∙◌, subst, arith, lt-ltb}
 use Rattle.std.proofs.Math.Bool.{true, false, false≢true}
 use Rattle.rules.specs.Answers.{is_accepted}
 use Rattle.rules.specs.Guard.{usable, first_unusable_from, Usable}
-use Rattle.rules.specs.Refusals.{bad_start, any_beyond, first_beyond_from}
+use Rattle.rules.specs.Refusals.{too_many, any_unusable, bad_start, any_beyond, first_beyond_from}
 use Rattle.rules.specs.laws.SortLaws.{all_append}
+use Rattle.rules.specs.Log.{repair_width, store_width}
+use Rattle.log.specs.Check.{ends_fit}
 use Rattle.iq_monitor.specs.Observe.{Seen, leaving, is_none, accepted_of}
 use Rattle.iq_monitor.specs.laws.ObserveLaws.{observed_by}
 use Rattle.iq.specs.View.{settled_of}
 use Rattle.iq_monitor.specs.declared.HopAnswer.TheVariants as answer
 use Rattle.chain_state.specs.declared.InputConditioner.{InputConditioner}
+use Rattle.chain_state.specs.Fits.{state_fits}
+use Rattle.chain.specs.Stages.{new_part}
+use Rattle.chain.specs.Calls.{call_refusal, taken, called}
+use Rattle.chain.specs.laws.CallTests.{call_number, refusal_by}
 use Rattle.chain_hop.specs.Hops.{said_hop, answer_of, is_off_iq, watched, hop_refusal, hop_of, by_number, followed}
 use Rattle.chain_hop.specs.Hops as hops
 use Rattle.chain_hop.specs.declared.HopSaid.TheVariants as said
 use Rattle.chain_hop.specs.laws.HopLaws.{watched_by}
 
--- ---- usable samples
+-- ---- calls
+
+-- all seven tests pass
+pub record Passes (c : InputConditioner) (slice spans repairs : List ℕ) : Type 0 where
+  pub fits : state_fits c ≡ true
+  pub long : ltb (length slice) c.counts.held ≡ false
+  pub few : (too_many c.counts.seen (length slice - c.counts.held)).holds ≡ false
+  pub fine : (any_unusable c.counts.held (new_part c slice)).holds ≡ false
+
+pub passes : (c : InputConditioner) (slice spans repairs : List ℕ) → call_refusal c slice spans repairs ≡ 0 → Passes c slice spans repairs
+passes c slice spans repairs e =
+    go (state_fits c) (eqb (length repairs) (repair_width * c.settings.repairs)) (eqb (length spans) (store_width * c.settings.spans))
+    (ends_fit c.settings.spans (record { log = c.notes.log; spans = spans }))
+    (ltb (length slice) c.counts.held) (too_many c.counts.seen (length slice - c.counts.held)).holds
+    (any_unusable c.counts.held (new_part c slice)).holds
+    refl refl refl refl (sym (refusal_by c slice spans repairs _ _ _ _ _ _ _ refl refl refl refl refl refl refl) ∙ e)
+  where
+    go : (f r s n h t u : Bool) → state_fits c ≡ f → ltb (length slice) c.counts.held ≡ h
+        → (too_many c.counts.seen (length slice - c.counts.held)).holds ≡ t → (any_unusable c.counts.held (new_part c slice)).holds ≡ u
+        → call_number f r s n h t u ≡ 0 → Passes c slice spans repairs
+    go true true true true false false false a b d w z = record { fits = a; long = b; few = d; fine = w }
+    go true true true true false false true a b d w z = absurd (omega arith)
+    go true true true true false true u a b d w z = absurd (omega arith)
+    go true true true true true t u a b d w z = absurd (omega arith)
+    go true true true false h t u a b d w z = absurd (omega arith)
+    go true true false n h t u a b d w z = absurd (omega arith)
+    go true false s n h t u a b d w z = absurd (omega arith)
+    go false r s n h t u a b d w z = absurd (omega arith)
 
 pub usable_append : (xs ys : List ℕ) → Usable xs → Usable ys → Usable (xs ++ ys)
 usable_append xs ys a b = all_append (λ w. T (usable w)) xs ys a b

@@ -1,4 +1,4 @@
--- Two turns are one: the chain after them, and what is released. So a call with xs ++ ys is a call with xs and then one with ys. Assumes nothing.
+-- A call with xs ++ ys is a call with xs and then one with ys: the chain after it, and what is released. Assumes nothing.
 use Rattle.std.specs.Prelude.{◌≡◌, refl, Bool, true, false, cond, ℕ, ◌+◌, ◌-◌, ◌≤◌, ◌<◌, eqb}
 use Rattle.std.proofs.Math.Path.{ap, sym}
 use Rattle.std.proofs.Common.{◌∙◌, ne_eqb, eqb-true}
@@ -10,7 +10,7 @@ use Rattle.rules.specs.Impulse.{Setting, Event}
 use Rattle.rules.specs.Iq.{Settled, Off, Observing, Withheld, Correcting, corrected_by}
 use Rattle.rules.specs.Mode.{Mode, off, observe, apply}
 use Rattle.rules.specs.Log as rules
-use Rattle.rules.specs.Log.{Span, span_of, mark, append, repairs_of, Sound}
+use Rattle.rules.specs.Log.{Span, span_of, mark, append, repairs_of, long_runs, Sound}
 use Rattle.rules.specs.laws.MarkLaws.{mark_join}
 use Rattle.rules.specs.laws.EventLaws.{marks_append, repairs_append, long_append}
 use Rattle.log.specs.View.{marks_at}
@@ -28,10 +28,11 @@ use Rattle.dc.specs.Blocker.{level_of, blocker_of, blocker_after, after_slice}
 use Rattle.dc.specs.laws.Cutting.{level_append, blocked_append, clamped_append}
 use Rattle.iq.specs.View.{settled_of}
 use Rattle.stage_mode.specs.View.{mode_of}
-use Rattle.chain.specs.Stages.{setting_in, Turn, call_turn, Machine, notes_in, impulse_after, impulse_out, impulse_told, dc_after, blocked_by, released_by}
-use Rattle.chain.specs.Stages.{notes_after, logged_after, counts_after, machine_after, carried, process}
+use Rattle.chain.specs.Stages.{setting_in, Machine, notes_in, impulse_after, impulse_out, impulse_told, dc_after, blocked_by, hands_on, notes_after, logged_after}
+use Rattle.chain.specs.Stages.{counts_after, machine_after, process}
+use Rattle.chain.specs.laws.Processing.{out_most}
 use Rattle.one_record.specs.Rings.{dc_marks, iq_marks, mark_if, ring_after}
-use Rattle.one_record.specs.laws.RingLaws.{same_rings, turn_rings, turn_at}
+use Rattle.one_record.specs.laws.RingLaws.{same_rings, call_rings, call_at}
 
 -- ---- the impulse stage, by whether it runs
 
@@ -142,78 +143,117 @@ module _ (cap : ℕ) (q : rules.Marks) (k : Sound 2 cap q.ring) (es fs : List Sp
           ≡ mark cap (foldl (mark cap) (mark cap (foldl (mark cap) q es) (span_of rel a)) fs) (span_of (rel + a) b)
       both x y = rw (x, y) (sym (mark_join cap q k rel a b))
 
--- ---- one turn after another
+-- ---- the chain after xs, and what it makes of ys
 
-abbrev pub sequence : Turn → Turn → Turn
-sequence t u = record { new = t.new + u.new; after = u.after; out = t.out ++ u.out; told = t.told ++ u.told; closed = u.closed }
+module _ (m : Machine) (xs ys : List ℕ) where
+  pub setting_same : setting_in (process m xs).state ≡ setting_in m.state
+  unfolding process impulse_after
+  setting_same = setting_by m.state.settings.impulse (setting_in m.state) m.state.suppressor xs
 
-module _ (m : Machine) (t u : Turn) where
+  pub suppressor_append : impulse_after m.state (xs ++ ys) ≡ impulse_after (process m xs).state ys
+  unfolding process impulse_after
+  suppressor_append =
+      let c = m.state in
+      after_by_lem c.settings.impulse (setting_in c) c.suppressor xs ys
+      ∙ ap (λ (s : Setting). after_by c.settings.impulse s (after_by c.settings.impulse (setting_in c) c.suppressor xs) ys) (sym setting_same)
+
+  pub out_append : impulse_out m.state (xs ++ ys) ≡ impulse_out m.state xs ++ impulse_out (process m xs).state ys
+  unfolding process impulse_after impulse_out
+  out_append =
+      let c = m.state in
+      let b = c.settings.impulse in
+      out_by_lem b (setting_in c) c.suppressor xs ys
+      ∙ ap (λ (s : Setting). out_by b (setting_in c) c.suppressor xs ++ out_by b s (after_by b (setting_in c) c.suppressor xs) ys) (sym setting_same)
+
+  pub told_append : impulse_told m.state (xs ++ ys) ≡ impulse_told m.state xs ++ impulse_told (process m xs).state ys
+  unfolding process impulse_after impulse_told
+  told_append =
+      let c = m.state in
+      let b = c.settings.impulse in
+      told_by_lem b (setting_in c) c.suppressor xs ys
+      ∙ ap (λ (s : Setting). told_by b (setting_in c) c.suppressor xs ++ told_by b s (after_by b (setting_in c) c.suppressor xs) ys) (sym setting_same)
+
   dc_same : let d = mode_of m.state.settings.dc in
-      dc_after d m.state.blocker (t.out ++ u.out)
-      ≡ joined (dc_after d m.state.blocker t.out) (dc_after d (carried m t).state.blocker u.out)
-  unfolding carried
-  dc_same = dc_append (mode_of m.state.settings.dc) m.state.blocker t.out u.out
+      dc_after d m.state.blocker (impulse_out m.state (xs ++ ys))
+      ≡ joined (dc_after d m.state.blocker (impulse_out m.state xs)) (dc_after d (process m xs).state.blocker (impulse_out (process m xs).state ys))
+  unfolding process
+  dc_same =
+      let c = m.state in
+      let d = mode_of c.settings.dc in
+      ap (dc_after d c.blocker) out_append ∙ dc_append d c.blocker (impulse_out c xs) (impulse_out (process m xs).state ys)
 
   -- what is released
-  pub released_append : released_by m.state (t.out ++ u.out) ≡ released_by m.state t.out ++ released_by (carried m t).state u.out
-  unfolding carried released_by
-  released_append =
+  pub hands_append : hands_on m.state (xs ++ ys) ≡ hands_on m.state xs ++ hands_on (process m xs).state ys
+  unfolding process hands_on
+  hands_append =
       let c = m.state in
       let d = mode_of c.settings.dc in
       let f = corrected_by (settled_of c.settings.iq) in
-      ap (map f) (blocked_by_append d c.blocker t.out u.out)
-      ∙ map-append f (blocked_by d c.blocker t.out) (blocked_by d (dc_after d c.blocker t.out).blocker u.out)
+      let us = impulse_out c xs in
+      let vs = impulse_out (process m xs).state ys in
+      ap (λ (l : List ℕ). map f (blocked_by d c.blocker l)) out_append
+      ∙ ap (map f) (blocked_by_append d c.blocker us vs)
+      ∙ map-append f (blocked_by d c.blocker us) (blocked_by d (dc_after d c.blocker us).blocker vs)
+
+  out_length : length (impulse_out m.state (xs ++ ys)) ≡ length (impulse_out m.state xs) + length (impulse_out (process m xs).state ys)
+  out_length = ap length out_append ∙ length-append (impulse_out m.state xs) (impulse_out (process m xs).state ys)
 
   -- ---- the repairs and the long runs
 
-  repairs_same : (notes_after m (sequence t u)).repairs ≡ (notes_after (carried m t) u).repairs
-  unfolding carried notes_after
+  repairs_same : (notes_after m (xs ++ ys)).repairs ≡ (notes_after (process m xs) ys).repairs
+  unfolding process notes_after
   repairs_same =
       let c = m.state in
       let cap = c.settings.spans in
       let room = c.settings.repairs in
-      noted_repairs cap room (notes_in m) (t.told ++ u.told)
-      ∙ ap (foldl (append room) (notes_in m).repairs) (repairs_append t.told u.told)
-      ∙ foldl-append (append room) (notes_in m).repairs (repairs_of t.told) (repairs_of u.told)
-      ∙ ap (λ (r : rules.Ring). foldl (append room) r (repairs_of u.told)) (sym (noted_repairs cap room (notes_in m) t.told))
-      ∙ sym (noted_repairs cap room (notes_in (carried m t)) u.told)
+      let es = impulse_told c xs in
+      let fs = impulse_told (process m xs).state ys in
+      noted_repairs cap room (notes_in m) (impulse_told c (xs ++ ys))
+      ∙ ap (λ (l : List Event). foldl (append room) (notes_in m).repairs (repairs_of l)) told_append
+      ∙ ap (foldl (append room) (notes_in m).repairs) (repairs_append es fs)
+      ∙ foldl-append (append room) (notes_in m).repairs (repairs_of es) (repairs_of fs)
+      ∙ ap (λ (r : rules.Ring). foldl (append room) r (repairs_of fs)) (sym (noted_repairs cap room (notes_in m) es))
+      ∙ sym (noted_repairs cap room (notes_in (process m xs)) fs)
 
-  long_same : (notes_after m (sequence t u)).longruns ≡ (notes_after (carried m t) u).longruns
-  unfolding carried notes_after
+  long_same : (notes_after m (xs ++ ys)).longruns ≡ (notes_after (process m xs) ys).longruns
+  unfolding process notes_after
   long_same =
       let c = m.state in
       let cap = c.settings.spans in
       let room = c.settings.repairs in
-      let a = noted_long cap room (notes_in m) (t.told ++ u.told) in
-      let b = noted_long cap room (notes_in m) t.told in
-      let d = noted_long cap room (notes_in (carried m t)) u.told in
-      let l = long_append t.told u.told in
-      omega (arith, a, b, d, l)
+      let es = impulse_told c xs in
+      let fs = impulse_told (process m xs).state ys in
+      let a = noted_long cap room (notes_in m) (impulse_told c (xs ++ ys)) in
+      let b = noted_long cap room (notes_in m) es in
+      let d = noted_long cap room (notes_in (process m xs)) fs in
+      let t = ap long_runs told_append ∙ long_append es fs in
+      omega (arith, a, b, d, t)
 
   -- ---- the rings
 
   module _ (r : Rings m.state.settings.spans (notes_in m).logged) where
-    rings_next : Rings m.state.settings.spans (notes_in (carried m t)).logged
-    unfolding carried
-    rings_next = turn_rings m t r
+    rings_next : Rings m.state.settings.spans (notes_in (process m xs)).logged
+    unfolding process
+    rings_next = call_rings m xs r
 
     ring_same : (k : ℕ) → k < 12
-        → marks_at m.state.settings.spans (logged_after m (sequence t u)) k ≡ marks_at m.state.settings.spans (logged_after (carried m t) u) k
-    unfolding carried ring_after
+        → marks_at m.state.settings.spans (logged_after m (xs ++ ys)) k ≡ marks_at m.state.settings.spans (logged_after (process m xs) ys) k
+    unfolding process ring_after
     ring_same k h =
         let c = m.state in
         let n = c.settings.spans in
         let d = dc_marks (mode_of c.settings.dc) k in
         let i = iq_marks (settled_of c.settings.iq) k in
         let q = marks_at n (notes_in m).logged k in
-        let es = t.told in
-        let fs = u.told in
-        let a = length t.out in
-        let b = length u.out in
-        let long = length-append t.out u.out in
-        turn_at m (sequence t u) r k
-        ∙ (λ j. mark_if n i (mark_if n d (foldl (mark n) q (marks_for_append k es fs j)) (span_of c.counts.released (long j)))
-        (span_of c.counts.released (long j)))
+        let es = impulse_told c xs in
+        let fs = impulse_told (process m xs).state ys in
+        let a = length (impulse_out c xs) in
+        let b = length (impulse_out (process m xs).state ys) in
+        call_at m (xs ++ ys) r k
+        ∙ (λ j. mark_if n i (mark_if n d (foldl (mark n) q (marks_for k (told_append j))) (span_of c.counts.released (out_length j)))
+        (span_of c.counts.released (out_length j)))
+        ∙ ap (λ (l : List Span). mark_if n i (mark_if n d (foldl (mark n) q l) (span_of c.counts.released (a + b))) (span_of c.counts.released (a + b)))
+        (marks_for_append k es fs)
         ∙ join_ring n q (r.sound k h) (marks_for k es) (marks_for k fs) c.counts.released a b d i
         (λ e.
         let l = dc_late (mode_of c.settings.dc) k e in
@@ -221,69 +261,38 @@ module _ (m : Machine) (t u : Turn) where
         (others_none k es late, (others_none k fs late, not_both (settled_of c.settings.iq) k l)))
         (λ e. let l = iq_late (settled_of c.settings.iq) k e in let late : 4 ≤ k = omega arith in (others_none k es late, others_none k fs late))
         ∙ ap (λ (y : rules.Marks). mark_if n i (mark_if n d (foldl (mark n) y (marks_for k fs)) (span_of (c.counts.released + a) b))
-        (span_of (c.counts.released + a) b)) (sym (turn_at m t r k))
-        ∙ sym (turn_at (carried m t) u rings_next k)
+        (span_of (c.counts.released + a) b)) (sym (call_at m xs r k))
+        ∙ sym (call_at (process m xs) ys rings_next k)
 
-    next_twelve : Twelve m.state.settings.spans (logged_after (carried m t) u)
-    unfolding carried
-    next_twelve = (turn_rings (carried m t) u rings_next).twelve
+    next_twelve : Twelve m.state.settings.spans (logged_after (process m xs) ys)
+    unfolding process
+    next_twelve = (call_rings (process m xs) ys rings_next).twelve
 
-    logged_same : logged_after m (sequence t u) ≡ logged_after (carried m t) u
+    logged_same : logged_after m (xs ++ ys) ≡ logged_after (process m xs) ys
     logged_same =
-        same_rings m.state.settings.spans (logged_after m (sequence t u)) (logged_after (carried m t) u)
-        (turn_rings m (sequence t u) r).twelve next_twelve ring_same
+        same_rings m.state.settings.spans (logged_after m (xs ++ ys)) (logged_after (process m xs) ys)
+        (call_rings m (xs ++ ys) r).twelve next_twelve ring_same
 
-    -- the chain, where the first turn releases no more than there are
-    pub carried_append : length t.out ≤ m.state.counts.held + t.new → carried m (sequence t u) ≡ carried (carried m t) u
-    unfolding carried
-    carried_append a =
+    -- the chain
+    pub process_append : process m (xs ++ ys) ≡ process (process m xs) ys
+    unfolding process
+    process_append =
         let c = m.state in
-        let next = (carried m t).state in
+        let n = length-append xs ys in
+        let next = (process m xs).state in
         let d = mode_of c.settings.dc in
-        let o = length-append t.out u.out in
+        let a = out_most c xs in
+        let o = out_length in
         let k = ap (λ (b : Blocked). b.clamped) dc_same in
-        let q : (c.counts.seen + (t.new + u.new) ≡ c.counts.seen + t.new + u.new)
-        × (c.counts.released + length (t.out ++ u.out) ≡ c.counts.released + length t.out + length u.out)
-        × (c.counts.held + (t.new + u.new) - length (t.out ++ u.out) ≡ c.counts.held + t.new - length t.out + u.new - length u.out)
-        × (c.counts.clamped + (dc_after d c.blocker (t.out ++ u.out)).clamped
-        ≡ c.counts.clamped + (dc_after d c.blocker t.out).clamped + (dc_after d next.blocker u.out).clamped)
+        let q : (c.counts.seen + length (xs ++ ys) ≡ c.counts.seen + length xs + length ys)
+        × (c.counts.released + length (impulse_out c (xs ++ ys))
+        ≡ c.counts.released + length (impulse_out c xs) + length (impulse_out (process m xs).state ys))
+        × (c.counts.held + length (xs ++ ys) - length (impulse_out c (xs ++ ys))
+        ≡ c.counts.held + length xs - length (impulse_out c xs) + length ys - length (impulse_out (process m xs).state ys))
+        × (c.counts.clamped + (dc_after d c.blocker (impulse_out c (xs ++ ys))).clamped
+        ≡ c.counts.clamped + (dc_after d c.blocker (impulse_out c xs)).clamped + (dc_after d next.blocker (impulse_out next ys)).clamped)
         = (omega arith, omega arith, omega arith, omega arith) in
-        let counts : counts_after c (t.new + u.new) (length (t.out ++ u.out)) (dc_after d c.blocker (t.out ++ u.out)).clamped
-        ≡ counts_after next u.new (length u.out) (dc_after d next.blocker u.out).clamped
+        let counts : counts_after c (length (xs ++ ys)) (length (impulse_out c (xs ++ ys))) (dc_after d c.blocker (impulse_out c (xs ++ ys))).clamped
+        ≡ counts_after next (length ys) (length (impulse_out next ys)) (dc_after d next.blocker (impulse_out next ys)).clamped
         = λ i. record { seen = q.0 i; released = q.1 i; held = q.2 i; clamped = q.3 i } in
-        λ i. machine_after c (counts i) u.after (dc_same i).blocker (logged_same i) (repairs_same i) (long_same i) u.closed
-
--- ---- the chain after xs, and what it makes of ys
-
-module _ (m : Machine) (xs ys : List ℕ) where
-  pub setting_same : setting_in (process m xs).state ≡ setting_in m.state
-  unfolding carried impulse_after
-  setting_same = setting_by m.state.settings.impulse (setting_in m.state) m.state.suppressor xs
-
-  suppressor_append : impulse_after m.state (xs ++ ys) ≡ impulse_after (process m xs).state ys
-  unfolding carried impulse_after
-  suppressor_append =
-      let c = m.state in
-      after_by_lem c.settings.impulse (setting_in c) c.suppressor xs ys
-      ∙ ap (λ (s : Setting). after_by c.settings.impulse s (after_by c.settings.impulse (setting_in c) c.suppressor xs) ys) (sym setting_same)
-
-  out_append : impulse_out m.state (xs ++ ys) ≡ impulse_out m.state xs ++ impulse_out (process m xs).state ys
-  unfolding carried impulse_after impulse_out
-  out_append =
-      let c = m.state in
-      let b = c.settings.impulse in
-      out_by_lem b (setting_in c) c.suppressor xs ys
-      ∙ ap (λ (s : Setting). out_by b (setting_in c) c.suppressor xs ++ out_by b s (after_by b (setting_in c) c.suppressor xs) ys) (sym setting_same)
-
-  told_append : impulse_told m.state (xs ++ ys) ≡ impulse_told m.state xs ++ impulse_told (process m xs).state ys
-  unfolding carried impulse_after impulse_told
-  told_append =
-      let c = m.state in
-      let b = c.settings.impulse in
-      told_by_lem b (setting_in c) c.suppressor xs ys
-      ∙ ap (λ (s : Setting). told_by b (setting_in c) c.suppressor xs ++ told_by b s (after_by b (setting_in c) c.suppressor xs) ys) (sym setting_same)
-
-  pub call_append : call_turn m.state (xs ++ ys) ≡ sequence (call_turn m.state xs) (call_turn (process m xs).state ys)
-  unfolding carried
-  call_append =
-      λ i. record { new = length-append xs ys i; after = suppressor_append i; out = out_append i; told = told_append i; closed = m.state.closed }
+        λ i. machine_after c (counts i) (suppressor_append i) (dc_same i).blocker (logged_same i) (repairs_same i) (long_same i)

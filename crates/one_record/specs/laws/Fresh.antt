@@ -1,4 +1,4 @@
--- A chain that was made is the chain after no samples, not closed, and no hops. Assumes nothing.
+-- A chain that was made is the chain after no samples and no hops. Assumes nothing.
 use Rattle.std.proofs.Math.Path.{◌≡◌, refl, ap, sym}
 use Rattle.std.proofs.Common.{◌∙◌}
 use Rattle.std.specs.Prelude.{Bool, ℕ, ◌+◌, ◌-◌, ◌<◌, replicate, eqb, Float}
@@ -7,7 +7,6 @@ use mathlib.Core.List.{List, [], map, foldl}
 use native.Mathlib.Omega.{arith}
 use Rattle.std.proofs.Math.ListN.{length}
 use Rattle.rules.specs.Constants.{zero_f}
-use Rattle.rules.specs.Impulse.{unclosed}
 use Rattle.rules.specs.Iq.{corrected_by}
 use Rattle.rules.specs.Mode.{Mode, off, observe, apply}
 use Rattle.rules.specs.Dc.{level_after, blocked_all, clamped_steps}
@@ -28,14 +27,14 @@ use Rattle.chain_config.specs.declared.ConditioningConfig.{ConditioningConfig}
 use Rattle.chain_config.specs.Config.{config_of}
 use Rattle.chain_state.specs.declared.InputConditioner.{InputConditioner}
 use Rattle.chain_make.specs.Making.{fresh_state, Said, made, making_said, made_words}
-use Rattle.chain.specs.Stages.{setting_in, impulse_after, impulse_out, impulse_told, call_turn, Machine, machine_of, notes_in, dc_after, blocked_by, released_by}
-use Rattle.chain.specs.Stages.{notes_after, logged_after, counts_after, machine_after, carried, process}
+use Rattle.chain.specs.Stages.{setting_in, Machine, machine_of, notes_in, impulse_after, impulse_out, impulse_told, dc_after, blocked_by, hands_on, notes_after}
+use Rattle.chain.specs.Stages.{logged_after, counts_after, machine_after, process}
 use Rattle.chain_hop.specs.Hops.{is_observing}
 use Rattle.one_record.specs.Rings.{dc_marks, iq_marks, mark_if, ring_after}
-use Rattle.one_record.specs.laws.RingLaws.{same_rings, turn_rings, turn_at}
+use Rattle.one_record.specs.laws.RingLaws.{same_rings, call_rings, call_at}
 use Rattle.one_record.specs.laws.Hopping.{with_hops}
 use Rattle.one_record.specs.Lists.{made_chain}
-use Rattle.one_record.specs.laws.Reaching.{fresh_machine, fresh_chain, hop_marks, turn_of, core, chain_at, fresh_rings}
+use Rattle.one_record.specs.laws.Reaching.{fresh_machine, fresh_chain, hop_marks, core, chain_at, fresh_rings}
 use Rattle.one_record.specs.laws.Made.{made_fit}
 
 -- ---- a call that brings nothing
@@ -77,8 +76,8 @@ module _ (c : InputConditioner) where
   blocked_none observe b = refl
   blocked_none apply b = refl
 
-  hands_none : released_by c (impulse_out c []) ≡ []
-  unfolding released_by
+  pub hands_none : hands_on c [] ≡ []
+  unfolding hands_on
   hands_none =
       ap (λ (l : List ℕ). map (corrected_by (settled_of c.settings.iq)) (blocked_by (mode_of c.settings.dc) c.blocker l)) out_none
       ∙ ap (map (corrected_by (settled_of c.settings.iq))) (blocked_none (mode_of c.settings.dc) c.blocker)
@@ -99,7 +98,7 @@ module _ (c : InputConditioner) where
       go false false true = refl
       go false false false = refl
 
-  ring_none : (cap k : ℕ) (q : rules.Marks) → ring_after cap c (call_turn c []) k q ≡ q
+  ring_none : (cap k : ℕ) (q : rules.Marks) → ring_after cap c [] k q ≡ q
   unfolding ring_after marks_of
   ring_none cap k q =
       let d = dc_marks (mode_of c.settings.dc) k in
@@ -112,20 +111,20 @@ module _ (c : InputConditioner) where
       ∙ mark_none cap i q c.counts.released
 
 module _ (m : Machine) (r : Rings m.state.settings.spans (notes_in m).logged) where
-  notes_none : notes_after m (call_turn m.state []) ≡ notes_in m
+  notes_none : notes_after m [] ≡ notes_in m
   unfolding notes_after
   notes_none =
       ap (note_all m.state.settings.spans m.state.settings.repairs (notes_in m)) (told_none m.state)
       ∙ note_none m.state.settings.spans m.state.settings.repairs (notes_in m)
 
-  logged_none : logged_after m (call_turn m.state []) ≡ (notes_in m).logged
+  logged_none : logged_after m [] ≡ (notes_in m).logged
   logged_none =
       let cap = m.state.settings.spans in
-      same_rings cap (logged_after m (call_turn m.state [])) (notes_in m).logged (turn_rings m (call_turn m.state []) r).twelve r.twelve
-      (λ k h. turn_at m (call_turn m.state []) r k ∙ ring_none m.state cap k (marks_at cap (notes_in m).logged k))
+      same_rings cap (logged_after m []) (notes_in m).logged (call_rings m [] r).twelve r.twelve
+      (λ k h. call_at m [] r k ∙ ring_none m.state cap k (marks_at cap (notes_in m).logged k))
 
-  process_none : process m [] ≡ m
-  unfolding carried
+  pub process_none : process m [] ≡ m
+  unfolding process
   process_none =
       let c = m.state in
       let o = ap length (out_none c) in
@@ -138,7 +137,7 @@ module _ (m : Machine) (r : Rings m.state.settings.spans (notes_in m).logged) wh
       = (omega arith, omega arith, omega arith, omega arith) in
       let counts : counts_after c 0 (length (impulse_out c [])) (dc_after d c.blocker (impulse_out c [])).clamped ≡ c.counts
       = λ i. record { seen = same.0 i; released = same.1 i; held = same.2 i; clamped = same.3 i } in
-      λ i. machine_after c (counts i) (after_none c i) (b i).blocker (logged_none i) (notes_none i).repairs (notes_none i).longruns c.closed
+      λ i. machine_after c (counts i) (after_none c i) (b i).blocker (logged_none i) (notes_none i).repairs (notes_none i).longruns
 
 -- ---- a fresh chain
 
@@ -151,22 +150,22 @@ module _ (g : ConditioningConfig) (some : 0 < g.spans) where
       go true = refl
       go false = refl
 
-  core_none : core g (unclosed []) ≡ fresh_machine g
-  unfolding core turn_of
+  core_none : core g [] ≡ fresh_machine g
+  unfolding core
   core_none = process_none (fresh_machine g) (fresh_rings g some)
 
-  machine_none : fresh_machine g ≡ with_hops (core g (unclosed [])) (window_state [] 0) (hop_marks g [])
+  machine_none : fresh_machine g ≡ with_hops (core g []) (window_state [] 0) (hop_marks g [])
   unfolding with_hops fresh_state
   machine_none = (λ i. with_hops (sym core_none i) (window_state [] 0) (sym no_hop_marks i))
 
-  pub fresh_is : fresh_chain g ≡ chain_at g (unclosed []) []
-  unfolding fresh_chain chain_at turn_of open_window last_end evidence answers
+  pub fresh_is : fresh_chain g ≡ chain_at g [] []
+  unfolding fresh_chain chain_at open_window last_end evidence answers
   fresh_is =
       λ i.
       record {
         machine = machine_none i;
         words = sym (no_words g.n) i;
-        brought = unclosed [];
+        brought = [];
         released = sym (hands_none (fresh_state g)) i;
         hops = [];
         answers = [];
@@ -187,7 +186,7 @@ made_is g spans repairs words e =
           ((ap (λ (s : Said). made_words 0 s spans) e ∙ ap (λ (n : ℕ). replicate n 0) l.spans_long) i)
           ((ap (λ (s : Said). made_words 0 s repairs) e ∙ ap (λ (n : ℕ). replicate n 0) l.repairs_long) i);
       words = (ap (λ (s : Said). made_words zero_f s words) e ∙ ap (λ (n : ℕ). replicate n zero_f) l.words_long) i;
-      brought = unclosed [];
+      brought = [];
       released = [];
       hops = [];
       answers = [];

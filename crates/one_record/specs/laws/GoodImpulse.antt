@@ -1,9 +1,8 @@
--- Number 5's tests on the impulse stage find nothing after usable samples, at most 2 ^ 48 of them, closed or not. Assumes nothing.
-use Rattle.std.specs.Prelude.{◌≡◌, Bool, cond, ◌&&◌, List, ℕ, ◌+◌, ◌-◌, ◌*◌, ◌^◌, ◌≤◌, ◌<◌, min, pos, T, ltb, Float, length, get_or, take, replicate}
-use Rattle.std.proofs.Math.Path.{refl}
-use Rattle.std.proofs.Common.{ap, ◌∙◌, arith, lit≤, lit<, length-take-le}
-use Rattle.std.proofs.Math.Bool.{true, false}
-use Rattle.std.proofs.lemmas.Bool.{false≢true}
+-- Number 5's tests on the impulse stage find nothing after usable samples, at most 2 ^ 48 of them. Assumes nothing.
+use Rattle.std.specs.Prelude.{◌≡◌, refl, Bool, false, ◌&&◌, List, ℕ, ◌+◌, ◌-◌, ◌*◌, ◌^◌, ◌≤◌, ◌<◌, min, pos, T, ltb, Float, length, get_or, take, replicate}
+use Rattle.std.proofs.Math.Path.{ap}
+use Rattle.std.proofs.Common.{◌∙◌, arith, lit≤, lit<, length-take-le}
+use Rattle.std.proofs.Math.Bool.{true}
 use borrow.Author.Tests.{lt-ltb, le-leb, eq-eqb}
 use Rattle.std.proofs.Math.Dec.{eqb}
 use Rattle.std.specs.Float.Ieee.{binary64, le, lt, to_bits, of_bits}
@@ -19,43 +18,33 @@ use Rattle.rules.specs.laws.SizeLaws.{within_size, word_limited}
 use Rattle.rules.specs.Refusals.{within_limit}
 use Rattle.rules.specs.Sort.{sort}
 use Rattle.rules.specs.laws.SortLaws.{all_get_d, sort_length}
-use Rattle.rules.specs.Impulse.{Setting, standard, window_size, next_judged, block_length, Input}
-use Rattle.rules.specs.Mode.{runs}
-use Rattle.rules.specs.Chain.{setting_of}
+use Rattle.rules.specs.Impulse.{Setting, standard, window_size, next_judged}
 use Rattle.log.specs.Check.{all_to}
 use Rattle.log.specs.laws.CheckLaws.{all_of}
+use Rattle.impulse_pause.specs.declared.PauseEdition.{PauseEdition}
 use Rattle.impulse.specs.declared.Run.{Run}
 use Rattle.impulse.specs.declared.Open.{Open}
 use Rattle.impulse.specs.declared.Open.TheVariants.{Running, Closed}
 use Rattle.impulse.specs.declared.Left.{Left}
 use Rattle.impulse.specs.declared.Left.TheVariants.{Neighbour, Missing}
-use Rattle.impulse.specs.declared.Gate.{Gate}
 use Rattle.impulse.specs.declared.ImpulseSuppressor.{ImpulseSuppressor}
-use Rattle.impulse.specs.Machine as machine
 use Rattle.impulse.specs.Machine.{fresh}
-use Rattle.impulse.specs.State.{state_at}
-use Rattle.impulse.specs.Sound.{PowerWithin, SoundGate, Sound}
+use Rattle.impulse.specs.Sound.{PowerWithin, Sound}
 use Rattle.impulse.specs.laws.StateBounds.{state_sound}
 use Rattle.impulse.specs.laws.Theorem.{state_of}
-use Rattle.impulse.specs.laws.Closes.{closed_of, closes}
 use Rattle.impulse_arrays.specs.Fits.{window_held, pending_held, power_fits, powers_fit, samples_fit, arrays_fit, sorted_fits}
-use Rattle.stage_mode.specs.View.{mode_of}
-use Rattle.chain_config.specs.declared.ConditioningConfig.{ConditioningConfig}
-use Rattle.chain_config.specs.Config.{config_of}
-use Rattle.chain_state.specs.Fits.{waiting, counter, run_fits, left_fits, gate_fits, running_fits, suppressor_fits}
-use Rattle.one_record.specs.Lists.{EmptyStage}
-use Rattle.one_record.specs.laws.Turning.{offered, standing}
+use Rattle.chain_state.specs.Fits.{counter, run_fits, left_fits, gate_fits, running_fits, suppressor_fits}
 
 -- ---- a sample and a power
 
-word_good : (w : ℕ) → WordWithin (2 ^ 59) w → within_limit w ≡ true
+pub word_good : (w : ℕ) → WordWithin (2 ^ 59) w → within_limit w ≡ true
 word_good w h = is_true (within_limit w) (word_limited w (2 ^ 59) (lit≤ tt) h)
 
 power_limit_lem : (p : Float) → PowerWithin p → T (le (magnitude p) power_limit)
 unfolding of_bits
 power_limit_lem p h = within_size p 6776263578034403 (pos 67) (within_mono p (2 ^ 115) 1 (6776263578034403 * 2 ^ 67) 1 (lit< tt) (lit≤ tt) h.0)
 
-power_good : (p : Float) → PowerWithin p → power_fits p ≡ true
+pub power_good : (p : Float) → PowerWithin p → power_fits p ≡ true
 unfolding power_fits
 power_good p h = and_so (sign_clear p) (le (magnitude p) power_limit) (is_true (sign_clear p) h.1.0) (is_true (le (magnitude p) power_limit) (power_limit_lem p h))
 
@@ -70,22 +59,19 @@ left_good : (l : Left) → ((x : ℕ) → l ≡ Neighbour x → WordWithin (2 ^ 
 left_good Missing h = refl
 left_good (Neighbour x) h = word_good x (h x refl)
 
--- the gate, when n samples have come; a close leaves one that has received none
-sound_gate : (b : ℕ) (a : Bool) (n : ℕ) (g : Gate) (closed : Bool) → SoundGate (standard b a) n g → n ≤ total_limit → waiting closed g.received ≡ g.received
-    → gate_fits g closed ≡ true
-unfolding gate_fits
-sound_gate b a n g closed p h w =
-    let received : counter g.received ≡ true = le-leb g.received (2 ^ 52) (omega (arith, p.received)) in
-    let block : counter g.block.number ≡ true = le-leb g.block.number (2 ^ 52) (omega (arith, p.block)) in
-    let flags : counter g.block.flagged ≡ true = le-leb g.block.flagged (2 ^ 52) (omega (arith, p.flags)) in
-    let run : run_fits g.mending.run (next_judged (waiting closed g.received)) ≡ true = ap (λ (k : ℕ). run_fits g.mending.run (next_judged k)) w
-    ∙ run_good g.mending.run (next_judged g.received) p.run in
-    let left : left_fits g.mending.left ≡ true = left_good g.mending.left p.left in
-    λ i. received i && block i && flags i && run i && left i
+module _ (b : ℕ) (a : Bool) (n : ℕ) (m : ImpulseSuppressor) (p : Sound (standard b a) n m) (h : n ≤ total_limit) where
+  pub sound_gate : gate_fits m.gate ≡ true
+  unfolding gate_fits
+  sound_gate =
+      let g = m.gate in
+      let received : counter g.received ≡ true = le-leb g.received (2 ^ 52) (omega (arith, p.received)) in
+      let block : counter g.block.number ≡ true = le-leb g.block.number (2 ^ 52) (omega (arith, p.block)) in
+      let flags : counter g.block.flagged ≡ true = le-leb g.block.flagged (2 ^ 52) (omega (arith, p.flags)) in
+      let run : run_fits g.mending.run (next_judged g.received) ≡ true = ap (λ (k : ℕ). run_fits g.mending.run (next_judged k)) p.received
+      ∙ run_good g.mending.run (next_judged n) p.run in
+      let left : left_fits g.mending.left ≡ true = left_good g.mending.left p.left in
+      λ i. received i && block i && flags i && run i && left i
 
--- ---- the arrays of a stage that runs
-
-module _ (b : ℕ) (a : Bool) (n : ℕ) (m : ImpulseSuppressor) (p : Sound (standard b a) n m) where
   powers : powers_fit (window_held m.gate.received) m.window ≡ true
   powers =
       all_of (λ k. power_fits (get_or m.window k zero_f)) (window_held m.gate.received)
@@ -123,61 +109,27 @@ module _ (b : ℕ) (a : Bool) (n : ℕ) (m : ImpulseSuppressor) (p : Sound (stan
   unfolding running_fits
   sound_running = let r = eq-eqb m.gate.received n p.received in λ i. r i && ordered i
 
-  sound_suppressor : suppressor_fits m true n ≡ true
+  pub sound_suppressor : suppressor_fits m true n ≡ true
   unfolding suppressor_fits
   sound_suppressor = λ i. sound_arrays i && sound_running i
 
--- ---- THE STAGE after an input
+-- ---- THE STAGE after usable samples, and before any
 
-module _ (g : ConditioningConfig) (blocks : 0 < block_length g.fs) (i : Input) (u : Usable i.samples) (h : length i.samples ≤ total_limit) where
-  abbrev s : Setting
-  s = setting_of (config_of g)
+module _ (b : ℕ) (a : Bool) (ed : PauseEdition) (xs : List ℕ) (u : Usable xs) (h : length xs ≤ total_limit) where
+  sound : Sound (standard b a) (length xs) (state_of (standard b a) ed xs)
+  sound = state_sound (standard b a) (lit≤ tt) ed xs u (length xs) (omega arith)
 
-  abbrev xs : List ℕ
-  xs = i.samples
+  pub gate_good : gate_fits (state_of (standard b a) ed xs).gate ≡ true
+  gate_good = sound_gate b a (length xs) (state_of (standard b a) ed xs) sound h
 
-  sound : Sound (setting_of (config_of g)) (length i.samples) (state_of (setting_of (config_of g)) g.edition i.samples)
-  sound = state_sound s (lit≤ tt) g.edition xs u (length xs) (omega arith)
+  pub suppressor_good : suppressor_fits (state_of (standard b a) ed xs) true (length xs) ≡ true
+  suppressor_good = sound_suppressor b a (length xs) (state_of (standard b a) ed xs) sound h
 
-  -- as `standing`, by whether the stage runs and whether the chain is closed
-  abbrev by : Bool → Bool → ImpulseSuppressor
-  by r c = cond r (cond c (closed_of s g.edition xs) (state_of s g.edition xs)) (fresh s g.edition)
+pub fresh_gate_good : (s : Setting) (ed : PauseEdition) → gate_fits (fresh s ed).gate ≡ true
+unfolding gate_fits
+fresh_gate_good s ed = let c : counter 0 ≡ true = le-leb 0 (2 ^ 52) (lit≤ tt) in λ i. c i && c i && c i && true && true
 
-  pub setting_good : machine.setting_of (standing g i).gate ≡ setting_of (config_of g)
-  unfolding state_at
-  setting_good = go (runs (mode_of g.impulse)) i.closed
-    where
-      go : (r c : Bool) → machine.setting_of (by r c).gate ≡ s
-      go true true = refl
-      go true false = refl
-      go false c = refl
-
-  -- once closed it is empty, and one that is off always
-  pub standing_empty : i.closed ≡ true → EmptyStage (standing g i)
-  standing_empty = go (runs (mode_of g.impulse)) i.closed
-    where
-      go : (r c : Bool) → c ≡ true → EmptyStage (by r c)
-      go true true e = record { received = refl; run = refl; window = refl; sorted = refl; pending = refl }
-      go true false e = absurd (false≢true e)
-      go false c e = record { received = refl; run = refl; window = refl; sorted = refl; pending = refl }
-
-  pub gate_good : gate_fits (standing g i).gate i.closed ≡ true
-  unfolding gate_fits
-  gate_good = go (runs (mode_of g.impulse)) i.closed
-    where
-      go : (r c : Bool) → gate_fits (by r c).gate c ≡ true
-      go true true =
-          let t = closes s (offered g blocks) g.edition xs u in
-          sound_gate s.block s.apply (length xs) (closed_of s g.edition xs).gate true t.bounded h refl
-      go true false = sound_gate s.block s.apply (length xs) (state_of s g.edition xs).gate false sound.gate h refl
-      go false c = let k : counter 0 ≡ true = le-leb 0 (2 ^ 52) (lit≤ tt) in λ j. k j && k j && k j && true && true
-
-  -- arrays that hold nothing pass
-  pub suppressor_good : suppressor_fits (standing g i) (runs (mode_of g.impulse)) (waiting i.closed (length i.samples)) ≡ true
-  unfolding suppressor_fits running_fits arrays_fit sorted_fits all_to
-  suppressor_good = go (runs (mode_of g.impulse)) i.closed
-    where
-      go : (r c : Bool) → suppressor_fits (by r c) r (waiting c (length xs)) ≡ true
-      go true true = refl
-      go true false = sound_suppressor s.block s.apply (length xs) (state_of s g.edition xs) sound
-      go false c = refl
+-- the arrays hold nothing yet
+pub fresh_suppressor_good : (s : Setting) (ed : PauseEdition) (seen : ℕ) → suppressor_fits (fresh s ed) false seen ≡ true
+unfolding suppressor_fits arrays_fit all_to
+fresh_suppressor_good s ed seen = refl

@@ -2,21 +2,21 @@
 use Rattle.std.specs.Prelude.{◌≡◌, refl, Bool, true, false, cond, List, [], ◌∷◌, ◌++◌, ℕ, ◌+◌, ◌-◌, ◌^◌, ◌≤◌, ◌<◌, length}
 use Rattle.std.proofs.Common.{ap, arith}
 use Rattle.rules.specs.laws.ListLaws.{length-map}
-use Rattle.rules.specs.Impulse.{Input, happened}
+use Rattle.rules.specs.Pauses.{Edition}
+use Rattle.rules.specs.Impulse.{Setting, flagged, judged, start, events, paused_in, happened}
 use Rattle.rules.specs.Dc.{corner, first_level, blocked_all}
 use Rattle.rules.specs.Iq.{Settled, Off, Observing, Withheld, Correcting, corrected_by}
 use Rattle.rules.specs.Monitor.{Hop, hop_end, reported, Answer, no_report, report, window_length, window_start, due, report_of, answer_to, next_window, answers}
 use Rattle.rules.specs.Monitor.{suspected_span, suspected_spans}
 use Rattle.rules.specs.Log.{Span, span_of, Marks, marked, Stage, impulse, dc, iq, Mark, Repaired, Flagged, Corrected, Uncertain, marks_of}
 use Rattle.rules.specs.laws.MarkLaws.{lengths, AllEndBy, marked_sound, marked_samples, marked_dropped, marked_ends}
-use Rattle.rules.specs.Chain.{Config, setting_of, editions_of, impulse_events, after_impulse, after_dc, settled_by, released, dc_marks, iq_marks, evidence, marks_in}
-use Rattle.rules.specs.Chain.{ring_of}
+use Rattle.rules.specs.Chain.{Config, setting_of, editions_of, impulse_events, after_impulse, after_dc, settled_by, released, dc_marks, iq_marks, evidence, marks_in, ring_of}
 use Rattle.rules.specs.Mode.{is_apply, runs}
 use Rattle.rules.specs.Constants.{size_limit, total_limit}
 use Rattle.log.specs.View.{bare}
 use Rattle.log.specs.Check.{ring_fits, end_fits}
 use Rattle.log.specs.laws.CheckLaws.{InRange, range_ring, end_fits_lem}
-use Rattle.impulse.specs.laws.Once.{total, total_fits, Up, happened_up}
+use Rattle.impulse.specs.laws.Once.{Climbs, end_of, total, total_fits, bound, once}
 use Rattle.dc.specs.laws.Cutting.{blocked_length}
 use Rattle.iq_monitor.specs.laws.ObserveLaws.{is_next}
 use Rattle.iq_monitor.specs.Hops.{InOrder, last_end}
@@ -25,7 +25,11 @@ use Rattle.one_record.specs.laws.GoodStages.{after_most}
 
 -- ---- marks that climb
 
-lengths_total : (ms : List Span) → lengths ms ≡ total ms
+-- the marks climb, and end at b or before
+abbrev pub Up : ℕ → ℕ → List Span → Type 0
+Up lo b ms = Climbs lo ms × (end_of lo ms ≤ b)
+
+pub lengths_total : (ms : List Span) → lengths ms ≡ total ms
 unfolding lengths
 lengths_total [] = refl
 lengths_total (m ∷ ms) = ap (λ (n : ℕ). m.len + n) (lengths_total ms)
@@ -39,7 +43,7 @@ climbing_end lo b (m ∷ ms) u = let t = total_fits (m.start + m.len) ms u.0.1 i
 abbrev pub Good : ℕ → Marks → Type 0
 Good cap r = (ring_fits cap (bare r.ring) r.samples ≡ true) × (end_fits cap r.ring ≡ true)
 
-marks_good : (cap : ℕ) (ms : List Span) → 0 < cap → Up 0 (2 ^ 49) ms → Good cap (marked cap ms)
+pub marks_good : (cap : ℕ) (ms : List Span) → 0 < cap → Up 0 (2 ^ 49) ms → Good cap (marked cap ms)
 marks_good cap ms h u =
     let k = marked_sound cap ms h in
     let l = lengths_total ms in
@@ -63,43 +67,59 @@ up_one n b h = ((omega arith, tt), omega arith)
 
 -- ---- the impulse stage
 
-impulse_up : (c : Config) (i : Input) (r : Mark) → Up 0 (length i.samples) (marks_of r (impulse_events c i))
+module _ (s : Setting) (F P : ℕ → Bool) (xs : List ℕ) where
+  bound_in : (r : Mark) (j : ℕ) → bound r F j ≤ j
+  bound_in Repaired j = omega arith
+  bound_in Flagged j = omega arith
+  bound_in Corrected j = omega arith
+  bound_in Uncertain j = omega arith
+
+  events_up : (r : Mark) (j : ℕ) → Up 0 j (marks_of r (events s F P xs j))
+  events_up r j = let i = once s F P xs r j in (i.climb, omega (arith, i.ended, bound_in r j))
+
+happened_up : (s : Setting) (E : ℕ → Edition) (xs : List ℕ) (r : Mark) → Up 0 (length xs) (marks_of r (happened s E xs))
+unfolding happened
+happened_up s E xs r =
+    up_later 0 (judged s (length xs)) (length xs) (marks_of r (happened s E xs)) (omega arith)
+    (events_up s (flagged s xs) (paused_in s E xs) xs r (judged s (length xs)))
+
+pub impulse_up : (c : Config) (xs : List ℕ) (r : Mark) → Up 0 (length xs) (marks_of r (impulse_events c xs))
 unfolding impulse_events marks_of
-impulse_up c i r = go (runs c.impulse_mode)
+impulse_up c xs r = go (runs c.impulse_mode)
   where
-    go : (t : Bool) → Up 0 (length i.samples) (marks_of r (cond t (happened (setting_of c) (editions_of c) i) []))
-    go true = happened_up (setting_of c) (editions_of c) i r
-    go false = up_none (length i.samples)
+    go : (t : Bool) → Up 0 (length xs) (marks_of r (cond t (happened (setting_of c) (editions_of c) xs) []))
+    go true = happened_up (setting_of c) (editions_of c) xs r
+    go false = up_none (length xs)
 
 -- ---- what is released is no more than what came
 
-dc_length : (c : Config) (i : Input) → length (after_dc c i) ≡ length (after_impulse c i)
+dc_length : (c : Config) (xs : List ℕ) → length (after_dc c xs) ≡ length (after_impulse c xs)
 unfolding after_dc
-dc_length c i = go (is_apply c.dc_mode)
+dc_length c xs = go (is_apply c.dc_mode)
   where
-    go : (t : Bool) → length (cond t (blocked_all (corner c.fs) first_level (after_impulse c i)) (after_impulse c i)) ≡ length (after_impulse c i)
-    go true = blocked_length (corner c.fs) first_level (after_impulse c i)
+    go : (t : Bool) → length (cond t (blocked_all (corner c.fs) first_level (after_impulse c xs)) (after_impulse c xs)) ≡ length (after_impulse c xs)
+    go true = blocked_length (corner c.fs) first_level (after_impulse c xs)
     go false = refl
 
-released_length : (c : Config) (i : Input) → length (released c i) ≤ length i.samples
+pub released_length : (c : Config) (xs : List ℕ) → length (released c xs) ≤ length xs
 unfolding released
-released_length c i =
-    let m = length-map (corrected_by (settled_by c)) (after_dc c i) in
-    let d = dc_length c i in
-    let a = after_most c i in
+released_length c xs =
+    let m = length-map (corrected_by (settled_by c)) (after_dc c xs) in
+    let d = dc_length c xs in
+    let i = after_most c xs in
     omega arith
 
 -- ---- the DC stage
 
-dc_up : (c : Config) (i : Input) (r : Mark) → Up 0 (length i.samples) (dc_marks c i r)
-dc_up c i Repaired = up_none (length i.samples)
-dc_up c i Flagged = up_none (length i.samples)
-dc_up c i Uncertain = up_none (length i.samples)
-dc_up c i Corrected = go (is_apply c.dc_mode)
+pub dc_up : (c : Config) (xs : List ℕ) (r : Mark) → Up 0 (length xs) (dc_marks c xs r)
+dc_up c xs Repaired = up_none (length xs)
+dc_up c xs Flagged = up_none (length xs)
+dc_up c xs Uncertain = up_none (length xs)
+dc_up c xs Corrected = go (is_apply c.dc_mode)
   where
-    go : (t : Bool) → Up 0 (length i.samples) (cond t (span_of 0 (length (released c i)) ∷ []) [])
-    go true = up_one (length (released c i)) (length i.samples) (released_length c i)
-    go false = up_none (length i.samples)
+    go : (t : Bool) → Up 0 (length xs) (cond t (span_of 0 (length (released c xs)) ∷ []) [])
+    go true = up_one (length (released c xs)) (length xs) (released_length c xs)
+    go false = up_none (length xs)
 
 -- ---- the windows that an observing monitor suspects
 
@@ -147,7 +167,7 @@ suspected_up n length lo end w (h ∷ hs) a b o =
     one_up n length lo end (last_end n (hop_end n h) hs) w hs h a b (is_next end h.start o.0.start).1
     (λ v l x y. suspected_up n length l (hop_end n h) v hs x y o.1)
 
-evidence_up : (c : Config) (hs : List Hop) → c.n ≤ size_limit → InOrder c.n 0 hs → Up 0 (total_limit + 512) (suspected_spans (evidence c hs))
+pub evidence_up : (c : Config) (hs : List Hop) → c.n ≤ size_limit → InOrder c.n 0 hs → Up 0 (total_limit + 512) (suspected_spans (evidence c hs))
 unfolding evidence
 evidence_up c hs big o =
     let n = window_length c.fs in
@@ -157,32 +177,32 @@ evidence_up c hs big o =
 
 -- ---- the IQ stage
 
-iq_up : (c : Config) (i : Input) (given : List Answer) (z : Settled) (r : Mark) → length i.samples ≤ total_limit
-    → Up 0 (total_limit + 512) (suspected_spans given) → Up 0 (2 ^ 49) (iq_marks c i given z r)
-iq_up c i given (Correcting q) Corrected h u = up_one (length (released c i)) (2 ^ 49) (omega (arith, released_length c i))
-iq_up c i given (Correcting q) Repaired h u = up_none (2 ^ 49)
-iq_up c i given (Correcting q) Flagged h u = up_none (2 ^ 49)
-iq_up c i given (Correcting q) Uncertain h u = up_none (2 ^ 49)
-iq_up c i given Withheld Uncertain h u = up_one (length (released c i)) (2 ^ 49) (omega (arith, released_length c i))
-iq_up c i given Withheld Repaired h u = up_none (2 ^ 49)
-iq_up c i given Withheld Flagged h u = up_none (2 ^ 49)
-iq_up c i given Withheld Corrected h u = up_none (2 ^ 49)
-iq_up c i given Observing Uncertain h u = up_later 0 (total_limit + 512) (2 ^ 49) (suspected_spans given) (omega arith) u
-iq_up c i given Observing Repaired h u = up_none (2 ^ 49)
-iq_up c i given Observing Flagged h u = up_none (2 ^ 49)
-iq_up c i given Observing Corrected h u = up_none (2 ^ 49)
-iq_up c i given Off r h u = up_none (2 ^ 49)
+pub iq_up : (c : Config) (xs : List ℕ) (given : List Answer) (z : Settled) (r : Mark) → length xs ≤ total_limit → Up 0 (total_limit + 512) (suspected_spans given)
+    → Up 0 (2 ^ 49) (iq_marks c xs given z r)
+iq_up c xs given (Correcting q) Corrected h u = up_one (length (released c xs)) (2 ^ 49) (omega (arith, released_length c xs))
+iq_up c xs given (Correcting q) Repaired h u = up_none (2 ^ 49)
+iq_up c xs given (Correcting q) Flagged h u = up_none (2 ^ 49)
+iq_up c xs given (Correcting q) Uncertain h u = up_none (2 ^ 49)
+iq_up c xs given Withheld Uncertain h u = up_one (length (released c xs)) (2 ^ 49) (omega (arith, released_length c xs))
+iq_up c xs given Withheld Repaired h u = up_none (2 ^ 49)
+iq_up c xs given Withheld Flagged h u = up_none (2 ^ 49)
+iq_up c xs given Withheld Corrected h u = up_none (2 ^ 49)
+iq_up c xs given Observing Uncertain h u = up_later 0 (total_limit + 512) (2 ^ 49) (suspected_spans given) (omega arith) u
+iq_up c xs given Observing Repaired h u = up_none (2 ^ 49)
+iq_up c xs given Observing Flagged h u = up_none (2 ^ 49)
+iq_up c xs given Observing Corrected h u = up_none (2 ^ 49)
+iq_up c xs given Off r h u = up_none (2 ^ 49)
 
 -- ---- all twelve rings
 
-marks_up : (c : Config) (i : Input) (hs : List Hop) → length i.samples ≤ total_limit → c.n ≤ size_limit → InOrder c.n 0 hs → (st : Stage) (m : Mark)
-    → Up 0 (2 ^ 49) (marks_in c i hs st m)
-marks_up c i hs h big o impulse m = up_later 0 (length i.samples) (2 ^ 49) (marks_of m (impulse_events c i)) (omega arith) (impulse_up c i m)
-marks_up c i hs h big o dc m = up_later 0 (length i.samples) (2 ^ 49) (dc_marks c i m) (omega arith) (dc_up c i m)
-marks_up c i hs h big o iq m = iq_up c i (evidence c hs) (settled_by c) m h (evidence_up c hs big o)
+pub marks_up : (c : Config) (xs : List ℕ) (hs : List Hop) → length xs ≤ total_limit → c.n ≤ size_limit → InOrder c.n 0 hs → (st : Stage) (m : Mark)
+    → Up 0 (2 ^ 49) (marks_in c xs hs st m)
+marks_up c xs hs h big o impulse m = up_later 0 (length xs) (2 ^ 49) (marks_of m (impulse_events c xs)) (omega arith) (impulse_up c xs m)
+marks_up c xs hs h big o dc m = up_later 0 (length xs) (2 ^ 49) (dc_marks c xs m) (omega arith) (dc_up c xs m)
+marks_up c xs hs h big o iq m = iq_up c xs (evidence c hs) (settled_by c) m h (evidence_up c hs big o)
 
 -- THE RINGS OF SPANS pass number 5's tests
-pub ring_good : (c : Config) (i : Input) (hs : List Hop) → 0 < c.spans → length i.samples ≤ total_limit → c.n ≤ size_limit → InOrder c.n 0 hs
-    → (st : Stage) (m : Mark) → Good c.spans (ring_of c i hs st m)
+pub ring_good : (c : Config) (xs : List ℕ) (hs : List Hop) → 0 < c.spans → length xs ≤ total_limit → c.n ≤ size_limit → InOrder c.n 0 hs
+    → (st : Stage) (m : Mark) → Good c.spans (ring_of c xs hs st m)
 unfolding ring_of
-ring_good c i hs p h big o st m = marks_good c.spans (marks_in c i hs st m) p (marks_up c i hs h big o st m)
+ring_good c xs hs p h big o st m = marks_good c.spans (marks_in c xs hs st m) p (marks_up c xs hs h big o st m)

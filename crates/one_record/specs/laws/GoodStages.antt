@@ -1,7 +1,7 @@
 -- Number 5's tests on the other stages, the counts and the settings find nothing: the DC stage after usable samples, at most 2 ^ 48 of them; the monitor after
 -- accepted hops. Assumes nothing.
-use Rattle.std.specs.Prelude.{◌≡◌, refl, Bool, true, false, cond, ◌&&◌, List, [], ◌∷◌, ℕ, zero, suc, ◌+◌, ◌-◌, ◌^◌, ◌≤◌, ◌<◌, min, T, leb, eqb, Float, length}
-use Rattle.std.proofs.Common.{ap, sym, ◌∙◌, subst, arith, le-leb, eq-eqb, lit≤}
+use Rattle.std.specs.Prelude.{◌≡◌, refl, Bool, true, false, cond, ◌&&◌, List, [], ◌∷◌, ℕ, zero, suc, ◌+◌, ◌-◌, ◌^◌, ◌≤◌, ◌<◌, T, leb, eqb, Float, length}
+use Rattle.std.proofs.Common.{sym, subst, arith, le-leb, eq-eqb, lit≤}
 use Rattle.std.specs.Float.Ieee.{le, of_bits}
 use Rattle.complex.specs.Complex.{WordWithin}
 use Rattle.rules.specs.Constants.{one, rate_limit, size_limit, total_limit}
@@ -11,13 +11,11 @@ use Rattle.rules.specs.laws.ListLaws.{length_up_to}
 use Rattle.rules.specs.Guard.{magnitude, usable, Usable}
 use Rattle.rules.specs.laws.SortLaws.{all_as, all_append, all_get_d}
 use Rattle.rules.specs.Pauses.{Edition}
-use Rattle.rules.specs.Impulse.{Setting, lookahead, standard, lookahead_size, block_length, flagged, value, Input, judged_in, paused_in, released_in, handed_on}
-use Rattle.rules.specs.Impulse.{held_in}
-use Rattle.rules.specs.laws.ClosingLaws.{judged_most, released_most}
+use Rattle.rules.specs.Impulse.{Setting, lookahead, block_length, flagged, judged, start, value, paused_in, handed_on}
 use Rattle.rules.specs.Dc.{Level, first_level, corner, level_after, clamped_steps}
 use Rattle.rules.specs.Iq.{Calibrated, none, with, Correcting, Withheld, ranged, coefficient, accepted, correctable, settled}
-use Rattle.rules.specs.Mode.{Mode, off, observe, apply, is_apply, runs}
-use Rattle.rules.specs.Chain.{Config, setting_of, editions_of, after_impulse, held_of, clamped_of, settled_by}
+use Rattle.rules.specs.Mode.{Mode, off, observe, apply, runs}
+use Rattle.rules.specs.Chain.{Config, setting_of, editions_of, after_impulse, clamped_of, settled_by}
 use Rattle.rules.specs.Monitor.{Hop, window_start, window_length, open_window}
 use Rattle.amplitude_limit.specs.Limit.{limited}
 use Rattle.impulse.specs.laws.PartBounds.{usable_within, within_more, mended_within}
@@ -31,7 +29,7 @@ use Rattle.iq_monitor.specs.Hops.{InOrder, last_end, window_state, by_rules}
 use Rattle.iq_monitor.specs.laws.WordBounds.{no_five}
 use Rattle.chain_config.specs.Config.{setting_refusal}
 use Rattle.chain_state.specs.declared.Settings.{Settings}
-use Rattle.chain_state.specs.Fits.{counter, settings_fit, waiting, held_by, counts_fit, blocker_fits, coefficient_fits, monitor_fits}
+use Rattle.chain_state.specs.Fits.{counter, settings_fit, held_by, counts_fit, blocker_fits, coefficient_fits, monitor_fits}
 
 -- ---- the samples that the DC stage gets
 
@@ -50,75 +48,49 @@ all_up_to P f (suc n) h = all_append P (up_to f n) (f n ∷ []) (all_up_to P f n
 usable_given : (xs : List ℕ) → Usable xs → All Given xs
 usable_given xs u = all_as (λ w. T (usable w)) Given (λ w t. within_more (2 ^ 57) given_most w (lit≤ tt) (usable_within w t)) xs u
 
-handed_given : (s : Setting) → s.run ≤ 32 → (E : ℕ → Edition) (i : Input) → Usable i.samples → All Given (handed_on s E i)
+handed_given : (s : Setting) → s.run ≤ 32 → (E : ℕ → Edition) (xs : List ℕ) → Usable xs → All Given (handed_on s E xs)
 unfolding handed_on
-handed_given s short E i u = go s.apply
+handed_given s short E xs u = go s.apply
   where
-    xs : List ℕ
-    xs = i.samples
-
     f : ℕ → ℕ
-    f = value s (flagged s xs) (paused_in s E xs) xs (judged_in s i)
+    f = value s (flagged s xs) (paused_in s E xs) xs (judged s (length xs))
 
-    each : (k : ℕ) → k < length xs → WordWithin (2 ^ 57) (at xs k)
-    each k q = usable_within (at xs k) (all_get_d (λ w. T (usable w)) xs k 0 u q)
+    each : (i : ℕ) → i < length xs → WordWithin (2 ^ 57) (at xs i)
+    each i q = usable_within (at xs i) (all_get_d (λ w. T (usable w)) xs i 0 u q)
 
-    go : (b : Bool) → All Given (cond b (up_to f (released_in s i)) xs)
+    go : (b : Bool) → All Given (cond b (up_to f (length xs - lookahead s)) xs)
     go true =
-        all_up_to Given f (released_in s i)
-        (λ k l. value_given s short (flagged s xs) (paused_in s E xs) xs each (judged_in s i) k (judged_most s i) (omega (arith, released_most s i)))
+        all_up_to Given f (length xs - lookahead s)
+        (λ k l. value_given s short (flagged s xs) (paused_in s E xs) xs each (judged s (length xs)) k (omega arith) (omega arith))
     go false = usable_given xs u
 
-pub after_given : (c : Config) (i : Input) → Usable i.samples → All Given (after_impulse c i)
-unfolding after_impulse
-after_given c i u = go (runs c.impulse_mode)
-  where
-    go : (b : Bool) → All Given (cond b (handed_on (setting_of c) (editions_of c) i) i.samples)
-    go true = handed_given (setting_of c) (lit≤ tt) (editions_of c) i u
-    go false = usable_given i.samples u
-
--- ---- how many they are: all but those held
-
-min_less : (n a : ℕ) → n - a ≡ n - min a n
-min_less n a = omega arith
-
-handed_length : (s : Setting) (E : ℕ → Edition) (i : Input) → length (handed_on s E i) ≡ length i.samples - held_in s i
+handed_most : (s : Setting) (E : ℕ → Edition) (xs : List ℕ) → length (handed_on s E xs) ≤ length xs
 unfolding handed_on
-handed_length s E i = go s.apply i.closed
+handed_most s E xs = go s.apply
   where
-    xs : List ℕ
-    xs = i.samples
-
     f : ℕ → ℕ
-    f = value s (flagged s xs) (paused_in s E xs) xs (judged_in s i)
+    f = value s (flagged s xs) (paused_in s E xs) xs (judged s (length xs))
 
-    go : (a c : Bool)
-        → length (cond a (up_to f (cond c (length xs) (length xs - lookahead s))) xs) ≡ length xs - cond c 0 (cond a (min (lookahead s) (length xs)) 0)
-    go true true = omega (arith, length_up_to f (length xs))
-    go true false = length_up_to f (length xs - lookahead s) ∙ min_less (length xs) (lookahead s)
-    go false true = omega arith
-    go false false = omega arith
+    go : (b : Bool) → length (cond b (up_to f (length xs - lookahead s)) xs) ≤ length xs
+    go true = omega (arith, length_up_to f (length xs - lookahead s))
+    go false = omega arith
 
-pub after_length : (c : Config) (i : Input) → length (after_impulse c i) ≡ length i.samples - held_of c i
+pub after_given : (c : Config) (xs : List ℕ) → Usable xs → All Given (after_impulse c xs)
 unfolding after_impulse
-after_length c i = go c.impulse_mode refl
+after_given c xs u = go (runs c.impulse_mode)
   where
-    none : (b : Bool) → length i.samples ≡ length i.samples - cond b 0 0
-    none true = omega arith
-    none false = omega arith
-
-    ran : length (handed_on (setting_of c) (editions_of c) i) ≡ length i.samples - held_of c i
-    ran = handed_length (setting_of c) (editions_of c) i
-
-    go : (m : Mode) → c.impulse_mode ≡ m
-        → length (cond (runs m) (handed_on (setting_of c) (editions_of c) i) i.samples) ≡ length i.samples - held_of c i
-    go off e = none i.closed ∙ ap (λ (m : Mode). length i.samples - held_in (standard (block_length c.fs) (is_apply m)) i) (sym e)
-    go observe e = ran
-    go apply e = ran
+    go : (b : Bool) → All Given (cond b (handed_on (setting_of c) (editions_of c) xs) xs)
+    go true = handed_given (setting_of c) (lit≤ tt) (editions_of c) xs u
+    go false = usable_given xs u
 
 -- the stage hands on no more than it gets
-pub after_most : (c : Config) (i : Input) → length (after_impulse c i) ≤ length i.samples
-after_most c i = omega (arith, after_length c i)
+pub after_most : (c : Config) (xs : List ℕ) → length (after_impulse c xs) ≤ length xs
+unfolding after_impulse
+after_most c xs = go (runs c.impulse_mode)
+  where
+    go : (b : Bool) → length (cond b (handed_on (setting_of c) (editions_of c) xs) xs) ≤ length xs
+    go true = handed_most (setting_of c) (editions_of c) xs
+    go false = omega arith
 
 -- ---- the DC level
 
@@ -126,12 +98,12 @@ level_good : (a : Float) (l : Level) → l.updates ≤ 2 ^ 52 → limited l.leve
 unfolding blocker_fits
 level_good a l h r m = let n : counter l.updates ≡ true = le-leb l.updates (2 ^ 52) h in λ i. n i && r i && m i
 
-pub blocker_good : (c : Config) (i : Input) → ranged one rate_limit c.fs ≡ true → Usable i.samples → length i.samples ≤ total_limit
-    → blocker_fits (blocker_of (corner c.fs) (level_after (corner c.fs) first_level (after_impulse c i))) ≡ true
-blocker_good c i r u h =
-    let ys = after_impulse c i in
-    let few : length ys ≤ total_limit = omega (arith, after_most c i) in
-    let b = level_bounded c.fs ys (subst T (sym r) tt) (after_given c i u) few in
+pub blocker_good : (c : Config) (xs : List ℕ) → ranged one rate_limit c.fs ≡ true → Usable xs → length xs ≤ total_limit
+    → blocker_fits (blocker_of (corner c.fs) (level_after (corner c.fs) first_level (after_impulse c xs))) ≡ true
+blocker_good c xs r u h =
+    let ys = after_impulse c xs in
+    let few : length ys ≤ total_limit = omega (arith, after_most c xs) in
+    let b = level_bounded c.fs ys (subst T (sym r) tt) (after_given c xs u) few in
     let n : (level_after (corner c.fs) first_level ys).updates ≤ 2 ^ 52 = omega (arith, b.updates) in
     level_good (corner c.fs) (level_after (corner c.fs) first_level ys) n b.re_limited b.im_limited
 
@@ -144,12 +116,12 @@ fresh_blocker_good fs = level_good (corner fs) first_level (lit≤ tt) zero_limi
 
 -- ---- how often its limit acted
 
-pub clamped_most : (c : Config) (i : Input) → clamped_of c i ≤ length i.samples
+pub clamped_most : (c : Config) (xs : List ℕ) → clamped_of c xs ≤ length xs
 unfolding clamped_of
-clamped_most c i = go (runs c.dc_mode)
+clamped_most c xs = go (runs c.dc_mode)
   where
-    go : (b : Bool) → cond b (clamped_steps (corner c.fs) first_level (after_impulse c i)) 0 ≤ length i.samples
-    go true = omega (arith, clamped_few (corner c.fs) first_level (after_impulse c i), after_most c i)
+    go : (b : Bool) → cond b (clamped_steps (corner c.fs) first_level (after_impulse c xs)) 0 ≤ length xs
+    go true = omega (arith, clamped_few (corner c.fs) first_level (after_impulse c xs), after_most c xs)
     go false = omega arith
 
 -- ---- the coefficient
@@ -184,36 +156,27 @@ module _ (fs : Float) (n : ℕ) (hs : List Hop) (few : n ≤ size_limit) (o : In
 
 -- ---- the counts and the settings
 
--- what number 5 tests of held is what the rules say
-pub held_by : (c : Config) (i : Input) → held_of c i ≡ held_by (is_apply c.impulse_mode) (waiting i.closed (length i.samples))
-held_by c i = go (is_apply c.impulse_mode) i.closed
-  where
-    go : (a k : Bool) → cond k 0 (cond a (min lookahead_size (length i.samples)) 0) ≡ held_by a (waiting k (length i.samples))
-    go true true = refl
-    go true false = refl
-    go false true = refl
-    go false false = refl
+pub held_most : (a : Bool) (n : ℕ) → held_by a n ≤ n
+held_most true n = omega arith
+held_most false n = omega arith
 
--- 'held at most 21', and no more than came
-pub held_most : (c : Config) (i : Input) → (held_of c i ≤ length i.samples) × (held_of c i ≤ lookahead_size)
-held_most c i = go (is_apply c.impulse_mode) i.closed
-  where
-    go : (a k : Bool) → let h = cond k 0 (cond a (min lookahead_size (length i.samples)) 0) in (h ≤ length i.samples) × (h ≤ lookahead_size)
-    go true true = (omega arith, omega arith)
-    go true false = (omega arith, omega arith)
-    go false true = (omega arith, omega arith)
-    go false false = (omega arith, omega arith)
-
-pub counts_good : (a closed : Bool) (n h k : ℕ) → h ≡ held_by a (waiting closed n) → h ≤ n → k ≤ n → n ≤ 2 ^ 52
-    → counts_fit a closed (record { seen = n; released = n - h; held = h; clamped = k }) ≡ true
+pub counts_good : (a : Bool) (n k : ℕ) → k ≤ n → n ≤ 2 ^ 52
+    → counts_fit a (record { seen = n; released = n - held_by a n; held = held_by a n; clamped = k }) ≡ true
 unfolding counts_fit
-counts_good a closed n h k e m l few =
-    let seen : counter n ≡ true = le-leb n (2 ^ 52) few in
-    let released : counter (n - h) ≡ true = le-leb (n - h) (2 ^ 52) (omega arith) in
+counts_good a n k l h =
+    let m = held_most a n in
+    let seen : counter n ≡ true = le-leb n (2 ^ 52) h in
+    let released : counter (n - held_by a n) ≡ true = le-leb (n - held_by a n) (2 ^ 52) (few n (held_by a n) h) in
     let clamped : counter k ≡ true = le-leb k (2 ^ 52) (omega arith) in
-    let held : eqb h (held_by a (waiting closed n)) ≡ true = eq-eqb h (held_by a (waiting closed n)) e in
-    let total : eqb (n - h + h) n ≡ true = eq-eqb (n - h + h) n (omega arith) in
+    let held : eqb (held_by a n) (held_by a n) ≡ true = eq-eqb (held_by a n) (held_by a n) refl in
+    let total : eqb (n - held_by a n + held_by a n) n ≡ true = eq-eqb (n - held_by a n + held_by a n) n (back n (held_by a n) m) in
     λ i. seen i && released i && clamped i && held i && total i
+  where
+    few : (n k : ℕ) → n ≤ 2 ^ 52 → n - k ≤ 2 ^ 52
+    few n k h = omega arith
+
+    back : (n k : ℕ) → k ≤ n → n - k + k ≡ n
+    back n k h = omega arith
 
 pub settings_good : (s : Settings) (block : ℕ) → setting_refusal s.fs s.n s.spans s.repairs ≡ 0 → block ≡ block_length s.fs
     → settings_fit s block ≡ true

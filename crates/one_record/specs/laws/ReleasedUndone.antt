@@ -1,11 +1,11 @@
 -- DC undo of the released samples: the record `ReleasedUndone` of Undone.antt, after any list of operations. Assumes nothing.
-use Rattle.std.specs.Prelude.{◌≡◌, refl, Bool, true, false, cond, List, ℕ, length, Float}
+use Rattle.std.specs.Prelude.{◌≡◌, refl, Bool, true, false, cond, List, ℕ, ◌-◌, length, Float}
 use Rattle.std.proofs.Common.{sym, ap, ◌∙◌, arith}
 use Rattle.rules.specs.Chain as rules
 use Rattle.rules.specs.Chain.{Config, setting_of, editions_of, after_impulse, after_dc, settled_by}
 use Rattle.rules.specs.Dc.{corner, first_level, blocked_all}
 use Rattle.rules.specs.Iq.{Settled, Off, Observing, Correcting, Withheld, corrected_by}
-use Rattle.rules.specs.Impulse.{Setting, flagged, value, Input, judged_in, paused_in, released_in, handed_on}
+use Rattle.rules.specs.Impulse.{Setting, lookahead, flagged, judged, value, paused_in, handed_on}
 use Rattle.rules.specs.Lists.{up_to}
 use Rattle.rules.specs.Mode.{apply, is_apply, runs}
 use Rattle.stage_mode.specs.View.{mode_of}
@@ -30,29 +30,26 @@ left_alone Withheld n w = refl
 left_alone (Correcting r) n w = absurd n
 
 -- an impulse stage that does not apply hands on what it gets
-handed_raw : (c : Config) (i : Input) → is_apply c.impulse_mode ≡ false → after_impulse c i ≡ i.samples
+handed_raw : (c : Config) (xs : List ℕ) → is_apply c.impulse_mode ≡ false → after_impulse c xs ≡ xs
 unfolding after_impulse handed_on
-handed_raw c i e = go (runs c.impulse_mode)
+handed_raw c xs e = go (runs c.impulse_mode)
   where
     s : Setting
     s = setting_of c
 
-    xs : List ℕ
-    xs = i.samples
-
     mended : List ℕ
-    mended = up_to (value s (flagged s xs) (paused_in s (editions_of c) xs) xs (judged_in s i)) (released_in s i)
+    mended = up_to (value s (flagged s xs) (paused_in s (editions_of c) xs) xs (judged s (length xs))) (length xs - lookahead s)
 
     go : (b : Bool) → cond b (cond (is_apply c.impulse_mode) mended xs) xs ≡ xs
     go true = ap (λ (b : Bool). cond b mended xs) e
     go false = refl
 
 -- what is released is what the stage wrote
-released_is : (c : Config) (i : Input) → c.dc_mode ≡ apply → NotCorrecting (settled_by c) → rules.released c i ≡ stage_wrote c.fs (after_impulse c i)
+released_is : (c : Config) (xs : List ℕ) → c.dc_mode ≡ apply → NotCorrecting (settled_by c) → rules.released c xs ≡ stage_wrote c.fs (after_impulse c xs)
 unfolding rules.released after_dc
-released_is c i d n =
-    sym (unchanged (settled_by c) (left_alone (settled_by c) n) (after_dc c i))
-    ∙ ap (λ m. cond (is_apply m) (blocked_all (corner c.fs) first_level (after_impulse c i)) (after_impulse c i)) d
+released_is c xs d n =
+    sym (unchanged (settled_by c) (left_alone (settled_by c) n) (after_dc c xs))
+    ∙ ap (λ m. cond (is_apply m) (blocked_all (corner c.fs) first_level (after_impulse c xs)) (after_impulse c xs)) d
 
 pub released_undone : (g : ConditioningConfig)
     → (spans repairs : List ℕ) (words : List Float) → making_said (config_of g) (length spans) (length repairs) (length words) ≡ made

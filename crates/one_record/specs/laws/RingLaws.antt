@@ -1,4 +1,4 @@
--- The view of the log as its rings can be undone; a turn marks ring by ring. Assumes nothing.
+-- The view of the log as its rings can be undone; a call marks ring by ring. Assumes nothing.
 use Rattle.std.specs.Prelude.{◌≡◌, refl, Bool, List, [], ◌∷◌, ◌++◌, map, eqb, take, drop}
 use Rattle.std.proofs.Math.Path.{ap, sym}
 use Rattle.std.proofs.Common.{◌∙◌, append-nil, append_assoc, zero-mul, suc-mul, arith, lit<, eq-eqb, ne_eqb}
@@ -19,7 +19,7 @@ use Rattle.impulse_slice.specs.Noted.{Rings, note_all}
 use Rattle.impulse_slice.specs.laws.NotedRings.{marked_rings, noted_rings, noted_at}
 use Rattle.iq.specs.View.{settled_of}
 use Rattle.stage_mode.specs.View.{mode_of}
-use Rattle.chain.specs.Stages.{Turn, Machine, notes_in, released_span, noted_dc, noted_iq, notes_after, logged_after}
+use Rattle.chain.specs.Stages.{Machine, notes_in, impulse_told, released_span, noted_dc, noted_iq, notes_after, logged_after}
 use Rattle.one_record.specs.Rings.{rings_of, dc_marks, iq_marks, mark_if, ring_after}
 
 -- ---- the view can be undone
@@ -116,33 +116,33 @@ module _ (cap : ℕ) (x : Logged) (m : Span) (r : Rings cap x) where
   iq_at_lem Withheld k = marked_at_lem cap x 11 m r (lit< tt) k
   iq_at_lem (Correcting z) k = marked_at_lem cap x 10 m r (lit< tt) k
 
--- ---- a turn, ring by ring
+-- ---- a call, ring by ring
 
-module _ (m : Machine) (t : Turn) (r : Rings m.state.settings.spans (notes_in m).logged) where
-  noted : Rings m.state.settings.spans (notes_after m t).logged
+module _ (m : Machine) (new : List ℕ) (r : Rings m.state.settings.spans (notes_in m).logged) where
+  noted : Rings m.state.settings.spans (notes_after m new).logged
   unfolding notes_after
-  noted = noted_rings m.state.settings.spans m.state.settings.repairs (notes_in m) t.told r
+  noted = noted_rings m.state.settings.spans m.state.settings.repairs (notes_in m) (impulse_told m.state new) r
 
-  pub turn_rings : Rings m.state.settings.spans (logged_after m t)
+  pub call_rings : Rings m.state.settings.spans (logged_after m new)
   unfolding logged_after
-  turn_rings =
+  call_rings =
       let c = m.state in
       let d = mode_of c.settings.dc in
-      let s = released_span c t in
-      iq_rings c.settings.spans (noted_dc c.settings.spans d (notes_after m t).logged s) s
-      (dc_rings c.settings.spans (notes_after m t).logged s noted d) (settled_of c.settings.iq)
+      let s = released_span c new in
+      iq_rings c.settings.spans (noted_dc c.settings.spans d (notes_after m new).logged s) s
+      (dc_rings c.settings.spans (notes_after m new).logged s noted d) (settled_of c.settings.iq)
 
-  pub turn_at : (k : ℕ)
-      → marks_at m.state.settings.spans (logged_after m t) k
-      ≡ ring_after m.state.settings.spans m.state t k (marks_at m.state.settings.spans (notes_in m).logged k)
+  pub call_at : (k : ℕ)
+      → marks_at m.state.settings.spans (logged_after m new) k
+      ≡ ring_after m.state.settings.spans m.state new k (marks_at m.state.settings.spans (notes_in m).logged k)
   unfolding logged_after notes_after ring_after
-  turn_at k =
+  call_at k =
       let c = m.state in
       let n = c.settings.spans in
       let d = mode_of c.settings.dc in
       let q = settled_of c.settings.iq in
-      let s = released_span c t in
-      let x = (note_all n c.settings.repairs (notes_in m) t.told).logged in
+      let s = released_span c new in
+      let x = (note_all n c.settings.repairs (notes_in m) (impulse_told c new)).logged in
       iq_at_lem n (noted_dc n d x s) s (dc_rings n x s noted d) q k
       ∙ ap (λ (y : rules.Marks). mark_if n (iq_marks q k) y s) (dc_at n x s noted d k)
-      ∙ ap (λ (y : rules.Marks). mark_if n (iq_marks q k) (mark_if n (dc_marks d k) y s) s) (noted_at n c.settings.repairs (notes_in m) k t.told r)
+      ∙ ap (λ (y : rules.Marks). mark_if n (iq_marks q k) (mark_if n (dc_marks d k) y s) s) (noted_at n c.settings.repairs (notes_in m) k (impulse_told c new) r)

@@ -8,7 +8,7 @@ use lib.Dec.{eqb}
 use borrow.Author.Tests.{ne_eqb}
 use Rattle.rules.specs.Guard.{unusable}
 use Rattle.chain.specs.Stages.{machine_of}
-use Rattle.chain.specs.Calls.{unread_refusal, taken_call}
+use Rattle.chain.specs.Calls.{unread_refusal, taken}
 use Rattle.chain.specs.laws.CallTests.{told_number}
 use Rattle.replay_format.specs.Format.{sample_size}
 use Rattle.replay_feed.specs.Feeding.{BlockOutcome}
@@ -129,13 +129,13 @@ returns-2 c =
     let r = c.before.before.before.before.before.before.before.accept.ensures in
     let front = call_slice a.state a.bytes.now a.samples.now _ _ held new _ read.0 in
     let back = call_behind a.state a.bytes.now a.samples.now _ _ held new _ read.0 in
-    let out = r.1.1 ∙ ap (λ (l : List ℕ). (taken_call m l).samples) front in
+    let out = r.1.1 ∙ ap (λ (l : List ℕ). (taken m l).samples) front in
     let e = sym
     (block_taken a.state a.bytes.now a.samples.now _ _ held new a.spans.now a.repairs.now
     (none c.before.before.before.before.before.before.before.before.before.before.before.before.before.before.before)) in (
-      r.0 ∙ ap (λ (l : List ℕ). (taken_call m l).said) front ∙ ap (λ (o : BlockOutcome). o.said) e,
+      r.0 ∙ ap (λ (l : List ℕ). (taken m l).said) front ∙ ap (λ (o : BlockOutcome). o.said) e,
       (
-        r.1.0 ∙ ap (λ (l : List ℕ). (taken_call m l).machine) front ∙ ap (λ (o : BlockOutcome). o.machine) e,
+        r.1.0 ∙ ap (λ (l : List ℕ). (taken m l).machine) front ∙ ap (λ (o : BlockOutcome). o.machine) e,
         (
           (λ i. out i ++ back i) ∙ ap (λ (o : BlockOutcome). o.samples) e,
           (

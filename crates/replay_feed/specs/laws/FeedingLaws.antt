@@ -16,7 +16,7 @@ use Rattle.rules.specs.Guard.{magnitude, usable_part, usable, guarded, Usable}
 use Rattle.rules.specs.Refusals.{unusable_at}
 use Rattle.chain_state.specs.declared.InputConditioner.{InputConditioner}
 use Rattle.chain.specs.Stages.{new_part, Machine, machine_of}
-use Rattle.chain.specs.Calls.{unread_refusal, told_unread, Outcome, taken_call, called}
+use Rattle.chain.specs.Calls.{unread_refusal, told_unread, Outcome, taken, called}
 use Rattle.chain.specs.laws.CallTests.{scan_all, passes, unread_declined, accepted_call}
 use Rattle.replay_format.specs.Format.{sample_size, words_in}
 use Rattle.replay_format.specs.laws.FormatLaws.{words_many}
@@ -116,9 +116,9 @@ module _ (c : InputConditioner) (bytes samples : List ℕ) (a k : ℕ) (held : a
         go (suc n) z = z
 
     -- a call that is taken
-    pub fed_taken : called (machine_of c spans repairs) (slice c bytes samples) ≡ taken_call (machine_of c spans repairs) (slice c bytes samples)
+    pub fed_taken : called (machine_of c spans repairs) (slice c bytes samples) ≡ taken (machine_of c spans repairs) (slice c bytes samples)
         → fed (machine_of c spans repairs) bytes samples
-        ≡ taken_block (machine_of c spans repairs) bytes samples (taken_call (machine_of c spans repairs) (slice c bytes samples))
+        ≡ taken_block (machine_of c spans repairs) bytes samples (taken (machine_of c spans repairs) (slice c bytes samples))
     unfolding fed
     fed_taken e =
         let m = machine_of c spans repairs in
@@ -126,7 +126,7 @@ module _ (c : InputConditioner) (bytes samples : List ℕ) (a k : ℕ) (held : a
 
     pub block_taken : unread_refusal c (a + k) spans repairs ≡ 0
         → fed (machine_of c spans repairs) bytes samples
-        ≡ taken_block (machine_of c spans repairs) bytes samples (taken_call (machine_of c spans repairs) (slice c bytes samples))
+        ≡ taken_block (machine_of c spans repairs) bytes samples (taken (machine_of c spans repairs) (slice c bytes samples))
     block_taken z =
         let part = new_part_lem (passes c (a + k) spans repairs z).held_in in
         let scan = scan_all c.counts.held (new_part c (slice c bytes samples)) (subst Usable (sym part) (guarded_usable (new_words c bytes samples))) in

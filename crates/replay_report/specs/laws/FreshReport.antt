@@ -9,7 +9,7 @@ use Rattle.std.proofs.Math.ListN.{length}
 use Rattle.rules.specs.Lists.{up_to}
 use Rattle.rules.specs.Guard.{guarded, unusable}
 use Rattle.rules.specs.Mode.{is_apply, runs}
-use Rattle.rules.specs.Impulse.{lookahead_size, Event, events, unclosed, happened, handed_on}
+use Rattle.rules.specs.Impulse.{lookahead_size, Event, events, happened, handed_on}
 use Rattle.rules.specs.Dc.{corner, first_level, level_after, blocked_all}
 use Rattle.rules.specs.Iq.{Settled, Off, Observing, Withheld, Correcting, corrected_by}
 use Rattle.rules.specs.Log.{Stage, impulse, dc, iq, Mark, Repaired, Flagged, Corrected, Uncertain, span_of, no_marks, mark, marked, marks_of, repaired, repairs_of}
@@ -24,7 +24,7 @@ use Rattle.replay_report.specs.Report.{rings_of, ring_by, report_text, report_by
 -- ---- the rules for no samples
 
 module _ (c : Config) where
-  no_events : impulse_events c (unclosed []) ≡ []
+  no_events : impulse_events c [] ≡ []
   unfolding impulse_events happened events
   no_events = go (runs c.impulse_mode)
     where
@@ -32,7 +32,7 @@ module _ (c : Config) where
       go true = refl
       go false = refl
 
-  none_handed : after_impulse c (unclosed []) ≡ []
+  none_handed : after_impulse c [] ≡ []
   unfolding after_impulse handed_on up_to
   none_handed = go (runs c.impulse_mode) (is_apply c.impulse_mode)
     where
@@ -41,7 +41,7 @@ module _ (c : Config) where
       go true false = refl
       go false b = refl
 
-  none_released : released c (unclosed []) ≡ []
+  none_released : released c [] ≡ []
   unfolding released after_dc blocked_all
   none_released =
       ap (λ (l : List ℕ). map (corrected_by (settled_by c)) (cond (is_apply c.dc_mode) (blocked_all (corner c.fs) first_level l) l)) none_handed
@@ -52,16 +52,16 @@ module _ (c : Config) where
       go false = refl
 
   -- a mark of all that was released
-  whole_none : marked c.spans (whole c (unclosed [])) ≡ no_marks c.spans
+  whole_none : marked c.spans (whole c []) ≡ no_marks c.spans
   unfolding marked mark
   whole_none = ap (λ (l : List ℕ). marked c.spans (span_of 0 (length l) ∷ [])) none_released
 
-  no_marks_lem : (s : Stage) (m : Mark) → ring_of c (unclosed []) [] s m ≡ no_marks c.spans
+  no_marks_lem : (s : Stage) (m : Mark) → ring_of c [] [] s m ≡ no_marks c.spans
   unfolding ring_of marked marks_of evidence answers suspected_spans
   no_marks_lem impulse m = ap (λ (es : List Event). marked c.spans (marks_of m es)) no_events
   no_marks_lem dc Corrected = go (is_apply c.dc_mode)
     where
-      go : (b : Bool) → marked c.spans (cond b (whole c (unclosed [])) []) ≡ no_marks c.spans
+      go : (b : Bool) → marked c.spans (cond b (whole c []) []) ≡ no_marks c.spans
       go true = whole_none
       go false = refl
   no_marks_lem dc Repaired = refl
@@ -69,7 +69,7 @@ module _ (c : Config) where
   no_marks_lem dc Uncertain = refl
   no_marks_lem iq m = go (settled_by c) m
     where
-      go : (x : Settled) (m : Mark) → marked c.spans (iq_marks c (unclosed []) (evidence c []) x m) ≡ no_marks c.spans
+      go : (x : Settled) (m : Mark) → marked c.spans (iq_marks c [] (evidence c []) x m) ≡ no_marks c.spans
       go (Correcting r) Corrected = whole_none
       go (Correcting r) Repaired = refl
       go (Correcting r) Flagged = refl
@@ -84,7 +84,7 @@ module _ (c : Config) where
       go Observing Uncertain = refl
       go Off m = refl
 
-  none_held : held_of c (unclosed []) ≡ 0
+  none_held : held_of c [] ≡ 0
   none_held = go (is_apply c.impulse_mode)
     where
       go : (b : Bool) → cond b (min lookahead_size 0) 0 ≡ 0

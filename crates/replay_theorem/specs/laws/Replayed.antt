@@ -22,7 +22,7 @@ use Rattle.rules.specs.Refusals.{first_of, too_many}
 use Rattle.rules.specs.Chain as rules
 use Rattle.rules.specs.Chain.{Config}
 use Rattle.rules.specs.Constants.{total_limit, span_limit}
-use Rattle.rules.specs.Impulse.{lookahead_size, Input, unclosed}
+use Rattle.rules.specs.Impulse.{lookahead_size}
 use Rattle.log.specs.Check.{ring_of, count_of, sum_to, spans_dropped, dropped_in_all}
 use Rattle.log.specs.laws.CheckLaws.{InRange, log_range}
 use Rattle.log.specs.View.{marks_at}
@@ -34,15 +34,17 @@ use Rattle.chain_config.specs.Config.{config_of, all_off, refusal}
 use Rattle.chain_state.specs.laws.FitsLaws.{state_groups}
 use Rattle.chain_make.specs.Making as making
 use Rattle.chain_make.specs.Making.{fresh_state, fresh_settings, nothing, made, making_said, made_words, numbered}
-use Rattle.chain.specs.Stages.{call_turn, Machine, machine_of, new_part, carried, process}
-use Rattle.chain.specs.Calls.{taken_call}
-use Rattle.one_record.specs.Lists.{Chain, more, made_chain, ByRules}
+use Rattle.chain.specs.Stages.{Machine, machine_of, new_part, process}
+use Rattle.chain.specs.Calls.{Outcome, taken}
+use Rattle.chain.specs.laws.CallTests.{taken_by, declined_by}
+use Rattle.amplitude_limit.specs.Limit.{returned}
+use Rattle.one_record.specs.Lists.{Chain, made_chain, ByRules}
 use Rattle.one_record.specs.laws.Made.{Fit, made_fit}
 use Rattle.one_record.specs.laws.Good.{state_good}
-use Rattle.one_record.specs.laws.Reaching.{core, chain_at, Reached, machine_turn, call_turns}
+use Rattle.one_record.specs.laws.Reaching.{core, chain_at, Reached, machine_more}
 use Rattle.one_record.specs.laws.Hopping.{with_hops}
 use Rattle.one_record.specs.laws.Fresh.{fresh_is, made_is}
-use Rattle.one_record.specs.laws.AtChain.{at_rules, at_few, spans_long, call_accepted, call_beyond}
+use Rattle.one_record.specs.laws.OneRecord.{at_rules, at_few, spans_long, call_accepted, call_beyond}
 use Rattle.replay_format.specs.Format.{header_fits, header_size, sample_size, config_in, words_in, samples_in, input_refusal, tail_refusal}
 use Rattle.replay_format.specs.laws.FormatLaws.{words_many, tail_by, bad_header_lem, good_header}
 use Rattle.replay_format.specs.laws.HeaderLaws.{said_where}
@@ -96,41 +98,37 @@ unfolding sum_to
 sum_most t b zero h = omega arith
 sum_most t b (suc n) h = let r = sum_most t b n (λ k l. h k (omega arith)) in let q = h n (omega arith) in let m = suc-mul n b in omega (arith, r, q, m)
 
--- the input that a recording brings: no document lets a replay close
-abbrev input : List ℕ → Input
-input raw = unclosed (guarded raw)
-
 -- ---- the report of the chain after samples is that of the rules
 
-module _ (g : ConditioningConfig) (f : Fit g) (raw : List ℕ) (r : Reached g (input raw) []) where
+module _ (g : ConditioningConfig) (f : Fit g) (raw : List ℕ) (r : Reached g (guarded raw) []) where
   abbrev chain : Chain
-  chain = chain_at g (input raw) []
+  chain = chain_at g (guarded raw) []
 
-  by : ByRules g (chain_at g (input raw) [])
-  by = at_rules g f (input raw) [] r
+  by : ByRules g (chain_at g (guarded raw) [])
+  by = at_rules g f (guarded raw) [] r
 
-  brought_is : (chain_at g (input raw) []).brought ≡ input raw
+  brought_is : (chain_at g (guarded raw) []).brought ≡ guarded raw
   unfolding chain_at
   brought_is = refl
 
-  hops_is : (chain_at g (input raw) []).hops ≡ []
+  hops_is : (chain_at g (guarded raw) []).hops ≡ []
   unfolding chain_at
   hops_is = refl
 
-  capacity_is : (chain_at g (input raw) []).machine.state.settings.spans ≡ g.spans
-  unfolding chain_at with_hops core carried fresh_state fresh_settings
+  capacity_is : (chain_at g (guarded raw) []).machine.state.settings.spans ≡ g.spans
+  unfolding chain_at with_hops core process fresh_state fresh_settings
   capacity_is = refl
 
   range : (k : ℕ) → k < 12
       → InRange chain.machine.state.settings.spans (ring_of chain.machine.state.notes.log k) (count_of chain.machine.state.notes.log k)
   range k h =
       log_range chain.machine.state.settings.spans chain.machine.state.notes.log k
-      (state_groups chain.machine.state (state_good g f (input raw) [] r)).log h
+      (state_groups chain.machine.state (state_good g f (guarded raw) [] r)).log h
 
   -- a ring's marks, as the log has them
   ring_is : (s : Stage) (m : Mark)
       → marks_at g.spans (record { log = chain.machine.state.notes.log; spans = chain.machine.spans }) (ring_number s m)
-      ≡ rules.ring_of (config_of g) (input raw) [] s m
+      ≡ rules.ring_of (config_of g) (guarded raw) [] s m
   ring_is s m = by.rings s m ∙ (λ i. rules.ring_of (config_of g) (brought_is i) (hops_is i) s m)
 
   spans_shown : (k : ℕ) → k < 12
@@ -144,13 +142,13 @@ module _ (g : ConditioningConfig) (f : Fit g) (raw : List ℕ) (r : Reached g (i
       λ i.
       cond
       ((lt-ltb 0 cap (omega (arith, capacity_is, f.limits.some_spans)) i && le-leb cap span_limit (omega (arith, capacity_is, f.limits.few_spans)) i
-      && eq-eqb (length chain.machine.spans) (store_width * cap) (spans_long g f (input raw) [] r) i)
+      && eq-eqb (length chain.machine.spans) (store_width * cap) (spans_long g f (guarded raw) [] r) i)
       && (lt-ltb (ring_of c.notes.log k).head cap t.head_in i && le-leb (ring_of c.notes.log k).count cap t.count_in i))
       (spans_of (capacity_is i) (marks_at (capacity_is i) (record { log = c.notes.log; spans = chain.machine.spans }) k).ring)
       []
 
   ring_shown : (s : Stage) (m : Mark) → ring_number s m < 12
-      → shown_ring chain.machine.state chain.machine.spans s m ≡ ring_by g.spans s m (rules.ring_of (config_of g) (input raw) [] s m)
+      → shown_ring chain.machine.state chain.machine.spans s m ≡ ring_by g.spans s m (rules.ring_of (config_of g) (guarded raw) [] s m)
   unfolding marks_at
   ring_shown s m h =
       λ i.
@@ -163,7 +161,7 @@ module _ (g : ConditioningConfig) (f : Fit g) (raw : List ℕ) (r : Reached g (i
 
   -- dropped spans
   drop_is : (s : Stage) (m : Mark)
-      → (ring_of chain.machine.state.notes.log (ring_number s m)).dropped ≡ (rules.ring_of (config_of g) (input raw) [] s m).ring.dropped
+      → (ring_of chain.machine.state.notes.log (ring_number s m)).dropped ≡ (rules.ring_of (config_of g) (guarded raw) [] s m).ring.dropped
   unfolding marks_at
   drop_is s m = ap (λ (x : Marks). x.ring.dropped) (ring_is s m)
 
@@ -171,7 +169,7 @@ module _ (g : ConditioningConfig) (f : Fit g) (raw : List ℕ) (r : Reached g (i
   few = sum_most (λ k. (ring_of chain.machine.state.notes.log k).dropped) (2 ^ 52) 12 (λ k h. (range k h).dropped)
 
   sum_is : sum_to (λ k. (ring_of chain.machine.state.notes.log k).dropped) 12
-      ≡ sum ◌+◌ 0 (rings_of (λ s m. (rules.ring_of (config_of g) (input raw) [] s m).ring.dropped))
+      ≡ sum ◌+◌ 0 (rings_of (λ s m. (rules.ring_of (config_of g) (guarded raw) [] s m).ring.dropped))
   unfolding sum_to sum
   sum_is =
       omega (
@@ -190,7 +188,7 @@ module _ (g : ConditioningConfig) (f : Fit g) (raw : List ℕ) (r : Reached g (i
         drop_is iq Uncertain,
       )
 
-  drops_are : dropped_in_all chain.machine.state.notes.log ≡ sum ◌+◌ 0 (rings_of (λ s m. (rules.ring_of (config_of g) (input raw) [] s m).ring.dropped))
+  drops_are : dropped_in_all chain.machine.state.notes.log ≡ sum ◌+◌ 0 (rings_of (λ s m. (rules.ring_of (config_of g) (guarded raw) [] s m).ring.dropped))
   unfolding spans_dropped
   drops_are = min-eq_left (let q : sum_to (λ k. (ring_of chain.machine.state.notes.log k).dropped) 12 ≤ 2 ^ 64 - 1 = omega (arith, few) in q) ∙ sum_is
 
@@ -200,7 +198,7 @@ module _ (g : ConditioningConfig) (f : Fit g) (raw : List ℕ) (r : Reached g (i
       λ i.
       record {
         replaced = unusable raw;
-        seen = (by.seen ∙ ap (λ (x : Input). length x.samples) brought_is) i;
+        seen = (by.seen ∙ ap length brought_is) i;
         final = (by.count ∙ ap length (by.released ∙ ap (rules.released (config_of g)) brought_is)) i;
         held = (by.held ∙ ap (rules.held_of (config_of g)) brought_is) i;
         rings =
@@ -223,15 +221,15 @@ module _ (g : ConditioningConfig) (f : Fit g) where
   abbrev some : 0 < g.spans
   some = f.limits.some_spans
 
-  module _ (raw : List ℕ) (r : Reached g (input raw) []) (b : Block) (t : Fits b) where
+  module _ (raw : List ℕ) (r : Reached g (guarded raw) []) (b : Block) (t : Fits b) where
     abbrev machine : Machine
-    machine = (chain_at g (input raw) []).machine
+    machine = (chain_at g (guarded raw) []).machine
 
     abbrev words : List ℕ
     words = words_in b.bytes
 
     held_few : machine.state.counts.held ≤ lookahead_size
-    held_few = at_few g f (input raw) [] r
+    held_few = at_few g f (guarded raw) [] r
 
     held_all : held_in machine.state b.store ≡ machine.state.counts.held
     held_all = omega (arith, held_few, t.room)
@@ -260,23 +258,20 @@ module _ (g : ConditioningConfig) (f : Fit g) where
 
     -- up to 2^48 samples in all the chain goes on with them
     fed_on : length raw + length (words_in b.bytes) ≤ total_limit
-        → (fed (chain_at g (input raw) []).machine b.bytes b.store
-        ≡ taken_block (chain_at g (input raw) []).machine b.bytes b.store
-        (taken_call (chain_at g (input raw) []).machine (slice machine.state b.bytes b.store)))
-        × ((process (chain_at g (input raw) []).machine (new_part machine.state (slice machine.state b.bytes b.store))
-        ≡ (chain_at g (input (raw ++ words_in b.bytes)) []).machine)
-        × Reached g (input (raw ++ words_in b.bytes)) [])
+        → (fed (chain_at g (guarded raw) []).machine b.bytes b.store
+        ≡ taken_block (chain_at g (guarded raw) []).machine b.bytes b.store
+        (taken (chain_at g (guarded raw) []).machine (slice machine.state b.bytes b.store)))
+        × ((process (chain_at g (guarded raw) []).machine (new_part machine.state (slice machine.state b.bytes b.store))
+        ≡ (chain_at g (guarded (raw ++ words_in b.bytes)) []).machine)
+        × Reached g (guarded (raw ++ words_in b.bytes)) [])
     fed_on h =
-        let none = call_accepted g f (input raw) [] r refl part held_in_lem all_usable (omega (arith, guarded_count raw, new_count, h)) in
+        let none = call_accepted g f (guarded raw) [] r part held_in_lem all_usable (omega (arith, guarded_count raw, new_count, h)) in
         let joined : guarded raw ++ new_part machine.state part ≡ guarded (raw ++ words) = ap (λ (l : List ℕ). guarded raw ++ l) new_part_lem
         ∙ sym (guarded_append raw words) in (
           fed_taken machine.state b.bytes b.store _ _ refl refl machine.spans machine.repairs
-              none,
+              (taken_by machine.state part machine.spans machine.repairs none),
           (
-            machine_turn g some (input raw) (more (input raw) (new_part machine.state part)) []
-                (call_turn machine.state (new_part machine.state part)) refl
-                (call_turns g some (input raw) [] refl (new_part machine.state part))
-                ∙ ap (λ (l : List ℕ). (chain_at g (unclosed l) []).machine) joined,
+            machine_more g some (guarded raw) (new_part machine.state part) [] ∙ ap (λ (l : List ℕ). (chain_at g l []).machine) joined,
             record {
               usable = guarded_usable (raw ++ words);
               few = omega (arith, guarded_count (raw ++ words), length-append raw words, h);
@@ -289,8 +284,12 @@ module _ (g : ConditioningConfig) (f : Fit g) where
 
     -- and above that it meets number 8
     fed_beyond : total_limit < length raw + length (words_in b.bytes)
-        → (fed (chain_at g (input raw) []).machine b.bytes b.store).said ≡ refused (8 ∷ [])
-    fed_beyond h = fed_said machine b.bytes b.store ∙ call_beyond g f (input raw) [] r refl part held_in_lem (omega (arith, guarded_count raw, new_count, h))
+        → (fed (chain_at g (guarded raw) []).machine b.bytes b.store).said ≡ refused (8 ∷ [])
+    unfolding returned
+    fed_beyond h =
+        let eight = call_beyond g f (guarded raw) [] r part held_in_lem all_usable (omega (arith, guarded_count raw, new_count, h)) in
+        fed_said machine b.bytes b.store
+        ∙ ap (λ (o : Outcome). o.said) (declined_by machine.state part machine.spans machine.repairs 8 eight refl)
 
   -- ---- all blocks
 
@@ -315,8 +314,8 @@ module _ (g : ConditioningConfig) (f : Fit g) where
   unfolding first_of
   total_beyond raw h = ap (λ (b : Bool). text_unless (cond b 8 0) (report_text (report_by (config_of g) raw))) (lt-ltb total_limit (0 + length raw) (omega arith))
 
-  played_is : (raw : List ℕ) → Reached g (input raw) [] → (bs : List Block) → Read bs
-      → played (chain_at g (input raw) []).machine (unusable raw) bs ≡ told (raw ++ words_in (joined bs))
+  played_is : (raw : List ℕ) → Reached g (guarded raw) [] → (bs : List Block) → Read bs
+      → played (chain_at g (guarded raw) []).machine (unusable raw) bs ≡ told (raw ++ words_in (joined bs))
   unfolding played
   played_is raw r [] t =
       ap report_text (report_is g f raw r)
@@ -331,13 +330,13 @@ module _ (g : ConditioningConfig) (f : Fit g) where
       all_is : raw ++ words_in (joined (b ∷ bs)) ≡ (raw ++ words_in b.bytes) ++ words_in (joined bs)
       all_is = ap (λ (l : List ℕ). raw ++ l) (blocks_append b bs t) ∙ sym (append_assoc raw (words_in b.bytes) (words_in (joined bs)))
 
-      go : (Reached g (input (raw ++ words_in b.bytes)) []
-          → played (chain_at g (input (raw ++ words_in b.bytes)) []).machine (unusable (raw ++ words_in b.bytes)) bs
+      go : (Reached g (guarded (raw ++ words_in b.bytes)) []
+          → played (chain_at g (guarded (raw ++ words_in b.bytes)) []).machine (unusable (raw ++ words_in b.bytes)) bs
           ≡ told ((raw ++ words_in b.bytes) ++ words_in (joined bs)))
           → Dec (total_limit < length raw + length (words_in b.bytes))
-          → played (chain_at g (input raw) []).machine (unusable raw) (b ∷ bs) ≡ told (raw ++ words_in (joined (b ∷ bs)))
+          → played (chain_at g (guarded raw) []).machine (unusable raw) (b ∷ bs) ≡ told (raw ++ words_in (joined (b ∷ bs)))
       go rest (yes h) =
-          let o = fed (chain_at g (input raw) []).machine b.bytes b.store in
+          let o = fed (chain_at g (guarded raw) []).machine b.bytes b.store in
           ap (λ (s : Said ℕ). after_call s (played o.machine (unusable raw + o.replaced) bs)) (fed_beyond raw r b fits h)
           ∙ sym (ap told all_is
           ∙ total_beyond ((raw ++ words_in b.bytes) ++ words_in (joined bs))
@@ -360,7 +359,7 @@ module _ (g : ConditioningConfig) (spans repairs : List ℕ) (words : List Float
   made_text_lem : (bs : List Block) → Read bs → played (made_chain g spans repairs words).machine 0 bs ≡ told g fit (words_in (joined bs))
   unfolding guarded unusable
   made_text_lem bs t =
-      let z : Reached g (unclosed []) [] = record { usable = tt; few = omega arith; order = tt; watching = λ q. refl } in
+      let z : Reached g [] [] = record { usable = tt; few = omega arith; order = tt; watching = λ q. refl } in
       ap (λ (y : Chain). played y.machine 0 bs) (made_is g spans repairs words e ∙ fresh_is g fit.limits.some_spans) ∙ played_is g fit [] z bs t
 
 -- ---- THE THEOREM

@@ -1,8 +1,8 @@
 -- The impulse rules from a list of flags that is at hand, so that a closed case works each flag out once. Assumes nothing.
-use Rattle.std.specs.Prelude.{◌≡◌, ◌&&◌, eqb}
+use Rattle.std.specs.Prelude.{◌≡◌, Bool, ◌&&◌, eqb}
 use Rattle.std.proofs.Math.Path.{refl, sym, ap}
 use Rattle.std.proofs.Common.{◌∙◌, add_comm, add-one, eqb→eq}
-use Rattle.std.proofs.Math.Bool.{Bool, true, false, cond}
+use Rattle.std.proofs.Math.Bool.{true, false, cond}
 use mathlib.Core.List.{List, [], ◌∷◌, ◌++◌, map}
 use Prim.Native.Nat.{ℕ, zero, suc, ◌+◌, ◌*◌, ◌-◌, ◌/◌, ◌≤◌, ◌<◌}
 use Rattle.std.proofs.Math.Nat.{div-mul-le_self}
@@ -13,8 +13,8 @@ use Rattle.std.proofs.Math.ListN.{length, get_or, take, drop}
 use Rattle.std.proofs.Math.Seq.{drop-drop, get_or-drop}
 use Rattle.rules.specs.Lists.{at, up_to}
 use Rattle.rules.specs.Pauses.{Edition, paused}
-use Rattle.rules.specs.Impulse.{Setting, power_of, reference, stands_out, flagged, judged, before, events_at, events, value, Input, unclosed, judged_in}
-use Rattle.rules.specs.Impulse.{paused_in, last_run, happened, released_in, handed_on}
+use Rattle.rules.specs.Impulse.{Setting, lookahead, power_of, reference, stands_out, flagged, judged, before, events_at, events, happened, value, handed_on}
+use Rattle.rules.specs.Impulse.{paused_in}
 use Rattle.rules.specs.laws.Runs.{before_le}
 use Rattle.rules.specs.laws.Prefix.{before_same, paused_same, touches_same, value_same}
 
@@ -30,25 +30,22 @@ from_at f (suc n) j zero d h = let e : j ≡ j + 0 = omega arith in ap f e
 from_at f (suc n) j (suc i) d h = let e : suc j + i ≡ j + suc i = omega arith in from_at f n (suc j) i d (omega arith) ∙ ap f e
 
 -- the flags of all that is judged
-unfoldable pub flags_of : Setting → Input → List Bool
-flags_of s i = from (flagged s i.samples) (judged_in s i) 0
+unfoldable pub flags_of : Setting → List ℕ → List Bool
+flags_of s xs = from (flagged s xs) (judged s (length xs)) 0
 
 abbrev pub look : List Bool → ℕ → Bool
 look fl j = get_or fl j false
 
 -- G gives the flags
-module _ (s : Setting) (E : ℕ → Edition) (i : Input) (G : ℕ → Bool) (known : flags_of s i ≡ from G (judged_in s i) 0) where
-  abbrev xs : List ℕ
-  xs = i.samples
-
+module _ (s : Setting) (E : ℕ → Edition) (xs : List ℕ) (G : ℕ → Bool) (known : flags_of s xs ≡ from G (judged s (length xs)) 0) where
   abbrev J : ℕ
-  J = judged_in s i
+  J = judged s (length xs)
 
-  agree : (k : ℕ) → k < J → flagged s xs k ≡ G k
+  agree : (i : ℕ) → i < J → flagged s xs i ≡ G i
   unfolding flags_of
-  agree k h =
-      let e : 0 + k ≡ k = omega arith in
-      sym (from_at (flagged s xs) J 0 k false h ∙ ap (flagged s xs) e) ∙ ap (λ (l : List Bool). get_or l k false) known ∙ from_at G J 0 k false h ∙ ap G e
+  agree i h =
+      let e : 0 + i ≡ i = omega arith in
+      sym (from_at (flagged s xs) J 0 i false h ∙ ap (flagged s xs) e) ∙ ap (λ (l : List Bool). get_or l i false) known ∙ from_at G J 0 i false h ∙ ap G e
 
   abbrev P : ℕ → Bool
   P = paused_in s E xs
@@ -74,31 +71,18 @@ module _ (s : Setting) (E : ℕ → Edition) (i : Input) (G : ℕ → Bool) (kno
         paused_agree (j / s.block) (omega arith),
       )
 
-  pub happened_by : happened s E i ≡ (let es = events s G Q xs J in cond i.closed (es ++ last_run s G (length xs)) es)
-  unfolding happened last_run
-  happened_by = go i.closed refl
-    where
-      F : ℕ → Bool
-      F = flagged s xs
-
-      n : ℕ
-      n = length xs
-
-      go : (c : Bool) → i.closed ≡ c
-          → (let es = events s F P xs J in cond c (es ++ last_run s F n) es) ≡ (let es = events s G Q xs J in cond c (es ++ last_run s G n) es)
-      go true e =
-          let all : J ≡ n = ap (λ (c : Bool). cond c n (judged s n)) e in
-          rw (events_same J (omega arith), before_same s F G J agree n (omega arith))
-      go false e = events_same J (omega arith)
+  pub happened_by : happened s E xs ≡ events s G Q xs J
+  unfolding happened
+  happened_by = events_same J (omega arith)
 
   values : (n : ℕ) → up_to (value s (flagged s xs) P xs J) n ≡ up_to (value s G Q xs J) n
   unfolding up_to
   values zero = refl
-  values (suc n) = rw (values n, value_same s (flagged s xs) G P Q xs xs J agree paused_agree (λ k h. refl) J n (omega arith) refl)
+  values (suc n) = rw (values n, value_same s (flagged s xs) G P Q xs xs J agree paused_agree (λ i h. refl) J n (omega arith) refl)
 
-  pub handed_by : handed_on s E i ≡ cond s.apply (up_to (value s G Q xs J) (released_in s i)) xs
+  pub handed_by : handed_on s E xs ≡ cond s.apply (up_to (value s G Q xs J) (length xs - lookahead s)) xs
   unfolding handed_on
-  handed_by = ap (λ (l : List ℕ). cond s.apply l xs) (values (released_in s i))
+  handed_by = ap (λ (l : List ℕ). cond s.apply l xs) (values (length xs - lookahead s))
 
 -- ---- a quicker way to the same flags: where a sample and its window are those of the sample before, so is the answer
 
@@ -199,7 +183,7 @@ module _ (s : Setting) where
   unfolding slide again answer same_all from
   quickFlags xs = from (flagged s xs) s.half 0 ++ slide (length xs - (s.half + s.half)) xs [] 0 (answer s [] 0)
 
-  pub quick_flags : (xs : List ℕ) → s.half + s.half ≤ length xs → flags_of s (unclosed xs) ≡ quickFlags xs
+  pub quick_flags : (xs : List ℕ) → s.half + s.half ≤ length xs → flags_of s xs ≡ quickFlags xs
   unfolding flags_of quickFlags
   quick_flags xs g =
       let h = s.half in

@@ -10,7 +10,7 @@ use Rattle.rules.specs.Sort.{insert, sort}
 use Rattle.rules.specs.Guard.{magnitude, usable_part, usable, first_unusable_from, guarded, unusable}
 use Rattle.rules.specs.Pauses.{above_entry, within_exit, paused}
 use Rattle.rules.specs.Impulse.{power_of, reference, stands_out, flagged, before, touches, mends, between, mended_at, value, events_at, events}
-use Rattle.rules.specs.Impulse.{last_run, happened, handed_on}
+use Rattle.rules.specs.Impulse.{happened, handed_on}
 use Rattle.rules.specs.Dc.{corner, blocked, weight, clamps, clamped, advanced, stepped, level_after, blocked_all, clamped_steps, restored, restored_all}
 use Rattle.rules.specs.Iq.{sine_series, sine, cosine_series, cosine, turned, coefficient, accepted, centres_agree, settled, corrected, uncorrected}
 use Rattle.rules.specs.Log.{write, roomed, append, joins, lengthened, mark, marked, repair_words, repaired, marks_of, repairs_of, long_runs}
@@ -28,8 +28,7 @@ unfolding magnitude usable_part usable first_unusable_from guarded unusable
 guard_rules = tt
 
 unfoldable pub impulse_rules : Unit {0}
-unfolding up_to count insert sort power_of reference stands_out flagged before above_entry within_exit paused touches mends between mended_at value events_at events
-    last_run happened handed_on
+unfolding up_to count insert sort power_of reference stands_out flagged before above_entry within_exit paused touches mends between mended_at value events_at events happened handed_on
 impulse_rules = tt
 
 unfoldable pub dc_rules : Unit {0}

@@ -25,9 +25,6 @@ enum-told-3 c = search rules
 enum-told-4 : tie.Need-enum-told-4
 enum-told-4 c = search rules
 
-enum-told-5 : tie.Need-enum-told-5
-enum-told-5 c = search rules
-
 enum-known-answer-2 : tie.Need-enum-known-answer-2
 enum-known-answer-2 c = search rules
 
@@ -50,10 +47,7 @@ returns-5 : tie.Need-returns-5
 returns-5 c = search rules
 
 returns-6 : tie.Need-returns-6
-returns-6 c = search rules
-
-returns-7 : tie.Need-returns-7
-returns-7 c = ap (λ (x : Conditioned). out_after c.before.before.before.args.out.now (said x)) (sym c.before.answer2.given.1)
+returns-6 c = ap (λ (x : Conditioned). out_after c.before.before.before.args.out.now (said x)) (sym c.before.answer2.given.1)
 
 pub tell-call-spec : {M : Type 1} → statement M
 tell-call-spec =
@@ -65,7 +59,6 @@ tell-call-spec =
     enum-told-2
     enum-told-3
     enum-told-4
-    enum-told-5
     enum-known-answer-2
     element-write-out-2
     returns
@@ -73,5 +66,4 @@ tell-call-spec =
     returns-3
     returns-4
     returns-5
-    returns-6
-    returns-7)
+    returns-6)

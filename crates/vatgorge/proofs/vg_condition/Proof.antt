@@ -5,9 +5,14 @@ use lib.Dec.{eqb}
 use lib.ListN.{length}
 use borrow.Author.Rules.{rules}
 use borrow.Author.Tests.{ne_eqb}
-use Rattle.chain.specs.Calls.{unread_refusal, called}
+use Rattle.chain_state.specs.declared.InputConditioner.{InputConditioner}
+use Rattle.chain.specs.Calls.{Outcome, unread_refusal, called}
 use Rattle.chain.specs.laws.CallTests.{told_number, passes, unread_declined, read_declined, read_accepted}
-use Rattle.vatgorge.specs.laws.CallAfter.{unread_after, declined_after, accepted_after}
+use Rattle.chain.specs.Stages.{machine_of}
+use Rattle.rules.specs.Answers.{number_of}
+use Rattle.vatgorge.specs.laws.CallAfter.{unread_after, declined_after}
+use Rattle.vatgorge.specs.Condition.{out_after}
+use Rattle.vatgorge.specs.Codes.{words_after}
 use Rattle.vatgorge.proofs.vg_condition.Statement.{statement}
 use Rattle.vatgorge.proofs.vg_condition.Tie as tie
 
@@ -40,9 +45,10 @@ returns c =
     let repairs = a.repairs.now in
     let n = unread_refusal r.result (length xs) spans repairs in
     let code = told_number n _ _ c.before.before.refusal.ensures c.before.number.ensures in
-    let some = ne_eqb _ _ c.if1.true in
-    let declined = unread_declined r.result xs spans repairs n refl (ap (λ (k : ℕ). eqb k 0) code ∙ some) in
-    unread_after called a.state.now xs spans repairs a.out.now r.ensures n _ code some declined
+    let some = ap (λ (k : ℕ). eqb k 0) code ∙ ne_eqb _ _ c.if1.true in
+    let declined = unread_declined r.result xs spans repairs n refl some in
+    let left = unread_after a.state.now xs spans repairs a.out.now r.ensures n some declined in
+    ((λ i. record { code = sym code i; state = a.state.now; samples = xs; spans = spans; repairs = repairs; out = a.out.now }) ∙ left.0, left.1)
 
 unusable-requires : tie.Need-unusable-requires
 unusable-requires c κs =
@@ -76,7 +82,7 @@ returns-2 c =
     let told = c.before.before.before.before.unusable.ensures in
     let some = ap (λ (k : ℕ). eqb k 0) (sym code) ∙ ne_eqb _ _ c.before.before.if2.true in
     let declined = read_declined r.result xs spans repairs (none c.before.before.before.before.before.before) _ told some in
-    let left = declined_after called a.state.now xs spans repairs a.out.now r.ensures _ some declined in
+    let left = declined_after a.state.now xs spans repairs a.out.now r.ensures _ some declined in
     let out = c.tell-call.ensures in
     ((λ i. record { code = code i; state = a.state.now; samples = xs; spans = spans; repairs = repairs; out = out i }) ∙ left.0, left.1)
 
@@ -108,12 +114,19 @@ returns-3 c =
     let repairs = a.repairs.now in
     let fine = sym tested.before.number2.ensures ∙ tested.if2.false in
     let taken = read_accepted r.result xs spans repairs (none tested.before.before.before.before) _ tested.before.before.unusable.ensures fine in
-    let o = c.before.before.before.before.before.before.before.before.before.before.before.accept in
-    let kept = c.write-state in
-    let told = c.before.before.before.tell-call2 in
-    accepted_after called a.state.now xs spans repairs a.out.now r.ensures _ taken refl _ o.result.state _ _ _ o.ensures _ _
-    kept.ensures.0
-    kept.ensures.1 told.ensures
+    let e = sym taken ∙ ap (λ (s : InputConditioner). called (machine_of s spans repairs) xs) r.ensures in
+    let o = c.before.before.before.before.before.before.before.before.before.before.before.accept.ensures in
+    let kept = c.write-state.ensures in
+    let told = o.0 ∙ ap (λ (p : Outcome). p.said) e in
+    let chain = o.1.0 ∙ ap (λ (p : Outcome). p.machine) e in
+    let written = o.1.1 ∙ ap (λ (p : Outcome). p.samples) e in
+    let code = ap number_of (sym o.0 ∙ told) in
+    let words = kept.0 ∙ (λ i. words_after (code i) a.state.now (chain i).state) in
+    let out = c.before.before.before.tell-call2.ensures ∙ ap (out_after a.out.now) told in
+    let next = kept.1 ∙ (λ i. (chain i).state) in (
+      λ i. record { code = code i; state = words i; samples = written i; spans = (chain i).spans; repairs = (chain i).repairs; out = out i },
+      λ i. machine_of (next i) (chain i).spans (chain i).repairs,
+    )
 
 pub vg-condition-spec : {M : Type 1} → statement M
 vg-condition-spec =

@@ -23,10 +23,10 @@ counts-fit-requires c κs = search rules
 
 -- the counts by the answer t
 counts : (c : tie.After-counts-fit) (t : Bool) → c.counts_fit_lem.result ≡ t
-    → let s = c.before.before.before.before.before.before.before.before.args.self in counts_fit (applies s) s.closed s.counts ≡ t
+    → let s = c.before.before.before.before.before.before.before.before.args.self in counts_fit (applies s) s.counts ≡ t
 counts c t e =
     let s = c.before.before.before.before.before.before.before.before.args.self in
-    sym (c.counts_fit_lem.ensures ∙ ap (λ (b : Bool). counts_fit b s.closed s.counts) c.before.applies.ensures) ∙ e
+    sym (c.counts_fit_lem.ensures ∙ ap (λ (b : Bool). counts_fit b s.counts) c.before.applies.ensures) ∙ e
 
 returns-2 : tie.Need-returns-2
 unfolding front_fits

@@ -17,7 +17,7 @@ returns : tie.Need-returns
 returns c = search rules
 
 close-requires : tie.Need-close-requires
-close-requires c κs = subst (λ (o : Open). run_end o ≤ 2 ^ 53) c.before.before.run.given.1 c.before.before.before.before.before.requires
+close-requires c κs = subst (λ (o : Open). run_end o ≤ 2 ^ 52) c.before.before.run.given.1 c.before.before.before.before.before.requires
 
 returns-2 : tie.Need-returns-2
 returns-2 c = let r = c.before.before.before.run.given.1 in (simp (r, c.close.ensures.0), simp (r, c.close.ensures.1))

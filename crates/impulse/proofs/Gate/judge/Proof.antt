@@ -7,7 +7,7 @@ use Prim.Native.Nat.{ℕ, ◌-◌, ◌≤◌, ◌^◌}
 use native.Mathlib.Omega.{arith}
 use lib.Ieee.{Float}
 use borrow.Author.Rules.{rules}
-use Rattle.rules.specs.Impulse.{Setting, width}
+use Rattle.rules.specs.Impulse.{Setting, width, window_size, trim_size}
 use Rattle.impulse.specs.declared.Mending.{Mending}
 use Rattle.impulse.specs.declared.Gate.{Gate}
 use Rattle.impulse.specs.Room.{run_end}
@@ -18,23 +18,27 @@ use Rattle.impulse.proofs.Gate.judge.Statement.{statement}
 use Rattle.impulse.proofs.Gate.judge.Tie as tie
 
 -- judging by the flag that is found
-by_flag : (s : Setting) (g : Gate) (j n : ℕ) (p : Float) (sorted : List Float) (l : List ℕ) (b : Bool)
-    → b ≡ flagged_by (width s) s.trim n sorted p → judge s g j n p sorted l ≡ decided s (entered g j) j l b
+by_flag : (s : Setting) (g : Gate) (j : ℕ) (p : Float) (sorted : List Float) (l : List ℕ) (b : Bool)
+    → b ≡ flagged_by (width s) s.trim (entered g j).received sorted p → judge s g j p sorted l ≡ decided s (entered g j) j l b
 unfolding judge
-by_flag s g j n p sorted l b e = ap (decided s (entered g j) j l) (sym e)
+by_flag s g j p sorted l b e = ap (decided s (entered g j) j l) (sym e)
 
 -- what is asked of the gate, in the block of j
-keeps_run : (g h : Gate) (j : ℕ) → h ≡ entered g j → run_end g.mending.run ≤ 2 ^ 53 → run_end h.mending.run ≤ 2 ^ 53
-keeps_run g h j e r = subst (λ (x : Mending). run_end x.run ≤ 2 ^ 53) (sym (ap (λ (x : Gate). x.mending) e ∙ (entered_keeps g j).mending)) r
+keeps_run : (g h : Gate) (j : ℕ) → h ≡ entered g j → run_end g.mending.run ≤ 2 ^ 52 → run_end h.mending.run ≤ 2 ^ 52
+keeps_run g h j e r = subst (λ (x : Mending). run_end x.run ≤ 2 ^ 52) (sym (ap (λ (x : Gate). x.mending) e ∙ (entered_keeps g j).mending)) r
 
-keeps_flagged : (g h : Gate) (j : ℕ) → h ≡ entered g j → g.block.flagged ≤ 2 ^ 54 → h.block.flagged ≤ 2 ^ 54
+keeps_flagged : (g h : Gate) (j : ℕ) → h ≡ entered g j → g.block.flagged ≤ 2 ^ 53 → h.block.flagged ≤ 2 ^ 53
 keeps_flagged g h j e r = let q = ap (λ (x : Gate). x.block.flagged) e in omega (arith, (entered_keeps g j).flagged)
+
+keeps_received : (g h : Gate) (j : ℕ) → h ≡ entered g j → trim_size ≤ g.received → trim_size ≤ h.received
+keeps_received g h j e r = let q = ap (λ (x : Gate). x.received) e in omega (arith, (entered_keeps g j).received)
 
 entered-requires : tie.Need-entered-requires
 entered-requires c κs = search rules
 
 is-flagged-requires : tie.Need-is-flagged-requires
-is-flagged-requires c κs = search rules
+is-flagged-requires c κs = let a = c.before.args in
+    ((keeps_received a.self c.entered.result a.j c.entered.ensures (search rules), search rules), c.before.requires.1)
 
 grown-requires : tie.Need-grown-requires
 grown-requires c κs = let a = c.before.before.before.before.args in
@@ -48,8 +52,9 @@ returns : tie.Need-returns
 returns c =
     let a = c.before.before.before.before.before.before.args in
     let e = c.before.before.before.before.before.entered.ensures in
-    let f = sym c.before.before.before.if1.true ∙ c.before.before.before.before.is-flagged.ensures in
-    let d = sym (by_flag (setting_of a.self) a.self a.j a.n a.p a.sorted.now a.pending.now true f) in
+    let f = sym c.before.before.before.if1.true ∙ c.before.before.before.before.is-flagged.ensures
+    ∙ ap (λ (x : Gate). flagged_by window_size trim_size x.received a.sorted.now a.p) e in
+    let d = sym (by_flag (setting_of a.self) a.self a.j a.p a.sorted.now a.pending.now true f) in
     (simp (c.with-run.ensures, c.before.grown.ensures, e) (ap judged_of d), ap (λ (x : Judgement). x.pending) d)
 
 rem-place : tie.Need-nonzero-rem-place
@@ -73,8 +78,9 @@ returns-2 c =
     let a = c.before.before.before.before.before.before.before.args in
     let e = c.before.before.before.before.before.before.entered.ensures in
     let t = entered_setting a.self a.j in
-    let f = sym c.before.before.before.before.if1.false ∙ c.before.before.before.before.before.is-flagged.ensures in
-    let d = sym (by_flag (setting_of a.self) a.self a.j a.n a.p a.sorted.now a.pending.now false f) in (
+    let f = sym c.before.before.before.before.if1.false ∙ c.before.before.before.before.before.is-flagged.ensures
+    ∙ ap (λ (x : Gate). flagged_by window_size trim_size x.received a.sorted.now a.p) e in
+    let d = sym (by_flag (setting_of a.self) a.self a.j a.p a.sorted.now a.pending.now false f) in (
       simp (c.with-neighbour.ensures, c.before.ending.ensures.0, e, t) (ap judged_of d),
       simp (c.before.ending.ensures.1, e, t) (ap (λ (x : Judgement). x.pending) d),
     )

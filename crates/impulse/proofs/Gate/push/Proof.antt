@@ -37,7 +37,7 @@ verdict-requires c κs =
         omega (arith, ap (λ (x : Gate). x.settings.blocklen) g),
         omega (arith, ap (λ (x : Gate). x.received) g),
         omega (arith, ap (λ (x : Gate). x.block.flagged) g),
-        subst (λ (x : Gate). run_end x.mending.run ≤ 2 ^ 53) (sym g) (omega arith),
+        subst (λ (x : Gate). run_end x.mending.run ≤ 2 ^ 52) (sym g) (omega arith),
         ap length t.1.0 ∙ n,
       ),
       t.1.1,

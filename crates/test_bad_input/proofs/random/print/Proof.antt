@@ -4,10 +4,10 @@ use Rattle.test_bad_input.proofs.random.print.Statement.{statement}
 use Rattle.test_bad_input.proofs.random.print.Tie as tie
 
 abbrev invariant_loop : tie.invariant_loop
-invariant_loop counts k₀ k = k ≤ 512
+invariant_loop counts k₀ k = k ≤ 384
 
 abbrev decreases_loop : tie.decreases_loop
-decreases_loop counts k₀ k = 512 - k
+decreases_loop counts k₀ k = 384 - k
 
 loop-holds : tie.Need-loop-init invariant_loop decreases_loop
 loop-holds c = search rules
