@@ -13,15 +13,15 @@ use lib.Ieee.Fits.{and_i, and_l, and_r}
 use lib.Ieee.Exact.{odd_sign}
 use borrow.Author.Tests.{ltb-true, ltb-false}
 use Rattle.ieee.specs.Bound.{Within}
-use Rattle.ieee.specs.laws.Bounds.{within_of_value}
+use Rattle.ieee.proofs.laws.Bounds.{within_of_value}
 use Rattle.complex.specs.Complex.{sample_of}
 use Rattle.rules.specs.Constants.{part_limit}
 use Rattle.rules.specs.Guard.{magnitude}
-use Rattle.rules.specs.laws.SizeLaws.{part_limited}
+use Rattle.rules.proofs.laws.SizeLaws.{part_limited}
 use Rattle.rules.specs.Refusals.{within_limit, first_beyond_from}
 use Rattle.rules.specs.Lists.{all_of, All}
 use Rattle.amplitude_limit.specs.Limit.{under}
-use Rattle.amplitude_limit.specs.laws.LimitLaws.{parts_under, scan_within}
+use Rattle.amplitude_limit.proofs.laws.LimitLaws.{parts_under, scan_within}
 
 -- ---- a part: sign s, exponent's field e and digits t
 

@@ -1,5 +1,6 @@
 // Document 01's limit on the parts of a hop's channels and of samples that are undone, 1e18: the
 // cause of number 7 there. And a limit on the parts' patterns, for many samples at once.
+#![tactic(auto)]
 
 ghost use Rattle.std.specs.Prelude.{◌≡◌, ◌^◌, ◌<◌};
 ghost use Rattle.rules.specs.Refusals.{within_limit, first_beyond_from};

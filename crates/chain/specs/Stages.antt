@@ -6,9 +6,9 @@ use Rattle.rules.specs.Mode.{Mode, off, observe, apply}
 use Rattle.rules.specs.Log as rules
 use Rattle.rules.specs.Log.{Span, span_of, ring_number, dc, iq, Corrected, Uncertain, repair_width, store_width}
 use Rattle.rules.specs.Constants.{total_limit}
-use Rattle.log.specs.declared.Notes.{Notes}
-use Rattle.log.specs.View.{Logged, bare, marked_at}
-use Rattle.log.specs.Check.{ends_fit}
+use Rattle.stage_log.specs.declared.Notes.{Notes}
+use Rattle.stage_log.specs.View.{Logged, bare, marked_at}
+use Rattle.stage_log.specs.Check.{ends_fit}
 use Rattle.impulse.specs.declared.ImpulseSuppressor.{ImpulseSuppressor}
 use Rattle.impulse.specs.Machine.{setting_of}
 use Rattle.impulse_slice.specs.Noted.{Noted, noted_of, note_all, state_after, handed, told}

@@ -1,4 +1,5 @@
 // A call: new samples through the stages impulse, DC, IQ, in place.
+#![tactic(auto)]
 
 ghost use Rattle.std.specs.Prelude.{◌≡◌, ◌++◌, map, ◌+◌, ◌^◌, ◌≤◌, ◌<◌, length, take, drop};
 ghost use Rattle.rules.specs.Impulse.{window_size};
@@ -7,8 +8,8 @@ ghost use Rattle.rules.specs.Iq.{corrected_by};
 ghost use Rattle.rules.specs.Answers.{accepted, number_of};
 ghost use Rattle.rules.specs.Refusals.{too_many};
 ghost use Rattle.rules.specs.Constants.{total_limit};
-ghost use Rattle.log.specs.View.{Logged};
-ghost use Rattle.log.specs.Ready.{Bounded};
+ghost use Rattle.stage_log.specs.View.{Logged};
+ghost use Rattle.stage_log.specs.Ready.{Bounded};
 ghost use Rattle.impulse.specs.View.{suppressor_of};
 ghost use Rattle.iq.specs.View.{settled_of};
 ghost use Rattle.stage_mode.specs.View.{mode_of};
@@ -23,8 +24,8 @@ use dc::{Blocked, DcBlocker};
 use impulse::ImpulseSuppressor;
 use impulse_slice::Ran;
 use iq::Iq;
-use log::{Log, Mark, Stage};
 use sample_guard::Found;
+use stage_log::{Log, Mark, Stage};
 use stage_mode::StageMode;
 
 // How a call is answered.
@@ -265,10 +266,10 @@ pub fn accept(
 fn too_many(seen: u64, new: usize) -> bool
     ensures { result ≡ (too_many seen new).holds }
 {
-    if log::TOTAL_LIMIT < seen {
+    if stage_log::TOTAL_LIMIT < seen {
         return true;
     }
-    log::TOTAL_LIMIT - seen < new as u64
+    stage_log::TOTAL_LIMIT - seen < new as u64
 }
 
 // What refuses a call before a sample is read: 5, 4, 6 or 8, by the state, the length of the slice and
@@ -283,10 +284,10 @@ pub fn refusal(state: InputConditioner, len: usize, spans: &[u64], repairs: &[u6
     if !state.fits() {
         return Conditioned::BadState;
     }
-    if repairs.len() != log::REPAIR_WORDS * set.repairs {
+    if repairs.len() != stage_log::REPAIR_WORDS * set.repairs {
         return Conditioned::BadLength;
     }
-    if spans.len() != log::STORE_WORDS * set.spans {
+    if spans.len() != stage_log::STORE_WORDS * set.spans {
         return Conditioned::BadLength;
     }
     if !log.ends_fit(spans, set.spans) {

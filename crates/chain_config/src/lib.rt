@@ -1,4 +1,5 @@
 // The chain's configuration: which stages run and how, and what making declines.
+#![tactic(auto)]
 
 ghost use Rattle.std.specs.Prelude.{◌≡◌, eqb};
 ghost use Rattle.stage_mode.specs.View.{mode_of};
@@ -138,10 +139,10 @@ impl ConditioningConfig {
         if !is_fit(settings) {
             return settings;
         }
-        if repairs != log::REPAIR_WORDS * self.repairs {
+        if repairs != stage_log::REPAIR_WORDS * self.repairs {
             return Fitness::BadLength;
         }
-        if spans != log::STORE_WORDS * self.spans {
+        if spans != stage_log::STORE_WORDS * self.spans {
             return Fitness::BadLength;
         }
         if words != ImageMonitor::CHANNEL_WORDS * self.n {

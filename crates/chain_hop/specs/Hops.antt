@@ -6,7 +6,7 @@ use Rattle.rules.specs.Log.{Span, ring_number, iq, Uncertain, store_width}
 use Rattle.rules.specs.Monitor.{Answer, no_report, report, suspected_span, channel_width}
 use Rattle.rules.specs.Answers.{Said, accepted, nothing, refused}
 use Rattle.rules.specs.Refusals.{Cause, first_of, bad_length}
-use Rattle.log.specs.View.{Logged, marked_at}
+use Rattle.stage_log.specs.View.{Logged, marked_at}
 use Rattle.iq.specs.View.{settled_of}
 use Rattle.iq_monitor.specs.declared.HopAnswer.{HopAnswer}
 use Rattle.iq_monitor.specs.declared.HopAnswer.TheVariants as monitor

@@ -1,4 +1,5 @@
 // A hop handed to the chain: number 5 and 4, the mirror monitor, and the mark of a suspected window.
+#![tactic(auto)]
 
 ghost use Rattle.std.specs.Prelude.{◌≡◌, true, ◌*◌, ◌≤◌, length};
 ghost use mathlib.Core.List.{foldl};
@@ -6,8 +7,8 @@ ghost use Rattle.rules.specs.Answers.{number_of};
 ghost use Rattle.rules.specs.Monitor.{report, suspected_span, channel_width};
 ghost use Rattle.rules.specs.Log.{store_width};
 ghost use Rattle.rules.specs.Constants.{size_limit};
-ghost use Rattle.log.specs.View.{Logged};
-ghost use Rattle.log.specs.Check.{log_fits};
+ghost use Rattle.stage_log.specs.View.{Logged};
+ghost use Rattle.stage_log.specs.Check.{log_fits};
 ghost use Rattle.iq.specs.View.{settled_of};
 ghost use Rattle.iq_monitor.specs.Observe.{report_from};
 ghost use Rattle.chain_hop.specs.Hops.{hop_refusal, fitness_number, said_hop, answer_of, is_off_iq, is_observing, hop_told, watched, uncertain, noted, taken};
@@ -17,7 +18,7 @@ ghost use Rattle.chain_hop.specs.HopReady.{Told, Window};
 use chain_state::InputConditioner;
 use iq::Iq;
 use iq_monitor::{Evidence, HopAnswer, ImageMonitor, Observed};
-use log::{Log, Mark, Stage};
+use stage_log::{Log, Mark, Stage};
 
 // Whether a hop's state and lent stores fit.
 #[derive(Drop)]
@@ -108,7 +109,7 @@ fn hop_refusal(state: InputConditioner, spans: &[u64], words: &[f64]) -> HopFitn
     if !state.fits() {
         return HopFitness::BadState;
     }
-    if spans.len() != log::STORE_WORDS * settings.spans {
+    if spans.len() != stage_log::STORE_WORDS * settings.spans {
         return HopFitness::BadLength;
     }
     if words.len() != ImageMonitor::CHANNEL_WORDS * settings.n {

@@ -1,4 +1,2 @@
 -- definitions
 pub mod Reading
--- what is proved of them
-pub mod laws

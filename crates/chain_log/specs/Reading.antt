@@ -7,9 +7,9 @@ use Rattle.rules.specs.Mode.{Mode, runs}
 use Rattle.rules.specs.Log.{Span, span_of, spans_of, store_width}
 use Rattle.rules.specs.Chain as rules
 use Rattle.rules.specs.Chain.{no_level, level_is}
-use Rattle.log.specs.declared.Ring.{Ring}
-use Rattle.log.specs.View.{marks_at}
-use Rattle.log.specs.Check.{ring_of, dropped_in_all}
+use Rattle.stage_log.specs.declared.Ring.{Ring}
+use Rattle.stage_log.specs.View.{marks_at}
+use Rattle.stage_log.specs.Check.{ring_of, dropped_in_all}
 use Rattle.stage_mode.specs.View.{mode_of}
 use Rattle.chain_state.specs.declared.InputConditioner.{InputConditioner}
 use Rattle.chain_log.specs.declared.DcLevel.{DcLevel}

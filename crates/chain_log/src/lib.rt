@@ -1,17 +1,18 @@
 // The log of a state, and the spans in its store. Any state and any store can be read.
+#![tactic(auto)]
 
 ghost use Rattle.std.specs.Prelude.{◌≡◌, true, ◌&&◌, ◌<◌, ltb, length, get_or};
 ghost use Rattle.complex.specs.View.{view64};
 ghost use Rattle.rules.specs.Log.{ring_number, span_of, spans_of};
-ghost use Rattle.log.specs.View.{stage_of, mark_of, marks_at};
-ghost use Rattle.log.specs.Check.{ring_of};
+ghost use Rattle.stage_log.specs.View.{stage_of, mark_of, marks_at};
+ghost use Rattle.stage_log.specs.Check.{ring_of};
 ghost use Rattle.stage_mode.specs.View.{mode_of};
 ghost use Rattle.chain_log.specs.Reading.{level_of, level_where, state_level, log_of, said_span, store_fits, readable, span_read};
 
 use chain_state::{Counts, InputConditioner};
 use complex::Complex64;
 use iq::Iq;
-use log::{Log, Mark, Notes, Ring, Span, Stage};
+use stage_log::{Log, Mark, Notes, Ring, Span, Stage};
 use stage_mode::StageMode;
 
 // The DC level, or none where the stage is off.
@@ -85,7 +86,7 @@ fn store_fits(capacity: usize, words: usize) -> bool
     if chain_config::SPAN_LIMIT < capacity {
         return false;
     }
-    words == log::STORE_WORDS * capacity
+    words == stage_log::STORE_WORDS * capacity
 }
 
 // Whether a ring's head and length are in range, and it has a span of this number.
@@ -108,10 +109,10 @@ fn read_span(log: Log, spans: &[u64], capacity: usize, which: usize, i: usize) -
     ensures { span_of result.start result.len
         ≡ get_or (spans_of capacity (marks_at capacity (record { log = log; spans = spans.now }) which).ring) i (span_of 0 0) }
 {
-    let a = which * (capacity * log::SPAN_WORDS);
-    let e = a + capacity * log::SPAN_WORDS;
+    let a = which * (capacity * stage_log::SPAN_WORDS);
+    let e = a + capacity * stage_log::SPAN_WORDS;
     let ring = log.rings[which];
-    log::span_at(ring, &spans[a..e], capacity, i)
+    stage_log::span_at(ring, &spans[a..e], capacity, i)
 }
 
 // Span number i of a ring, the oldest first.
@@ -123,7 +124,7 @@ pub fn span(state: InputConditioner, spans: &[u64], stage: Stage, kind: Mark, i:
     if !store_fits(capacity, spans.len()) {
         return SpanRead::NoSpan;
     }
-    let which = log::ring_number(stage, kind);
+    let which = stage_log::ring_number(stage, kind);
     let log = state.notes.log;
     let ring = log.rings[which];
     if !has_span(ring, capacity, i) {

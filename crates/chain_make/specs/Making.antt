@@ -5,7 +5,7 @@ use Rattle.rules.specs.Dc.{corner, first_level}
 use Rattle.rules.specs.Iq.{Settled, Off, Observing, Withheld, Correcting}
 use Rattle.rules.specs.Chain.{Config, settled_by, setting_of}
 use Rattle.rules.specs.Mode.{runs}
-use Rattle.log.specs.View.{fresh_notes}
+use Rattle.stage_log.specs.View.{fresh_notes}
 use Rattle.impulse.specs.Machine as impulse
 use Rattle.dc.specs.Blocker.{blocker_of}
 use Rattle.iq.specs.declared.Iq.{Iq}

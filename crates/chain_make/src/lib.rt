@@ -1,4 +1,5 @@
 // Making a chain, from a configuration and three lent stores.
+#![tactic(auto)]
 
 ghost use Rattle.std.specs.Prelude.{◌≡◌, length, replicate};
 ghost use Rattle.rules.specs.Constants.{zero_f};
@@ -12,7 +13,7 @@ use chain_state::{Counts, InputConditioner, Settings};
 use dc::DcBlocker;
 use impulse::ImpulseSuppressor;
 use iq_monitor::ImageMonitor;
-use log::Notes;
+use stage_log::Notes;
 
 // What making answers.
 #[derive(Drop)]

@@ -1,7 +1,7 @@
 -- Number 5 as a cause that an operation declines: of the state, and of the span store that is lent with it. Definitions only.
 use Rattle.std.specs.Prelude.{not, List, ℕ}
 use Rattle.rules.specs.Refusals.{Cause}
-use Rattle.log.specs.Check.{ends_fit}
+use Rattle.stage_log.specs.Check.{ends_fit}
 use Rattle.chain_state.specs.declared.InputConditioner.{InputConditioner}
 use Rattle.chain_state.specs.Fits.{state_fits}
 

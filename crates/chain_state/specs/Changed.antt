@@ -1,7 +1,7 @@
 -- A state with some of its parts changed, each operation's by name. Definitions only.
-use Rattle.log.specs.declared.Log.{Log}
-use Rattle.log.specs.declared.Notes.{Notes}
-use Rattle.log.specs.View.{with_log}
+use Rattle.stage_log.specs.declared.Log.{Log}
+use Rattle.stage_log.specs.declared.Notes.{Notes}
+use Rattle.stage_log.specs.View.{with_log}
 use Rattle.impulse.specs.declared.ImpulseSuppressor.{ImpulseSuppressor}
 use Rattle.dc.specs.declared.DcBlocker.{DcBlocker}
 use Rattle.iq_monitor.specs.declared.ImageMonitor.{ImageMonitor}

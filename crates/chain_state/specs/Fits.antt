@@ -5,7 +5,7 @@ use Rattle.rules.specs.Refusals.{within_limit}
 use Rattle.rules.specs.Iq.{Settled, Off, Observing, Withheld, Correcting, accepted}
 use Rattle.rules.specs.Impulse.{lookahead_size, next_judged, block_length}
 use Rattle.amplitude_limit.specs.Limit.{limited}
-use Rattle.log.specs.Check.{ring_fits, log_fits}
+use Rattle.stage_log.specs.Check.{ring_fits, log_fits}
 use Rattle.impulse.specs.declared.Run.{Run}
 use Rattle.impulse.specs.declared.Open.{Open}
 use Rattle.impulse.specs.declared.Open.TheVariants.{Running, Closed}

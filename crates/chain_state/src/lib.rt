@@ -1,4 +1,5 @@
 // The chain's state, and number 5's tests of it, a function for each group of causes.
+#![tactic(auto)]
 
 ghost use Rattle.std.specs.Prelude.{◌≡◌, true, false, ◌&&◌};
 ghost use Rattle.iq.specs.View.{settled_of};
@@ -9,7 +10,7 @@ use dc::DcBlocker;
 use impulse::{Gate, ImpulseSuppressor, Left, Open, Run};
 use iq::Iq;
 use iq_monitor::{Begun, ImageMonitor};
-use log::Notes;
+use stage_log::Notes;
 use stage_mode::StageMode;
 
 // What making settled. `impulse`: that stage runs; whether it applies or observes stands in its gate.
@@ -61,13 +62,13 @@ fn settings_fit(s: Settings, blocklen: u64) -> bool
 fn counters_fit(a: u64, b: u64, c: u64) -> bool
     ensures { result ≡ (counter a && counter b && counter c) }
 {
-    if log::COUNTER_LIMIT < a {
+    if stage_log::COUNTER_LIMIT < a {
         return false;
     }
-    if log::COUNTER_LIMIT < b {
+    if stage_log::COUNTER_LIMIT < b {
         return false;
     }
-    c <= log::COUNTER_LIMIT
+    c <= stage_log::COUNTER_LIMIT
 }
 
 // How many samples are held of so many seen.
@@ -180,7 +181,7 @@ fn blocker_fits(b: DcBlocker) -> bool
     ensures { result ≡ blocker_fits b }
 {
     let level = b.dc;
-    if log::COUNTER_LIMIT < b.n {
+    if stage_log::COUNTER_LIMIT < b.n {
         return false;
     }
     if !amplitude_limit::is_limited(level.re) {
@@ -213,7 +214,7 @@ fn monitor_fits(m: ImageMonitor) -> bool
     ensures { result ≡ monitor_fits m }
 {
     let first = m.first;
-    if log::COUNTER_LIMIT < m.end {
+    if stage_log::COUNTER_LIMIT < m.end {
         return false;
     }
     begun_fits(first, m.end)
@@ -274,7 +275,7 @@ impl InputConditioner {
         if !log.fits(settings.spans) {
             return false;
         }
-        log::ring_fits(repairs, notes.longruns, settings.repairs)
+        stage_log::ring_fits(repairs, notes.longruns, settings.repairs)
     }
 
     fn stages_fit(self) -> bool

@@ -7,7 +7,7 @@ use Rattle.rules.specs.Log.{repair_width}
 use Rattle.rules.specs.Undo.{held_records, undone_all}
 use Rattle.rules.specs.Answers.{Said, accepted, refused}
 use Rattle.rules.specs.Refusals.{Cause, first_of, bad_length}
-use Rattle.log.specs.View.{ring_in}
+use Rattle.stage_log.specs.View.{ring_in}
 use Rattle.chain_state.specs.declared.InputConditioner.{InputConditioner}
 use Rattle.chain_state.specs.Causes.{bad_state}
 use Rattle.chain_undo.specs.declared.Undone.{Undone}

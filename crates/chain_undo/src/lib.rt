@@ -1,17 +1,18 @@
 // Repair undo: the originals that the repair ring holds return to their places in a slice of samples.
 // It takes every input; what is unfit is refused by document 01's number, and then nothing has changed.
+#![tactic(auto)]
 
 ghost use Rattle.std.specs.Prelude.{◌≡◌, true, ◌+◌, ◌≤◌, length};
 ghost use Rattle.rules.specs.Lists.{at};
 ghost use Rattle.rules.specs.Log.{Sound, repair_width};
 ghost use Rattle.rules.specs.Answers.{number_of};
 ghost use Rattle.rules.specs.Undo.{held_records, returned, undone, undone_all};
-ghost use Rattle.log.specs.View.{ring_in};
+ghost use Rattle.stage_log.specs.View.{ring_in};
 ghost use Rattle.chain_undo.specs.Undoing.{record_in, record_fits, records_fit, said, undo_of};
 
 use chain_state::InputConditioner;
 use impulse::ImpulseSuppressor;
-use log::Ring;
+use stage_log::Ring;
 
 // How repair undo is answered.
 #[derive(Drop)]
@@ -47,7 +48,7 @@ fn record_fits(repairs: &[u64], place: usize) -> bool
     if len > ImpulseSuppressor::MAX_RUN as u64 {
         return false;
     }
-    start <= log::TOTAL_LIMIT
+    start <= stage_log::TOTAL_LIMIT
 }
 
 // Whether every held record does.
@@ -58,7 +59,7 @@ fn records_fit(ring: Ring, repairs: &[u64], capacity: usize) -> bool
     let head = ring.head;
     let held = ring.count;
     for i in 0..held {
-        if !record_fits(repairs, (head + i) % capacity * log::REPAIR_WORDS) {
+        if !record_fits(repairs, (head + i) % capacity * stage_log::REPAIR_WORDS) {
             return false;
         }
     }
@@ -107,7 +108,7 @@ fn undo_records(samples: &mut [u64], first: u64, ring: Ring, repairs: &[u64], ca
             samples,
             first,
             repairs,
-            (head + i) % capacity * log::REPAIR_WORDS,
+            (head + i) % capacity * stage_log::REPAIR_WORDS,
         );
     }
 }
@@ -128,7 +129,7 @@ pub fn revert_repairs(
     }
     let set = state.settings;
     let capacity = set.repairs;
-    if repairs.len() != log::REPAIR_WORDS * capacity {
+    if repairs.len() != stage_log::REPAIR_WORDS * capacity {
         return Undone::BadLength;
     }
     let ring = state.notes.repairs;

@@ -3,5 +3,3 @@ pub mod Places
 pub mod Words
 pub mod States
 pub mod Typed
--- what is proved of them
-pub mod laws

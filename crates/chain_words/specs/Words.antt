@@ -5,9 +5,9 @@ use Rattle.std.specs.Float.Ieee.{to_bits}
 use Rattle.stage_mode.specs.declared.StageMode.{StageMode}
 use Rattle.stage_mode.specs.declared.StageMode.TheVariants as mode
 use Rattle.impulse_pause.specs.View.{number_of}
-use Rattle.log.specs.declared.Ring.{Ring}
-use Rattle.log.specs.declared.Log.{Log}
-use Rattle.log.specs.declared.Notes.{Notes}
+use Rattle.stage_log.specs.declared.Ring.{Ring}
+use Rattle.stage_log.specs.declared.Log.{Log}
+use Rattle.stage_log.specs.declared.Notes.{Notes}
 use Rattle.impulse.specs.declared.Open.{Open}
 use Rattle.impulse.specs.declared.Open.TheVariants.{Running, Closed}
 use Rattle.impulse.specs.declared.Left.{Left}

@@ -1,4 +1,5 @@
 // A state as words that a caller lends, and the state that words say.
+#![tactic(auto)]
 
 ghost use Rattle.std.specs.Prelude.{◌≡◌, ◌++◌, ◌+◌, ◌≤◌, length, take};
 ghost use Rattle.rules.specs.Lists.{All};
@@ -20,7 +21,7 @@ use impulse::{Block, Gate, GateSettings, ImpulseSuppressor, Left, Mending, Open,
 use impulse_pause::PauseEdition;
 use iq::Iq;
 use iq_monitor::{Begun, ImageMonitor};
-use log::{Log, Notes, Ring};
+use stage_log::{Log, Notes, Ring};
 use stage_mode::StageMode;
 
 // ---- where each part stands, counted from the one before

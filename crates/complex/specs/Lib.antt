@@ -1,5 +1,3 @@
 -- definitions
 pub mod Complex
 pub mod View
--- what is proved of them
-pub mod laws

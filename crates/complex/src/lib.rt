@@ -1,5 +1,6 @@
 // Complex numbers of floats by value, and a sample as one word. Each operation is document 01's
 // formula, operation by operation.
+#![tactic(auto)]
 
 ghost use Rattle.std.specs.Prelude.{◌≡◌};
 ghost use Rattle.std.specs.Float.{binary32, binary64};

@@ -1,5 +1,6 @@
 // Document 01's DC stage: the blocker, over one sample and over a slice, and its undo. Each float
 // operation is the paper's, in its order; the root alone is left out where it decides nothing.
+#![tactic(auto)]
 
 ghost use Rattle.std.specs.Prelude.{◌≡◌, ◌+◌, ◌^◌, ◌<◌, not, ◌&&◌, length, ◌==◌};
 ghost use Rattle.std.specs.Float.{binary64};

@@ -2,7 +2,7 @@
 use Rattle.std.proofs.Common.{◌≡◌, ℕ, ◌+◌, ◌-◌, ◌*◌, ◌/◌, ◌%◌, ◌^◌, ◌<◌, ◌≤◌, Bool, true, false, not, ◌&&◌, T, ltb, leb, ◌⊎◌, sym, refl, ap, ◌∙◌, inl, inr, mul_assoc, mul_comm, add-mul, mul-le-mul, mul-add, mul_left_comm, arith, leb→le, le-ltb, lt-ltb, le-leb}
 use lib.Dec.{nleb→lt}
 use borrow.Author.Tests.{lt-leb}
-use Rattle.ieee.specs.laws.Numbers.{le_or_lt, square_even, square_odd, next_square}
+use Rattle.ieee.proofs.laws.Numbers.{le_or_lt, square_even, square_odd, next_square}
 use Rattle.ieee.specs.Root.{HalfRoot}
 
 -- ---- g * g, by the upper and the lower digits of g

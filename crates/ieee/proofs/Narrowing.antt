@@ -5,11 +5,11 @@ use lib.Ieee.Nearest.{closest}
 use lib.Ieee.Scale.{round_same}
 use Rattle.ieee.specs.Narrow.{narrowed, pattern_of, pattern_in}
 use Rattle.ieee.specs.Normal.{exponent_in, significand_of, shift_of}
-use Rattle.ieee.specs.laws.Numbers.{le_or_lt}
-use Rattle.ieee.specs.laws.RoundedBits.{closest_small, round_bits}
-use Rattle.ieee.specs.laws.Fields.{Meaning, meaning}
-use Rattle.ieee.specs.laws.NormalLaws.{placed}
-use Rattle.ieee.specs.laws.NarrowLaws.{narrowed_value}
+use Rattle.ieee.proofs.laws.Numbers.{le_or_lt}
+use Rattle.ieee.proofs.laws.RoundedBits.{closest_small, round_bits}
+use Rattle.ieee.proofs.laws.Fields.{Meaning, meaning}
+use Rattle.ieee.proofs.laws.NormalLaws.{placed}
+use Rattle.ieee.proofs.laws.NarrowLaws.{narrowed_value}
 
 infinite : (s : Bool) → to_bits binary32 (narrowed (inf s)) ≡ cond s (2 ^ 31) 0 + 255 * 2 ^ 23
 unfolding narrowed to_bits

@@ -5,9 +5,9 @@ use lib.Ieee.{Float, binary64, of_bits, to_bits, fits}
 use lib.Ieee.Exact.{HasValue}
 use lib.Ieee.Bits.{of_bits-to_bits}
 use Rattle.ieee.specs.Root.{rooted}
-use Rattle.ieee.specs.laws.Numbers.{square_lt, square_even, square_odd, next_square}
-use Rattle.ieee.specs.laws.NormalLaws.{even_of, evened}
-use Rattle.ieee.specs.laws.RootValue.{rooted_value, rooted_fits, root_bits}
+use Rattle.ieee.proofs.laws.Numbers.{square_lt, square_even, square_odd, next_square}
+use Rattle.ieee.proofs.laws.NormalLaws.{even_of, evened}
+use Rattle.ieee.proofs.laws.RootValue.{rooted_value, rooted_fits, root_bits}
 
 -- ---- the loop of `root_digits`: i digits of the root are found, r, and what is left of the digits that were brought down, w * 4 ^ i / 2 ^ 64, is `rest`
 pub record Found (w m rest r i : ℕ) : Type 0 where

@@ -8,9 +8,9 @@ use lib.Ieee.Exact.{HasValue}
 use lib.Ieee.Nearest.{div_same}
 use Rattle.ieee.specs.Normal.{significand_of, shift_of}
 use Rattle.ieee.specs.Whole.{ceil_div, round_div, div_by, whole_by}
-use Rattle.ieee.specs.laws.Numbers.{le_or_lt, pow_split}
-use Rattle.ieee.specs.laws.Fields.{Meaning}
-use Rattle.ieee.specs.laws.NormalLaws.{Placed, placed}
+use Rattle.ieee.proofs.laws.Numbers.{le_or_lt, pow_split}
+use Rattle.ieee.proofs.laws.Fields.{Meaning}
+use Rattle.ieee.proofs.laws.NormalLaws.{Placed, placed}
 
 -- ---- what the two rules for fractions share
 pub record Rule (g : ℕ → ℕ → ℕ) : Type 0 where

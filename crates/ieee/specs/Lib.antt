@@ -5,5 +5,3 @@ pub mod Normal
 pub mod Narrow
 pub mod Bound
 pub mod Plain
--- what is proved of them
-pub mod laws

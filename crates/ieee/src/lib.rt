@@ -1,5 +1,6 @@
 // The float operations that the language lacks or leaves undefined at a NaN, each defined at every
 // input and exact: bit patterns, widening, narrowing, the square root, ceiling and rounding.
+#![tactic(auto)]
 
 ghost use Rattle.std.specs.Prelude.{◌≡◌, ◌+◌, ◌-◌, ◌*◌, ◌^◌, ◌<◌, ◌≤◌, min, ◌&&◌, T, from_bits, nat_le, nat_lt, to_bits};
 ghost use Rattle.std.specs.Float.{binary32, binary64};

@@ -1,4 +1,5 @@
 // The functions of `ieee` under C names, for drivers in other languages.
+#![tactic(auto)]
 
 ghost use Rattle.std.specs.Prelude.{◌≡◌};
 ghost use Rattle.ieee.specs.Narrow.{narrowed};

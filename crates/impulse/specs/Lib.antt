@@ -6,5 +6,3 @@ pub mod Room
 pub mod Circle
 pub mod State
 pub mod Sound
--- what is proved of them
-pub mod laws

@@ -5,7 +5,7 @@ use Rattle.impulse.specs.declared.Gate.{Gate}
 use Rattle.impulse.specs.declared.ImpulseSuppressor.{ImpulseSuppressor}
 use Rattle.impulse.specs.declared.Answer.{Answer}
 use Rattle.impulse.specs.declared.Answer.TheVariants.{Released, Nothing}
-use Rattle.log.specs.declared.Repair.{Repair}
+use Rattle.stage_log.specs.declared.Repair.{Repair}
 use Rattle.impulse.specs.declared.Ended.{Ended}
 use Rattle.impulse.specs.declared.Ended.TheVariants.{Going, Kept, Mended}
 use Rattle.impulse.specs.declared.Judged.{Judged}

@@ -2,6 +2,7 @@
 // is a word, as `complex` packs it. The scalars go by value and the arrays are lent, circular by
 // sample number: sample k stands at k mod the array's length. A push answers a sample or nothing
 // and what happened beside it; it knows no store.
+#![tactic(auto)]
 
 ghost use Rattle.std.specs.Prelude.{◌≡◌, true, ◌+◌, ◌-◌, ◌^◌, ◌≤◌, ◌<◌, min, length};
 ghost use Rattle.rules.specs.Impulse.{window_size, lookahead_size, trim_size, standard, next_judged};
@@ -14,7 +15,7 @@ ghost use Rattle.impulse_window.specs.Rising.{Rising};
 mod runs;
 
 use impulse_pause::PauseEdition;
-use log::Repair;
+use stage_log::Repair;
 
 // An open run of flagged samples. `paused`: one of them lies in a paused block.
 #[derive(Drop)]

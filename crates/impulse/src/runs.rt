@@ -8,7 +8,7 @@ ghost use Rattle.impulse.specs.View.{repair_of};
 
 use crate::{ImpulseSuppressor, Left};
 use complex::Complex32;
-use log::Repair;
+use stage_log::Repair;
 
 // Sample i takes its place, and the one that stood there is answered.
 pub fn hold(pending: &mut [u64; ImpulseSuppressor::LOOKAHEAD], i: u64, x: u64) -> u64

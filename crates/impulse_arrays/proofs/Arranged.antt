@@ -12,10 +12,10 @@ use lib.Ieee.{Float, binary32, lt, eq}
 use lib.Ieee.Bits.{is_true}
 use borrow.Author.Tests.{ltb-true}
 use Rattle.ieee.specs.Plain.{sign_clear, Plain, key}
-use Rattle.ieee.specs.laws.Order.{lt_key, same_key, plain_equal}
+use Rattle.ieee.proofs.laws.Order.{lt_key, same_key, plain_equal}
 use Rattle.rules.specs.Constants.{zero_f}
 use Rattle.rules.specs.Sort.{insert, sort}
-use Rattle.rules.specs.laws.SortLaws.{Ordered, is_not_below, insert_comm, sort_good}
+use Rattle.rules.proofs.laws.SortLaws.{Ordered, is_not_below, insert_comm, sort_good}
 use Rattle.rules.specs.Lists.{All}
 use Rattle.impulse_window.specs.Rising.{climbs, NotNegative, Held}
 use Rattle.impulse_window.proofs.Sizes.{abs, abs_plain, abs_key, clear, both_true, lt_size, no_size, equal_abs}

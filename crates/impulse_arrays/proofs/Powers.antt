@@ -9,8 +9,8 @@ use lib.ListN.{length, get_or, take, drop, set, length-set, length-append, lengt
 use lib.Seq.{take-suc, take-suc-set, drop-set-lt, drop-drop, take_at, length-take-le}
 use lib.Ieee.{Float, lt}
 use Rattle.rules.specs.Sort.{sort}
-use Rattle.rules.specs.laws.SortLaws.{sort_length}
-use Rattle.log.specs.Check.{all_to}
+use Rattle.rules.proofs.laws.SortLaws.{sort_length}
+use Rattle.stage_log.specs.Check.{all_to}
 
 -- the first k of xs stand over the first k of ws₀
 abbrev pub Copied : {A : Type 0} → List A → ℕ → List A → List A → ℕ → Type 0

@@ -8,7 +8,7 @@ use Rattle.rules.specs.Sort.{sort}
 use Rattle.rules.specs.Guard.{magnitude}
 use Rattle.rules.specs.Refusals.{within_limit}
 use Rattle.rules.specs.Impulse.{window_size, lookahead_size}
-use Rattle.log.specs.Check.{all_to}
+use Rattle.stage_log.specs.Check.{all_to}
 
 -- not: 'a window power not within 1e36; a window .. power with its sign bit set'
 unfoldable pub power_fits : Float → Bool

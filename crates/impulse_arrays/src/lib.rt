@@ -1,5 +1,6 @@
 // Number 5's tests of the impulse stage's arrays: the powers of the window, the pending samples, and
 // that the sorted list is the window sorted.
+#![tactic(auto)]
 
 ghost use Rattle.std.specs.Prelude.{◌≡◌, true, ◌++◌, ◌≤◌, min, eqb, length, get_or, take, drop};
 ghost use Rattle.std.specs.Float.{binary64};
@@ -8,7 +9,7 @@ ghost use Rattle.rules.specs.Constants.{zero_f};
 ghost use Rattle.rules.specs.Sort.{sort};
 ghost use Rattle.rules.specs.Lists.{All};
 ghost use Rattle.rules.specs.Impulse.{window_size, lookahead_size};
-ghost use Rattle.log.specs.Check.{all_to};
+ghost use Rattle.stage_log.specs.Check.{all_to};
 ghost use Rattle.impulse_window.specs.Rising.{climbs, Held};
 ghost use Rattle.impulse_arrays.specs.Occurs.{occurs};
 ghost use Rattle.impulse_arrays.specs.Fits.{power_fits, powers_fit, samples_fit, arrays_fit, sorted_fits};

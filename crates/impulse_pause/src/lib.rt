@@ -1,4 +1,5 @@
 // Which blocks of samples the impulse stage pauses: the rule's two editions.
+#![tactic(auto)]
 
 ghost use Rattle.std.specs.Prelude.{◌≡◌};
 ghost use Rattle.rules.specs.Pauses.{second, above_entry, within_exit, pauses};

@@ -1,3 +1,5 @@
+-- what is proved of the definitions
+pub mod laws
 -- laws that several functions' proofs cite
 pub mod Notings
 pub mod Turns

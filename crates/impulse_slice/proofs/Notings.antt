@@ -6,12 +6,12 @@ use Prim.Native.Nat.{ℕ, ◌+◌}
 use Rattle.rules.specs.Lists.{indicator}
 use Rattle.rules.specs.Impulse.{uncertain}
 use Rattle.rules.specs.Log.{ring_number, impulse, Repaired, Flagged, Uncertain, span_of, append}
-use Rattle.log.specs.declared.Ring.{Ring}
-use Rattle.log.specs.declared.Log.{Log}
-use Rattle.log.specs.declared.Repair.{Repair}
-use Rattle.log.specs.View.{Logged, ring_in, marked_at, words_of_repair}
+use Rattle.stage_log.specs.declared.Ring.{Ring}
+use Rattle.stage_log.specs.declared.Log.{Log}
+use Rattle.stage_log.specs.declared.Repair.{Repair}
+use Rattle.stage_log.specs.View.{Logged, ring_in, marked_at, words_of_repair}
 use Rattle.impulse.specs.declared.Ended.TheVariants.{Kept, Mended}
-use Rattle.log.specs.declared.Notes.{Notes}
+use Rattle.stage_log.specs.declared.Notes.{Notes}
 use Rattle.impulse_slice.specs.Noted.{noted_of, note_all, filled_events}
 
 -- the log with its store

@@ -16,11 +16,11 @@ use Rattle.impulse.specs.Machine.{setting_of, push}
 use Rattle.impulse.specs.View.{suppressor_of, pushed_of, given}
 use Rattle.impulse.specs.Room.{Room}
 use Rattle.impulse.specs.Running.{outs, step, emit, news}
-use Rattle.impulse.specs.laws.RunningLaws.{after_append, outs_append}
+use Rattle.impulse.proofs.laws.RunningLaws.{after_append, outs_append}
 use Rattle.impulse_slice.specs.Noted.{Noted, note_all, doubts, filled_events, ended_end, state_after, handed, told, placed, over, Roomy}
-use Rattle.impulse_slice.specs.laws.NotesLaws.{note_none, note_append, said_same, roomy_up}
-use Rattle.impulse_slice.specs.laws.MoveLaws.{push_moves}
-use Rattle.impulse_slice.specs.laws.StageLaws.{setting_after, room_after, sorted_after, handed_most, roomy_after}
+use Rattle.impulse_slice.proofs.laws.NotesLaws.{note_none, note_append, said_same, roomy_up}
+use Rattle.impulse_slice.proofs.laws.MoveLaws.{push_moves}
+use Rattle.impulse_slice.proofs.laws.StageLaws.{setting_after, room_after, sorted_after, handed_most, roomy_after}
 
 -- ---- one push, by what the code answers
 

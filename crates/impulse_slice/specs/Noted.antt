@@ -5,15 +5,15 @@ use Rattle.rules.specs.Lists.{indicator}
 use Rattle.rules.specs.Impulse.{Setting, Event, uncertain, kept, mended}
 use Rattle.rules.specs.Log as rules
 use Rattle.rules.specs.Log.{ring_number, impulse, Repaired, Flagged, Uncertain, Span, span_of, append, repair_words, repair_width, marks_of, Sound}
-use Rattle.log.specs.View.{Logged, ring_in, marks_at, marked_at}
-use Rattle.log.specs.Ready.{Twelve, Bounded}
+use Rattle.stage_log.specs.View.{Logged, ring_in, marks_at, marked_at}
+use Rattle.stage_log.specs.Ready.{Twelve, Bounded}
 use Rattle.impulse.specs.declared.Open.{Open}
 use Rattle.impulse.specs.declared.Open.TheVariants.{Running, Closed}
 use Rattle.impulse.specs.declared.Ended.{Ended}
 use Rattle.impulse.specs.declared.Ended.TheVariants.{Going, Kept, Mended}
 use Rattle.impulse.specs.declared.ImpulseSuppressor.{ImpulseSuppressor}
 use Rattle.impulse.specs.Running.{after, outs, step, emit, news}
-use Rattle.log.specs.declared.Notes.{Notes}
+use Rattle.stage_log.specs.declared.Notes.{Notes}
 
 -- the rings with the span store, the repair ring with its words, and the long runs
 pub record Noted : Type 0 where

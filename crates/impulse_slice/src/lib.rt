@@ -1,9 +1,10 @@
 // The impulse stage over the new part of a call's slice, in place, and what it tells the log.
+#![tactic(auto)]
 
 ghost use Rattle.std.specs.Prelude.{◌≡◌, List, ◌++◌, ℕ, ◌+◌, ◌-◌, ◌^◌, ◌≤◌, ◌<◌, length, get_or, drop};
 ghost use Rattle.rules.specs.Lists.{indicator};
 ghost use Rattle.rules.specs.Impulse.{window_size};
-ghost use Rattle.log.specs.Ready.{Bounded};
+ghost use Rattle.stage_log.specs.Ready.{Bounded};
 ghost use Rattle.impulse.specs.Machine.{setting_of};
 ghost use Rattle.impulse.specs.View.{suppressor_of, given};
 ghost use Rattle.impulse.specs.Room.{Room};
@@ -11,7 +12,7 @@ ghost use Rattle.impulse.specs.Running.{step, emit, news};
 ghost use Rattle.impulse_slice.specs.Noted.{noted_of, note_all, doubts, filled_events, ended_end, state_after, handed, told, placed, over, Roomy};
 
 use impulse::{Answer, Ended, Gate, ImpulseSuppressor};
-use log::{Mark, Notes, Repair, Stage};
+use stage_log::{Mark, Notes, Repair, Stage};
 
 // One sample taken: `out` is the place behind the released ones.
 #[derive(Drop)]
@@ -114,7 +115,7 @@ fn note_mended(
         r.start,
         r.len,
     );
-    let recorded = log::record_repair(ring, repairs, repair_capacity, r);
+    let recorded = stage_log::record_repair(ring, repairs, repair_capacity, r);
     let mut told = notes;
     told.log = marked;
     told.repairs = recorded;

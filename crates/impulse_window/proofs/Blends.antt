@@ -11,7 +11,7 @@ use lib.Ieee.{Float, nan, binary32, of_bits, fits, lt, le}
 use Rattle.ieee.specs.Plain.{key}
 use Rattle.rules.specs.Constants.{zero_f}
 use Rattle.rules.specs.Sort.{insert, remove}
-use Rattle.rules.specs.laws.SortLaws.{all_append}
+use Rattle.rules.proofs.laws.SortLaws.{all_append}
 use Rattle.rules.specs.Lists.{All}
 use Rattle.impulse_window.specs.Rising.{climbs, NotNegative, Held, Rising, least, most, moved, blended_from, blended}
 use Rattle.impulse_window.proofs.Sizes.{both_true, below, not_below, stays, higher, at_most}

@@ -19,7 +19,7 @@ use lib.Ieee.Order.{round_mono}
 use lib.Ieee.Back.{round_whole}
 use borrow.Author.Tests.{ltb-false, le-ltb, ne_eqb}
 use Rattle.ieee.specs.Plain.{sign_clear, Plain, key}
-use Rattle.ieee.specs.laws.Order.{lt_key, plain_asym, plain_irrefl, plain_equal, round_clear, add_clear}
+use Rattle.ieee.proofs.laws.Order.{lt_key, plain_asym, plain_irrefl, plain_equal, round_clear, add_clear}
 use Rattle.rules.specs.Constants.{zero_f, impulse_ratio}
 use Rattle.rules.specs.Lists.{All}
 use Rattle.rules.specs.Impulse.{stands_out}

@@ -9,7 +9,7 @@ use lib.Ieee.{Float, nan, inf, fin, Format, low, up, down, fits, lt, eq, le}
 use lib.Ieee.Fits.{and_l, and_r, up_pos, down_pos}
 use borrow.Author.Tests.{ltb-true, ltb-false, lt-ltb, le-ltb}
 use Rattle.ieee.specs.Plain.{sign_clear, Plain, key}
-use Rattle.ieee.specs.laws.Order.{lt_key, plain_equal}
+use Rattle.ieee.proofs.laws.Order.{lt_key, plain_equal}
 use Rattle.impulse_window.specs.Rising.{NotNegative}
 
 -- the size alone

@@ -1,4 +1,5 @@
 // The window's powers in ascending order, in a lent array with one gap, and their trimmed mean.
+#![tactic(auto)]
 
 ghost use Rattle.std.specs.Prelude.{◌≡◌, true, false, ◌+◌, ◌-◌, ◌%◌, ◌≤◌, ◌<◌, length, get_or, set, take, drop};
 ghost use mathlib.Core.List.{◌++◌, foldl};

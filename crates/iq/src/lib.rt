@@ -1,5 +1,6 @@
 // Document 01's IQ stage: the calibration with its coefficient, and what the chain settles. Each float
 // operation is the paper's, in its order.
+#![tactic(auto)]
 
 ghost use Rattle.std.specs.Prelude.{◌≡◌, ◌==◌};
 ghost use Rattle.std.specs.Float.Ieee.Scale.{finite};

@@ -2,5 +2,3 @@
 pub mod Groups
 pub mod Undo
 pub mod Calls
--- what is proved of them
-pub mod laws

@@ -1,4 +1,5 @@
 // Document 01's IQ correction and its undo, over slices. Each float operation is the paper's, in its order.
+#![tactic(auto)]
 
 ghost use Rattle.std.specs.Prelude.{◌≡◌, ◌*◌, ◌%◌, ◌^◌, ◌<◌, true, ◌&&◌, map, length, from_bits};
 ghost use Rattle.std.specs.Float.{binary32};

@@ -13,8 +13,8 @@ use borrow.Rule.Slice.PartMut.{mid_of, post_of, put_mid}
 use Rattle.rules.specs.Constants.{zero_f, one_half}
 use Rattle.rules.specs.Monitor.{floor_of, channel_width}
 use Rattle.rules.specs.Sort.{insert, sort}
-use Rattle.rules.specs.laws.ListLaws.{read_any}
-use Rattle.rules.specs.laws.SortLaws.{all_append}
+use Rattle.rules.proofs.laws.ListLaws.{read_any}
+use Rattle.rules.proofs.laws.SortLaws.{all_append}
 use Rattle.rules.specs.Lists.{All}
 
 -- ---- `copy_powers`

@@ -15,15 +15,15 @@ use lib.Ieee.{Float, nan, binary64, lt, add, mul, fits}
 use borrow.Rule.Slice.PartMut.{mid_of, put_mid}
 use mir.Val.{bool_byte}
 use Rattle.ieee.specs.Plain.{sign_clear, Plain}
-use Rattle.ieee.specs.laws.Order.{plain_irrefl}
+use Rattle.ieee.proofs.laws.Order.{plain_irrefl}
 use Rattle.rules.specs.Constants.{zero_f, one_half}
 use Rattle.rules.specs.Monitor.{floor_of, channel_width}
 use Rattle.rules.specs.Sort.{insert, sort}
 use borrow.Author.Tests.{not-true}
-use Rattle.rules.specs.laws.SortLaws.{Ordered, below, not_below, is_below, is_not_below, sort_length, sort_good, all_as, all_get_d, plain_order}
+use Rattle.rules.proofs.laws.SortLaws.{Ordered, below, not_below, is_below, is_not_below, sort_length, sort_good, all_as, all_get_d, plain_order}
 use Rattle.rules.specs.Lists.{All}
 use Rattle.iq_median.specs.declared.Search.{Search}
-use Rattle.rules.specs.laws.ListLaws.{read_any, bit}
+use Rattle.rules.proofs.laws.ListLaws.{read_any, bit}
 use Rattle.iq_median.proofs.Lists.{lent_powers, put_back}
 use Rattle.rules.specs.Lists.{all_of}
 use Rattle.iq_median.specs.Select.{passing, below_of, above_of, sorted_in, Window, Turning, Narrowed, Selected, lower_of, least_above}

@@ -1,5 +1,6 @@
 // The floor of the channels' powers: half the sum of the two in the middle, over lent f64 words. They are
 // n powers, 2 n words that stay as they are, and n for sorting.
+#![tactic(auto)]
 
 ghost use Rattle.std.specs.Prelude.{◌≡◌, ◌+◌, ◌-◌, ◌*◌, ◌/◌, ◌≤◌, ◌<◌, T, length, get_or, take, drop, ◌++◌};
 ghost use Rattle.std.specs.Float.{nan, binary64};

@@ -12,7 +12,7 @@ use Rattle.complex.specs.Complex.{sample_of, NoNan}
 use Rattle.rules.specs.Constants.{part_limit}
 use Rattle.rules.specs.Guard.{magnitude}
 use Rattle.rules.specs.Refusals.{within_limit, first_beyond_from}
-use Rattle.amplitude_limit.specs.laws.LimitLaws.{first_place}
+use Rattle.amplitude_limit.proofs.laws.LimitLaws.{first_place}
 
 limited_number : (x : Float) → T (le (magnitude x) part_limit) → T (not (is_nan x))
 unfolding magnitude le is_nan

@@ -10,7 +10,7 @@ use lib.Ieee.{Float, nan, binary64, add}
 use Rattle.complex.specs.Complex.{Complex}
 use Rattle.rules.specs.Constants.{zero_f}
 use Rattle.iq_monitor.specs.Words.{power_in, product_in, added_terms, added_channel, added_hop}
-use Rattle.iq_monitor.specs.laws.WordsLaws.{length_terms}
+use Rattle.iq_monitor.proofs.laws.WordsLaws.{length_terms}
 
 -- ---- two channels
 

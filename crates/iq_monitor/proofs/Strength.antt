@@ -13,7 +13,7 @@ use borrow.Author.Tests.{ltb-true, lt-ltb}
 use Rattle.rules.specs.Constants.{zero_f}
 use Rattle.rules.specs.Monitor.{Choice, nobody, channel_at, eligible, stronger, strongest}
 use Rattle.iq_monitor.specs.Observe.{power_at, EligibleFrom, stronger_of}
-use Rattle.rules.specs.laws.ListLaws.{read_any}
+use Rattle.rules.proofs.laws.ListLaws.{read_any}
 
 eligible_by : (n k : ℕ) → 2 < k → k + 2 < n → 2 < (k - n / 2) + (n / 2 - k) → eligible n k ≡ true
 eligible_by n k a b c = rw (lt-ltb 2 k a, lt-ltb (k + 2) n b, lt-ltb 2 ((k - n / 2) + (n / 2 - k)) c)

@@ -1,5 +1,6 @@
 // The mirror monitor: evidence of a mirror image in the channels of hops, over lent f64 words. They
 // are n powers, n real and n imaginary sums of products, and n for sorting.
+#![tactic(auto)]
 
 ghost use Rattle.std.specs.Prelude.{◌≡◌, ◌+◌, ◌-◌, ◌*◌, ◌/◌, ◌≤◌, ◌<◌, ◌^◌, length, replicate};
 ghost use Rattle.rules.specs.Constants.{zero_f, size_limit};
@@ -486,7 +487,7 @@ impl ImageMonitor {
                 answer: HopAnswer::Nothing,
             };
         }
-        if log::TOTAL_LIMIT < start {
+        if stage_log::TOTAL_LIMIT < start {
             return Observed {
                 monitor: self,
                 answer: HopAnswer::Early,

@@ -7,7 +7,7 @@ use Rattle.rules.specs.Log.{Stage, Mark, ring_number, repairs_of, repair_width, 
 use Rattle.rules.specs.Monitor.{Hop, Answer}
 use Rattle.rules.specs.Answers.{Said, accepted, nothing, refused, is_accepted}
 use Rattle.rules.specs.Chain.{released, held_of, clamped_of, ring_of, impulse_events, repair_ring, long_runs_of, dc_level, settled_by, evidence, last_words}
-use Rattle.log.specs.View.{ring_in, marks_at}
+use Rattle.stage_log.specs.View.{ring_in, marks_at}
 use Rattle.rules.specs.Guard.{Usable}
 use Rattle.rules.specs.Impulse.{lookahead_size}
 use Rattle.iq.specs.View.{settled_of}

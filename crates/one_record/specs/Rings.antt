@@ -6,7 +6,7 @@ use Rattle.rules.specs.Mode.{Mode, off, observe, apply}
 use Rattle.rules.specs.Log as rules
 use Rattle.rules.specs.Log.{Span, ring_number, dc, iq, Corrected, Uncertain, mark}
 use Rattle.rules.specs.Lists.{up_to}
-use Rattle.log.specs.View.{Logged, marks_at}
+use Rattle.stage_log.specs.View.{Logged, marks_at}
 use Rattle.impulse_slice.specs.Noted.{marks_for}
 use Rattle.iq.specs.View.{settled_of}
 use Rattle.stage_mode.specs.View.{mode_of}

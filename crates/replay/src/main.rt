@@ -2,6 +2,7 @@
 // answered at once; else the recording is read to its end before anything is printed, because a broken
 // last sample shows only there. Where a read fails, nothing is printed; that, and a report that could not be
 // written whole, is a line on standard error.
+#![tactic(auto)]
 
 ghost use Rattle.std.specs.Prelude.{◌≡◌, ◌+◌, ◌*◌, ◌≤◌, min, length};
 ghost use Rattle.rules.specs.Impulse.{lookahead_size};
@@ -47,9 +48,9 @@ struct Played {
 // The samples of a block, behind as many as are held.
 const SAMPLES: usize = 8192 + ImpulseSuppressor::LOOKAHEAD;
 
-const SPAN_STORE: usize = log::STORE_WORDS * replay_format::SPANS;
+const SPAN_STORE: usize = stage_log::STORE_WORDS * replay_format::SPANS;
 
-const REPAIR_STORE: usize = log::REPAIR_WORDS * replay_format::REPAIRS;
+const REPAIR_STORE: usize = stage_log::REPAIR_WORDS * replay_format::REPAIRS;
 
 const MONITOR_STORE: usize = ImageMonitor::CHANNEL_WORDS * replay_format::CHANNELS;
 

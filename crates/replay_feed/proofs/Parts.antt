@@ -10,7 +10,7 @@ use Rattle.rules.specs.Guard.{guarded}
 use Rattle.chain_state.specs.declared.InputConditioner.{InputConditioner}
 use Rattle.replay_format.specs.Format.{sample_size, words_in}
 use Rattle.replay_feed.specs.Feeding.{held_in, new_words, slice, behind}
-use Rattle.replay_feed.specs.laws.FeedingLaws.{inside, words_are, guarded_many, slice_is, behind_is}
+use Rattle.replay_feed.proofs.laws.FeedingLaws.{inside, words_are, guarded_many, slice_is, behind_is}
 
 -- all up to the part's end
 put_front : (a k : ℕ) (xs ys : List ℕ) → a + k ≤ length xs → length ys ≡ k → take (a + k) (put_mid a (a + k - a) xs ys) ≡ take a xs ++ ys

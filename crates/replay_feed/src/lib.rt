@@ -1,4 +1,5 @@
 // A block of a recording's samples, guarded and fed to the chain.
+#![tactic(auto)]
 
 ghost use Rattle.std.specs.Prelude.{◌≡◌, ◌*◌, ◌≤◌, min, length, take};
 ghost use Rattle.rules.specs.Guard.{guarded, unusable};

@@ -1,5 +1,3 @@
 -- definitions
 pub mod Format
 pub mod Header
--- what is proved of them
-pub mod laws

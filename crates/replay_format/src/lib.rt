@@ -1,4 +1,5 @@
 // A recording: its header, the words of its samples, and its tail.
+#![tactic(auto)]
 
 use chain_config::ConditioningConfig;
 

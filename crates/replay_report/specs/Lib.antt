@@ -2,5 +2,3 @@
 pub mod Lines
 pub mod Report
 pub mod Shown
--- what is proved of them
-pub mod laws

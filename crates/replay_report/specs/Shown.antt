@@ -1,8 +1,8 @@
 -- The report of a state and its span store. Any state and any store has one. Definitions only.
 use Rattle.std.specs.Prelude.{cond, ◌&&◌, List, [], ◌++◌, ℕ, length}
 use Rattle.rules.specs.Log.{Span, Stage, impulse, dc, iq, Mark, ring_number}
-use Rattle.log.specs.declared.Log.{Log}
-use Rattle.log.specs.Check.{ring_of, count_of, dropped_in_all}
+use Rattle.stage_log.specs.declared.Log.{Log}
+use Rattle.stage_log.specs.Check.{ring_of, count_of, dropped_in_all}
 use Rattle.iq.specs.View.{settled_of}
 use Rattle.chain_state.specs.declared.InputConditioner.{InputConditioner}
 use Rattle.chain_log.specs.Reading.{store_fits, readable, spans_in, state_level}

@@ -1,8 +1,9 @@
 // The report of a state, put into a lent store of bytes. Each function answers the place behind what it
 // put.
+#![tactic(auto)]
 
 ghost use Rattle.std.specs.Prelude.{◌≡◌, min, length};
-ghost use Rattle.log.specs.View.{stage_of, mark_of};
+ghost use Rattle.stage_log.specs.View.{stage_of, mark_of};
 ghost use Rattle.replay_text.specs.Text.{each, put, Written};
 ghost use Rattle.chain_log.specs.Reading.{level_of};
 ghost use Rattle.replay_report.specs.Lines.{level_line};
@@ -13,7 +14,7 @@ mod lines;
 
 use chain_log::{DcLevel, SpanRead};
 use chain_state::InputConditioner;
-use log::{Log, Mark, Stage};
+use stage_log::{Log, Mark, Stage};
 
 // ---- the counts
 
@@ -21,7 +22,7 @@ use log::{Log, Mark, Stage};
 fn put_count_of(text: &mut [u8], place: usize, log: Log, stage: Stage, kind: Mark) -> usize
     ensures { Written text.old place (shown_count log (stage_of stage) (mark_of kind)) text.new result }
 {
-    let which = log::ring_number(stage, kind);
+    let which = stage_log::ring_number(stage, kind);
     let count = log.counts[which];
     lines::put_count(text, place, stage, kind, count)
 }

@@ -4,14 +4,14 @@
 ghost use Rattle.complex.specs.View.{view64};
 ghost use Rattle.rules.specs.Chain.{level_is};
 ghost use Rattle.rules.specs.Log.{span_of};
-ghost use Rattle.log.specs.View.{stage_of, mark_of};
+ghost use Rattle.stage_log.specs.View.{stage_of, mark_of};
 ghost use Rattle.iq.specs.View.{settled_of};
 ghost use Rattle.replay_text.specs.Text.{letters, Written};
 ghost use Rattle.replay_report.specs.Lines.{stage_name, mark_name, ring_name, sample_lines, count_line, span_line, dropped_line, level_line, settled_line};
 
 use complex::Complex64;
 use iq::Iq;
-use log::{Mark, Span, Stage};
+use stage_log::{Mark, Span, Stage};
 
 pub fn put_samples(
     text: &mut [u8],

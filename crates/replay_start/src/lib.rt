@@ -1,4 +1,5 @@
 // A recording's start: the chain that its header makes.
+#![tactic(auto)]
 
 ghost use Rattle.std.specs.Prelude.{◌≡◌, length};
 ghost use Rattle.rules.specs.Constants.{zero_f};

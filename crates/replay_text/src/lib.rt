@@ -1,5 +1,6 @@
 // Text put into a lent store of bytes, as much as there is room for: bytes, and numbers in decimal and in
 // hexadecimal. Each function answers the place behind what it put.
+#![tactic(auto)]
 
 ghost use Rattle.std.specs.Prelude.{[], ◌∷◌, ◌++◌};
 ghost use Rattle.replay_text.specs.Text.{decimal, hexadecimal, Written};

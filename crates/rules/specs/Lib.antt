@@ -14,5 +14,3 @@ pub mod Undo
 pub mod Refusals
 pub mod Answers
 pub mod Chain
--- what is proved of them
-pub mod laws

@@ -1,5 +1,6 @@
 // The sample guard: which samples are usable, the first that isn't, and unusable ones replaced by 0. A
 // sample is a word, the bits of re in its low half, of im in its high half.
+#![tactic(auto)]
 
 ghost use Rattle.std.specs.Prelude.{◌≡◌, not, ◌<◌, length, set};
 ghost use Rattle.rules.specs.Guard.{usable, first_unusable_from, guarded, unusable};

@@ -1,4 +1,5 @@
 // How a stage runs.
+#![tactic(auto)]
 
 ghost use Rattle.std.specs.Prelude.{◌≡◌};
 ghost use Rattle.rules.specs.Mode.{is_apply, runs};

@@ -1,5 +1,6 @@
 // Operations on bad input: each of document 01's causes of number 5, by the table on standard input, and then random
 // makings, calls and hops.
+#![tactic(auto)]
 
 mod bench;
 mod causes;

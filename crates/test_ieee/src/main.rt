@@ -1,6 +1,7 @@
 // Runs the functions of `ieee` on known inputs, and writes only the lines whose answer differs.
 // Standard input has a line of 42 bytes for each: the function's name in 7 places, the bits of the
 // input and those of the answer in 16 hexadecimal digits each.
+#![tactic(auto)]
 
 ghost use Rattle.std.specs.Prelude.{◌+◌, ◌≤◌, length};
 

@@ -1,5 +1,6 @@
 // The chain's operations on a state's words, over as much of each store as is lent, with answers as two numbers: for the
 // programs that show a state, change one, or compare two to the last bit.
+#![tactic(auto)]
 
 ghost use Rattle.std.specs.Prelude.{◌≡◌, ◌≤◌, length, take};
 

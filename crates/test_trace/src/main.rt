@@ -1,5 +1,6 @@
 // Runs a list of operations from standard input and writes each answer, with slices, states and stores,
 // to standard output. Both are words; oracle/src/trace/mod.rs has their order.
+#![tactic(auto)]
 
 ghost use Rattle.std.specs.Prelude.{◌<◌};
 

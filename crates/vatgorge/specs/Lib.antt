@@ -9,5 +9,3 @@ pub mod Span
 pub mod Undo
 pub mod Stages
 pub mod Recording
--- what is proved of them
-pub mod laws

@@ -1,11 +1,11 @@
 -- vg_span: the ring that its arguments say, and all that it leaves. Definitions only.
 use Rattle.std.specs.Prelude.{cond, List, [], ◌∷◌, ℕ, eqb}
 use Rattle.rules.specs.Log.{ring_number}
-use Rattle.log.specs.declared.Stage.{Stage}
-use Rattle.log.specs.declared.Stage.TheVariants.{Impulse, Dc, Iq}
-use Rattle.log.specs.declared.Mark.{Mark}
-use Rattle.log.specs.declared.Mark.TheVariants.{Repaired, Flagged, Corrected, Uncertain}
-use Rattle.log.specs.View.{stage_of, mark_of}
+use Rattle.stage_log.specs.declared.Stage.{Stage}
+use Rattle.stage_log.specs.declared.Stage.TheVariants.{Impulse, Dc, Iq}
+use Rattle.stage_log.specs.declared.Mark.{Mark}
+use Rattle.stage_log.specs.declared.Mark.TheVariants.{Repaired, Flagged, Corrected, Uncertain}
+use Rattle.stage_log.specs.View.{stage_of, mark_of}
 use Rattle.chain_log.specs.Reading.{Found, no_span, found, span_read}
 use Rattle.chain_words.specs.States.{state_of}
 use Rattle.vatgorge.specs.Codes.{nothing_code, put_from}

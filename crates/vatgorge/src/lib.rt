@@ -1,6 +1,7 @@
 // The conditioner as a C library. A state is words that the caller lends, and so are the stores and the
 // words that values go to. Whatever they hold, every function takes them; a state that is written says
 // the same state when it is read.
+#![tactic(auto)]
 
 ghost use Rattle.std.specs.Prelude.{◌≡◌, length};
 ghost use Rattle.rules.specs.Log.{repair_width, store_width};
@@ -24,7 +25,7 @@ use chain_hop::HopSaid;
 use chain_log::{ConditioningLog, DcLevel, SpanRead};
 use chain_state::InputConditioner;
 use iq_monitor::{Evidence, ImageMonitor};
-use log::{Mark, Stage};
+use stage_log::{Mark, Stage};
 
 mod config;
 mod making;
@@ -95,7 +96,7 @@ pub extern "C" fn vg_span_words() -> u64
 pub extern "C" fn vg_span_store_words() -> u64
     ensures { result ≡ store_width }
 {
-    log::STORE_WORDS as u64
+    stage_log::STORE_WORDS as u64
 }
 
 // The repair store's words for each repair.
@@ -103,7 +104,7 @@ pub extern "C" fn vg_span_store_words() -> u64
 pub extern "C" fn vg_repair_store_words() -> u64
     ensures { result ≡ repair_width }
 {
-    log::REPAIR_WORDS as u64
+    stage_log::REPAIR_WORDS as u64
 }
 
 // The monitor store's words for each channel.

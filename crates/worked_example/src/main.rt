@@ -1,4 +1,5 @@
 // A worked example: sixty samples with one click, mended in two calls, and the repair undone.
+#![tactic(auto)]
 
 use chain_call::Conditioned;
 use chain_config::ConditioningConfig;
@@ -8,7 +9,7 @@ use complex::Complex32;
 use impulse_pause::PauseEdition;
 use iq::Calibration;
 use libc::STDOUT_FILENO;
-use log::{Mark, Stage};
+use stage_log::{Mark, Stage};
 use stage_mode::StageMode;
 
 // The sample (re, 0), as a word.

@@ -5,7 +5,7 @@ use Prim.Native.Nat.{◌+◌, ◌-◌, ◌≤◌}
 use native.Mathlib.Omega.{arith}
 use lib.ListN.{length, drop}
 use Rattle.rules.specs.Lists.{all_of}
-use Rattle.rules.specs.laws.ListLaws.{good_next, good_done}
+use Rattle.rules.proofs.laws.ListLaws.{good_next, good_done}
 use Rattle.amplitude_limit.specs.Limit.{under, halves_clear}
 use Rattle.amplitude_limit.proofs.Halves.{or_clear}
 use Rattle.amplitude_limit.proofs.all_under.Statement.{statement}

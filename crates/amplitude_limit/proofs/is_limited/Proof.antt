@@ -4,7 +4,7 @@ use mathlib.Core.Bool.{Bool, true, false, ◌&&◌}
 use lib.Ieee.{Float, le, neg}
 use Rattle.rules.specs.Constants.{part_limit}
 use Rattle.amplitude_limit.specs.Limit.{limited}
-use Rattle.amplitude_limit.specs.laws.LimitLaws.{limited_is}
+use Rattle.amplitude_limit.proofs.laws.LimitLaws.{limited_is}
 use Rattle.amplitude_limit.proofs.is_limited.Statement.{statement}
 use Rattle.amplitude_limit.proofs.is_limited.Tie as tie
 

@@ -4,7 +4,7 @@ use mathlib.Core.Bool.{Bool, true, false, cond}
 use Prim.Native.Nat.{◌+◌, ◌-◌, ◌≤◌}
 use lib.ListN.{length, drop}
 use Rattle.rules.specs.Refusals.{first_beyond_from}
-use Rattle.amplitude_limit.specs.laws.LimitLaws.{scan_here, scan_end}
+use Rattle.amplitude_limit.proofs.laws.LimitLaws.{scan_here, scan_end}
 use borrow.Author.Rules.{rules}
 use Rattle.amplitude_limit.proofs.scan.Statement.{statement}
 use Rattle.amplitude_limit.proofs.scan.Tie as tie

@@ -1,13 +1,13 @@
 -- `chain_call::accept` runs the stages one after another. Assumes nothing.
 use mathlib.Core.Path.{refl, sym, ap, ◌∙◌}
 use native.Mathlib.Omega.{arith}
-use Rattle.rules.specs.laws.ListLaws.{length-map}
-use Rattle.chain_state.specs.laws.FitsLaws.{state_fit}
+use Rattle.rules.proofs.laws.ListLaws.{length-map}
+use Rattle.chain_state.proofs.laws.FitsLaws.{state_fit}
 use Rattle.rules.specs.Answers.{accepted}
 use Rattle.chain.specs.Stages.{Acceptable}
-use Rattle.chain.specs.laws.CallTests.{acceptable}
-use Rattle.chain.specs.laws.SliceLaws.{new_few, new_length}
-use Rattle.chain.specs.laws.Processing.{ready_few, ready_inside, ran_bounded, ran_length, ready_count, ready_clamped, processed_written, processed_chain}
+use Rattle.chain.proofs.laws.CallTests.{acceptable}
+use Rattle.chain.proofs.laws.SliceLaws.{new_few, new_length}
+use Rattle.chain.proofs.laws.Processing.{ready_few, ready_inside, ran_bounded, ran_length, ready_count, ready_clamped, processed_written, processed_chain}
 use Rattle.chain_call.proofs.accept.Statement.{statement}
 use Rattle.chain_call.proofs.accept.Tie as tie
 

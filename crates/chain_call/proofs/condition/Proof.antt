@@ -5,7 +5,7 @@ use lib.Dec.{eqb}
 use lib.ListN.{length}
 use borrow.Author.Tests.{ne_eqb}
 use Rattle.chain.specs.Calls.{unread_refusal, Outcome}
-use Rattle.chain.specs.laws.CallTests.{told_number, passes, unread_declined, read_declined, read_accepted}
+use Rattle.chain.proofs.laws.CallTests.{told_number, passes, unread_declined, read_declined, read_accepted}
 use borrow.Author.Rules.{rules}
 use Rattle.chain_call.proofs.condition.Statement.{statement}
 use Rattle.chain_call.proofs.condition.Tie as tie

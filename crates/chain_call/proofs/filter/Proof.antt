@@ -6,7 +6,7 @@ use Rattle.rules.specs.Iq.{corrected_by}
 use Rattle.iq.specs.View.{settled_of}
 use Rattle.stage_mode.specs.View.{mode_of}
 use Rattle.chain.specs.Stages.{blocked_by}
-use Rattle.chain.specs.laws.SliceLaws.{blocked_by_length, filtered}
+use Rattle.chain.proofs.laws.SliceLaws.{blocked_by_length, filtered}
 use borrow.Author.Rules.{rules}
 use Rattle.chain_call.proofs.filter.Statement.{statement}
 use Rattle.chain_call.proofs.filter.Tie as tie

@@ -6,9 +6,9 @@ use lib.Dec.{lit<}
 use Rattle.rules.specs.Log.{span_of}
 use Rattle.rules.specs.Iq.{Settled}
 use Rattle.rules.specs.Constants.{total_limit}
-use Rattle.log.specs.View.{Logged}
-use Rattle.log.specs.Ready.{Fits, Bounded}
-use Rattle.log.specs.laws.CheckLaws.{bounded_fits}
+use Rattle.stage_log.specs.View.{Logged}
+use Rattle.stage_log.specs.Ready.{Fits, Bounded}
+use Rattle.stage_log.proofs.laws.CheckLaws.{bounded_fits}
 use Rattle.iq.specs.View.{settled_of}
 use Rattle.chain.specs.Stages.{noted_iq}
 use borrow.Author.Rules.{rules}

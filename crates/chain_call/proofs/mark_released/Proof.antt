@@ -3,12 +3,12 @@ use mathlib.Core.Path.{sym, ap, ◌∙◌, subst}
 use Prim.Native.Nat.{◌^◌}
 use native.Mathlib.Omega.{arith}
 use Rattle.rules.specs.Log.{span_of}
-use Rattle.log.specs.View.{Logged}
-use Rattle.log.specs.Ready.{Bounded}
+use Rattle.stage_log.specs.View.{Logged}
+use Rattle.stage_log.specs.Ready.{Bounded}
 use Rattle.iq.specs.View.{settled_of}
 use Rattle.stage_mode.specs.View.{mode_of}
 use Rattle.chain.specs.Stages.{noted_iq}
-use Rattle.chain.specs.laws.SliceLaws.{noted_dc_bounded}
+use Rattle.chain.proofs.laws.SliceLaws.{noted_dc_bounded}
 use borrow.Author.Rules.{rules}
 use Rattle.chain_call.proofs.mark_released.Statement.{statement}
 use Rattle.chain_call.proofs.mark_released.Tie as tie

@@ -7,9 +7,9 @@ use lib.Dec.{ltb}
 use borrow.Author.Tests.{eq-eqb, ne_eqb, lt-ltb, le-ltb, not-true, not-false}
 use Rattle.rules.specs.Refusals.{too_many}
 use Rattle.chain_state.specs.Fits.{state_fits}
-use Rattle.chain_state.specs.laws.FitsLaws.{Fit, state_fit}
+use Rattle.chain_state.proofs.laws.FitsLaws.{Fit, state_fit}
 use Rattle.chain.specs.Calls.{unread_refusal, told_unread}
-use Rattle.chain.specs.laws.CallTests.{call_number, unread_by}
+use Rattle.chain.proofs.laws.CallTests.{call_number, unread_by}
 use borrow.Author.Rules.{rules}
 use Rattle.chain_call.proofs.refusal.Statement.{statement}
 use Rattle.chain_call.proofs.refusal.Tie as tie

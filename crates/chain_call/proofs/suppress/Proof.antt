@@ -7,7 +7,7 @@ use borrow.Author.Tests.{not-true, not-false}
 use Rattle.impulse.specs.declared.ImpulseSuppressor.{ImpulseSuppressor}
 use Rattle.impulse_slice.specs.Noted.{note_all, state_after, handed, told, over}
 use Rattle.chain.specs.Stages.{setting_in, new_part, machine_of, notes_in}
-use Rattle.chain.specs.laws.SliceLaws.{call_roomy, call_room, off_after, off_told, off_out, off_written, on_after, on_told, on_out}
+use Rattle.chain.proofs.laws.SliceLaws.{call_roomy, call_room, off_after, off_told, off_out, off_written, on_after, on_told, on_out}
 use borrow.Author.Rules.{rules}
 use Rattle.chain_call.proofs.suppress.Statement.{statement}
 use Rattle.chain_call.proofs.suppress.Tie as tie

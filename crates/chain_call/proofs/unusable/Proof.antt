@@ -10,7 +10,7 @@ use borrow.Author.Rules.{rules}
 use borrow.Author.Tests.{ltb-true}
 use Rattle.rules.specs.Answers.{accepted, refused}
 use Rattle.rules.specs.Refusals.{unusable_at, any_unusable}
-use Rattle.chain.specs.laws.CallTests.{scan_at, scan_fine}
+use Rattle.chain.proofs.laws.CallTests.{scan_at, scan_fine}
 use Rattle.chain_call.proofs.unusable.Statement.{statement}
 use Rattle.chain_call.proofs.unusable.Tie as tie
 

@@ -2,7 +2,7 @@
 use mathlib.Core.Path.{refl, sym, ◌∙◌}
 use mathlib.Core.Bool.{true, false}
 use borrow.Author.Tests.{lt-ltb, le-ltb, eq-eqb, ne_eqb, not-true, not-false}
-use Rattle.chain_config.specs.laws.ConfigLaws.{setting_by}
+use Rattle.chain_config.proofs.laws.ConfigLaws.{setting_by}
 use borrow.Author.Rules.{rules}
 use Rattle.chain_config.proofs.settings_fit.Statement.{statement}
 use Rattle.chain_config.proofs.settings_fit.Tie as tie

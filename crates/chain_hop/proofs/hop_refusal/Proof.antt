@@ -7,8 +7,8 @@ use borrow.Author.Tests.{eq-eqb, ne_eqb, not-true, not-false}
 use lib.ListN.{length}
 use Rattle.rules.specs.Log.{store_width}
 use Rattle.chain_state.specs.Fits.{state_fits}
-use Rattle.chain_state.specs.laws.FitsLaws.{Fit, state_fit}
-use Rattle.chain_hop.specs.laws.HopLaws.{refusal_by}
+use Rattle.chain_state.proofs.laws.FitsLaws.{Fit, state_fit}
+use Rattle.chain_hop.proofs.laws.HopLaws.{refusal_by}
 use borrow.Author.Rules.{rules}
 use Rattle.chain_hop.proofs.hop_refusal.Statement.{statement}
 use Rattle.chain_hop.proofs.hop_refusal.Tie as tie

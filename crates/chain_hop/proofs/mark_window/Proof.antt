@@ -7,7 +7,7 @@ use native.Mathlib.Omega.{arith}
 use borrow.Author.Tests.{not-true, not-false}
 use Rattle.rules.specs.Log.{span_of}
 use Rattle.chain_hop.specs.Hops.{uncertain}
-use Rattle.chain_hop.specs.laws.HopLaws.{mark_ready}
+use Rattle.chain_hop.proofs.laws.HopLaws.{mark_ready}
 use borrow.Author.Rules.{rules}
 use Rattle.chain_hop.proofs.mark_window.Statement.{statement}
 use Rattle.chain_hop.proofs.mark_window.Tie as tie

@@ -4,10 +4,10 @@ use Prim.Native.Nat.{◌*◌}
 use native.Mathlib.Omega.{arith}
 use lib.ListN.{length}
 use Rattle.rules.specs.Log.{store_width}
-use Rattle.chain_state.specs.laws.FitsLaws.{Fit, state_fit}
+use Rattle.chain_state.proofs.laws.FitsLaws.{Fit, state_fit}
 use Rattle.iq_monitor.specs.declared.Observed.{Observed}
 use Rattle.chain_hop.specs.HopReady.{Told}
-use Rattle.chain_hop.specs.laws.HopLaws.{Ready, refusal_none, told_watched, taken_by, taken_words}
+use Rattle.chain_hop.proofs.laws.HopLaws.{Ready, refusal_none, told_watched, taken_by, taken_words}
 use borrow.Author.Rules.{rules}
 use Rattle.chain_hop.proofs.take_hop.Statement.{statement}
 use Rattle.chain_hop.proofs.take_hop.Tie as tie

@@ -2,7 +2,7 @@
 use mathlib.Core.Path.{sym, ap, ◌∙◌}
 use mathlib.Core.Bool.{true, false}
 use Rattle.iq_monitor.specs.Observe.{Seen}
-use Rattle.chain_hop.specs.laws.HopLaws.{watched_by}
+use Rattle.chain_hop.proofs.laws.HopLaws.{watched_by}
 use borrow.Author.Rules.{rules}
 use Rattle.chain_hop.proofs.watched.Statement.{statement}
 use Rattle.chain_hop.proofs.watched.Tie as tie

@@ -2,7 +2,7 @@
 use mathlib.Core.Path.{sym, ap, ◌∙◌}
 use borrow.Author.Rules.{rules}
 use Rattle.chain_log.specs.Reading.{level_from, log_of}
-use Rattle.chain_log.specs.laws.ReadingLaws.{level_again}
+use Rattle.chain_log.proofs.laws.ReadingLaws.{level_again}
 use Rattle.chain_log.proofs.log.Statement.{statement}
 use Rattle.chain_log.proofs.log.Tie as tie
 

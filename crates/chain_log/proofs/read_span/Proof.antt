@@ -3,10 +3,10 @@ use Prim.Native.Nat.{◌*◌}
 use native.Mathlib.Nat.{add-sub_cancel_left}
 use native.Mathlib.Omega.{arith}
 use lib.ListN.{length}
-use Rattle.log.specs.View.{marks_at}
-use Rattle.log.specs.Check.{ring_of}
-use Rattle.log.specs.laws.LogLaws.{part_inside}
-use Rattle.chain_log.specs.laws.ReadingLaws.{Store, store_is, has_is, read_sound}
+use Rattle.stage_log.specs.View.{marks_at}
+use Rattle.stage_log.specs.Check.{ring_of}
+use Rattle.stage_log.proofs.laws.LogLaws.{part_inside}
+use Rattle.chain_log.proofs.laws.ReadingLaws.{Store, store_is, has_is, read_sound}
 use borrow.Author.Rules.{rules}
 use Rattle.chain_log.proofs.read_span.Statement.{statement}
 use Rattle.chain_log.proofs.read_span.Tie as tie

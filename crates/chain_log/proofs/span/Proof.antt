@@ -6,11 +6,11 @@ use native.Mathlib.Omega.{arith}
 use lib.Dec.{ltb}
 use borrow.Author.Tests.{not-true, not-false}
 use Rattle.rules.specs.Log.{ring_number}
-use Rattle.log.specs.View.{stage_of, mark_of}
-use Rattle.log.specs.Check.{ring_of}
-use Rattle.log.specs.laws.RingNumbers.{ring_few}
+use Rattle.stage_log.specs.View.{stage_of, mark_of}
+use Rattle.stage_log.specs.Check.{ring_of}
+use Rattle.stage_log.proofs.laws.RingNumbers.{ring_few}
 use Rattle.chain_log.specs.Reading.{found, readable}
-use Rattle.chain_log.specs.laws.ReadingLaws.{no_store, no_span_lem, one_span}
+use Rattle.chain_log.proofs.laws.ReadingLaws.{no_store, no_span_lem, one_span}
 use borrow.Author.Rules.{rules}
 use Rattle.chain_log.proofs.span.Statement.{statement}
 use Rattle.chain_log.proofs.span.Tie as tie

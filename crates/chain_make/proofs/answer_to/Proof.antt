@@ -4,7 +4,7 @@ use mathlib.Core.Bool.{true, false}
 use borrow.Author.Rules.{rules}
 use Rattle.chain_config.specs.Config.{config_of}
 use Rattle.chain_make.specs.Making.{numbered}
-use Rattle.chain_make.specs.laws.MakingLaws.{said_by}
+use Rattle.chain_make.proofs.laws.MakingLaws.{said_by}
 use Rattle.chain_make.proofs.answer_to.Statement.{statement}
 use Rattle.chain_make.proofs.answer_to.Tie as tie
 

@@ -2,7 +2,7 @@
 use mathlib.Core.Path.{sym, ap, ◌∙◌}
 use borrow.Author.Rules.{rules}
 use Rattle.chain_make.specs.Making.{iq_of, fresh_settings}
-use Rattle.chain_make.specs.laws.MakingLaws.{iq_again}
+use Rattle.chain_make.proofs.laws.MakingLaws.{iq_again}
 use Rattle.chain_make.proofs.fresh_settings.Statement.{statement}
 use Rattle.chain_make.proofs.fresh_settings.Tie as tie
 

@@ -6,7 +6,7 @@ use borrow.Author.Tests.{not-true, not-false}
 use Rattle.rules.specs.Constants.{zero_f}
 use Rattle.chain_config.specs.Config.{config_of}
 use Rattle.chain_make.specs.Making.{is_made, making_said}
-use Rattle.chain_make.specs.laws.MakingLaws.{words_by}
+use Rattle.chain_make.proofs.laws.MakingLaws.{words_by}
 use borrow.Author.Rules.{rules}
 use Rattle.chain_make.proofs.with_geometry.Statement.{statement}
 use Rattle.chain_make.proofs.with_geometry.Tie as tie

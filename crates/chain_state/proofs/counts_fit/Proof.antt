@@ -7,7 +7,7 @@ use borrow.Author.Tests.{leb-true, eq-eqb, ne_eqb, not-true, not-false}
 use Rattle.rules.specs.Constants.{counter_limit}
 use Rattle.rules.specs.Impulse.{lookahead_size}
 use Rattle.chain_state.specs.Fits.{counter, held_by, counts_fit}
-use Rattle.chain_state.specs.laws.FitsLaws as laws
+use Rattle.chain_state.proofs.laws.FitsLaws as laws
 use Rattle.chain_config.proofs.Answers.{three}
 use borrow.Author.Rules.{rules}
 use Rattle.chain_state.proofs.counts_fit.Statement.{statement}

@@ -1,6 +1,6 @@
 -- `chain_undo::put_back` writes the sample's place, if the slice has it. Assumes nothing.
 use borrow.Author.Rules.{rules}
-use Rattle.chain_undo.specs.laws.Records.{returned_before, returned_in, returned_past}
+use Rattle.chain_undo.proofs.laws.Records.{returned_before, returned_in, returned_past}
 use Rattle.chain_undo.proofs.put_back.Statement.{statement}
 use Rattle.chain_undo.proofs.put_back.Tie as tie
 

@@ -11,7 +11,7 @@ use Rattle.rules.specs.Impulse.{longest_run}
 use Rattle.rules.specs.Lists.{at}
 use Rattle.rules.specs.Constants.{total_limit}
 use Rattle.chain_undo.specs.Undoing.{record_in, record_fits}
-use Rattle.chain_undo.specs.laws.Records.{record_start, record_length, record_by}
+use Rattle.chain_undo.proofs.laws.Records.{record_start, record_length, record_by}
 use Rattle.chain_undo.proofs.record_fits.Statement.{statement}
 use Rattle.chain_undo.proofs.record_fits.Tie as tie
 

@@ -9,11 +9,11 @@ use borrow.Author.Rules.{rules}
 use borrow.Author.Tests.{not-true, not-false}
 use lib.ListN.{length}
 use Rattle.rules.specs.Log.{repair_width}
-use Rattle.log.specs.Check.{all_to}
-use Rattle.log.specs.laws.CheckLaws.{all_next, all_not}
-use Rattle.log.specs.View.{ring_in}
+use Rattle.stage_log.specs.Check.{all_to}
+use Rattle.stage_log.proofs.laws.CheckLaws.{all_next, all_not}
+use Rattle.stage_log.specs.View.{ring_in}
 use Rattle.chain_undo.specs.Undoing.{record_in, record_fits}
-use Rattle.chain_undo.specs.laws.Records.{place_of, place_in, held_fit}
+use Rattle.chain_undo.proofs.laws.Records.{place_of, place_in, held_fit}
 use Rattle.chain_undo.proofs.records_fit.Statement.{statement}
 use Rattle.chain_undo.proofs.records_fit.Tie as tie
 

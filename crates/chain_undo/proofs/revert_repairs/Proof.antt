@@ -5,9 +5,9 @@ use native.Mathlib.Omega.{arith}
 use borrow.Author.Rules.{rules}
 use borrow.Author.Tests.{eq-eqb, ne_eqb, not-true, not-false}
 use Rattle.chain_state.specs.Fits.{state_fits}
-use Rattle.chain_state.specs.laws.FitsLaws.{state_fit}
+use Rattle.chain_state.proofs.laws.FitsLaws.{state_fit}
 use Rattle.chain_undo.specs.Undoing.{records_fit, records_of}
-use Rattle.chain_undo.specs.laws.UndoTests.{unfit_state, wrong_length, unfit_records, all_undone, ring_sound}
+use Rattle.chain_undo.proofs.laws.UndoTests.{unfit_state, wrong_length, unfit_records, all_undone, ring_sound}
 use Rattle.chain_undo.proofs.revert_repairs.Statement.{statement}
 use Rattle.chain_undo.proofs.revert_repairs.Tie as tie
 

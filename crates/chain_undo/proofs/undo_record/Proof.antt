@@ -10,7 +10,7 @@ use Rattle.rules.specs.Lists.{at}
 use Rattle.rules.specs.Undo.{undone}
 use Rattle.rules.specs.Constants.{total_limit}
 use Rattle.chain_undo.specs.Undoing.{record_in}
-use Rattle.chain_undo.specs.laws.Records.{Fit, record_fit, record_start, record_length, undone_step}
+use Rattle.chain_undo.proofs.laws.Records.{Fit, record_fit, record_start, record_length, undone_step}
 use Rattle.chain_undo.proofs.undo_record.Statement.{statement}
 use Rattle.chain_undo.proofs.undo_record.Tie as tie
 

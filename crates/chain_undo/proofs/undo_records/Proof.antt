@@ -7,9 +7,9 @@ use lib.ListN.{length}
 use Rattle.rules.specs.Log.{repair_width}
 use Rattle.rules.specs.Lists.{up_to}
 use Rattle.rules.specs.Undo.{undone_all}
-use Rattle.log.specs.View.{ring_in}
+use Rattle.stage_log.specs.View.{ring_in}
 use Rattle.chain_undo.specs.Undoing.{record_in}
-use Rattle.chain_undo.specs.laws.Records.{place_of, place_in, held_are, each_fits, undone_next}
+use Rattle.chain_undo.proofs.laws.Records.{place_of, place_in, held_are, each_fits, undone_next}
 use Rattle.chain_undo.proofs.undo_records.Statement.{statement}
 use Rattle.chain_undo.proofs.undo_records.Tie as tie
 

@@ -4,7 +4,7 @@ use Prim.Native.Nat.{◌+◌}
 use native.Mathlib.Omega.{arith}
 use lib.ListN.{length, take}
 use borrow.Author.Rules.{rules}
-use Rattle.rules.specs.laws.ListLaws.{length-map}
+use Rattle.rules.proofs.laws.ListLaws.{length-map}
 use Rattle.chain_words.specs.Words.{rings_words}
 use Rattle.chain_words.proofs.Filling.{behind, two}
 use Rattle.chain_words.proofs.put_log.Statement.{statement}

@@ -9,7 +9,7 @@ use borrow.Author.Rules.{rules}
 use Rattle.rules.specs.Impulse.{window_size}
 use Rattle.impulse_window.proofs.Blends.{held_more}
 use Rattle.impulse_window.specs.Rising.{Held}
-use Rattle.rules.specs.laws.ListLaws.{length-map}
+use Rattle.rules.proofs.laws.ListLaws.{length-map}
 use Rattle.rules.specs.Lists.{All}
 use Rattle.chain_words.specs.Words.{power_word, powers_words}
 use Rattle.chain_words.proofs.Filling.{Filled, filled_none, filled_next, filled_all}

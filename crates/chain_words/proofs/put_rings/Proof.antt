@@ -6,9 +6,9 @@ use native.Mathlib.Omega.{arith}
 use lib.Seq.{take_all}
 use lib.ListN.{length, get_or, take}
 use borrow.Author.Rules.{rules}
-use Rattle.log.specs.View.{fresh_ring}
-use Rattle.rules.specs.laws.ListLaws.{length-map}
-use Rattle.chain_words.specs.laws.Rings.{rings_next, rings_none}
+use Rattle.stage_log.specs.View.{fresh_ring}
+use Rattle.rules.proofs.laws.ListLaws.{length-map}
+use Rattle.chain_words.proofs.laws.Rings.{rings_next, rings_none}
 use Rattle.chain_words.specs.Words.{ring_words, rings_words}
 use Rattle.chain_words.proofs.Filling.{behind, two}
 use Rattle.chain_words.proofs.put_rings.Statement.{statement}

@@ -6,7 +6,7 @@ use native.Mathlib.Omega.{arith}
 use lib.ListN.{length, take}
 use borrow.Author.Rules.{rules}
 use Rattle.rules.specs.Impulse.{lookahead_size}
-use Rattle.rules.specs.laws.ListLaws.{length-map}
+use Rattle.rules.proofs.laws.ListLaws.{length-map}
 use Rattle.chain_words.specs.Words.{powers_words}
 use Rattle.chain_words.specs.Places as place
 use Rattle.chain_words.proofs.Filling.{behind, two}

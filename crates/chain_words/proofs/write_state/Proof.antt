@@ -6,8 +6,8 @@ use native.Mathlib.Omega.{arith}
 use lib.Seq.{take_all}
 use lib.ListN.{length, take}
 use borrow.Author.Rules.{rules}
-use Rattle.rules.specs.laws.ListLaws.{length-map}
-use Rattle.chain_words.specs.laws.Again.{again}
+use Rattle.rules.proofs.laws.ListLaws.{length-map}
+use Rattle.chain_words.proofs.laws.Again.{again}
 use Rattle.chain_words.specs.Typed.{Typed}
 use Rattle.chain_words.specs.States.{state_of}
 use Rattle.chain_words.specs.Words.{counter_words, arrays_words, log_words, words_of}

@@ -4,7 +4,7 @@ use lib.Ieee.{le}
 use Rattle.complex.specs.declared.Complex64.{Complex64}
 use Rattle.complex.specs.View.{view64}
 use Rattle.rules.specs.Constants.{one}
-use Rattle.dc.specs.laws.Clamp.{clamp_plain, clamp_by}
+use Rattle.dc.proofs.laws.Clamp.{clamp_plain, clamp_by}
 use Rattle.dc.proofs.clamp.Statement.{statement}
 use Rattle.dc.proofs.clamp.Tie as tie
 

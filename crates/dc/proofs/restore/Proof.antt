@@ -4,7 +4,7 @@ use Rattle.dc.specs.declared.DcBlocker.{DcBlocker}
 use Rattle.dc.specs.declared.Undone.{Undone}
 use Rattle.rules.specs.Dc.{corner, first_level}
 use Rattle.dc.specs.Blocker.{blocker_of}
-use Rattle.dc.specs.laws.Runs.{Undoing, undoing_next, undoing_end}
+use Rattle.dc.proofs.laws.Runs.{Undoing, undoing_next, undoing_end}
 use Rattle.dc.proofs.restore.Statement.{statement}
 use Rattle.dc.proofs.restore.Tie as tie
 

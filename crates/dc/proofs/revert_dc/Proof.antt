@@ -2,7 +2,7 @@
 use Rattle.std.proofs.Common.{true, false, ltb, [], ◌∷◌, length, sym, refl, ap, ◌∙◌, rules, le-ltb, lt-ltb, eq-eqb, ne_eqb}
 use borrow.Author.Tests.{not-true, not-false}
 use Rattle.amplitude_limit.specs.Limit.{returned}
-use Rattle.dc.specs.laws.UndoLaws.{undo_by}
+use Rattle.dc.proofs.laws.UndoLaws.{undo_by}
 use Rattle.dc.proofs.revert_dc.Statement.{statement}
 use Rattle.dc.proofs.revert_dc.Tie as tie
 

@@ -2,7 +2,7 @@
 use Rattle.std.proofs.Common.{◌≡◌, ℕ, ◌+◌, ◌-◌, ◌*◌, ◌/◌, ◌%◌, ◌^◌, ◌<◌, ◌≤◌, Bool, true, false, ◌⊎◌, sym, ap, ◌∙◌, inl, inr, mul_assoc, eq-zero-or-pos, mul_left_comm, arith, pow_pos, pow_mono, rules}
 use lib.Ieee.Nearest.{div_same}
 use Rattle.ieee.specs.Whole.{round_div, div_by}
-use Rattle.ieee.specs.laws.Numbers.{one_shl, pow_twice}
+use Rattle.ieee.proofs.laws.Numbers.{one_shl, pow_twice}
 use Rattle.ieee.proofs.dropped.Statement.{statement}
 use Rattle.ieee.proofs.dropped.Tie as tie
 

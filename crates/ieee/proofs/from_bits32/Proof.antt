@@ -1,7 +1,7 @@
 -- `ieee::from_bits32` meets its contract: its test is the logic's test for a NaN's pattern. Assumes nothing.
 use Rattle.std.proofs.Common.{◌*◌, ◌%◌, ◌^◌, ◌<◌, ◌≤◌, ◌∙◌, arith, rules, le-ltb, lt-ltb}
 use lib.Ieee.{binary32}
-use Rattle.ieee.specs.laws.Nan.{zero_by_zero, nan_of_bits, no_nan_bits}
+use Rattle.ieee.proofs.laws.Nan.{zero_by_zero, nan_of_bits, no_nan_bits}
 use Rattle.ieee.proofs.from_bits32.Statement.{statement}
 use Rattle.ieee.proofs.from_bits32.Tie as tie
 

@@ -3,7 +3,7 @@ use Rattle.std.proofs.Common.{◌≡◌, ◌*◌, ◌%◌, ◌^◌, Bool, false,
 use lib.Ieee.{Float, nan, binary64, to_bits}
 use borrow.Author.Tests.{lt-leb}
 use Rattle.ieee.specs.Narrow.{normal_in}
-use Rattle.ieee.specs.laws.Nan.{is_nan_lem, no_nan}
+use Rattle.ieee.proofs.laws.Nan.{is_nan_lem, no_nan}
 use Rattle.ieee.proofs.is_normal.Statement.{statement}
 use Rattle.ieee.proofs.is_normal.Tie as tie
 

@@ -2,7 +2,7 @@
 use Rattle.std.proofs.Common.{ap, ◌∙◌, rules}
 use lib.Ieee.{binary32, of_bits}
 use lib.Ieee.Bits.{of_bits-to_bits}
-use Rattle.ieee.specs.laws.NarrowLaws.{narrowed_fits}
+use Rattle.ieee.proofs.laws.NarrowLaws.{narrowed_fits}
 use Rattle.ieee.proofs.narrow.Statement.{statement}
 use Rattle.ieee.proofs.narrow.Tie as tie
 

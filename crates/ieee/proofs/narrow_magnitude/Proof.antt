@@ -6,7 +6,7 @@ use lib.Ieee.Nearest.{closest}
 use Rattle.ieee.specs.declared.Normal.{Normal}
 use Rattle.ieee.specs.Normal.{exponent_in, significand_in, shift_of, Normalised}
 use Rattle.ieee.specs.Narrow.{pattern_of}
-use Rattle.ieee.specs.laws.NormalLaws.{placed}
+use Rattle.ieee.proofs.laws.NormalLaws.{placed}
 use Rattle.ieee.proofs.narrow_magnitude.Statement.{statement}
 use Rattle.ieee.proofs.narrow_magnitude.Tie as tie
 

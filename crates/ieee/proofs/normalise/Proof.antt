@@ -1,7 +1,7 @@
 -- `ieee::normalise` meets its contract: a significand of 53 digits leaves room for its leading one at 61. Assumes nothing.
 use Rattle.std.proofs.Common.{◌≡◌, ℕ, ◌*◌, ◌%◌, ◌^◌, ◌<◌, ap, ◌∙◌, lt_of_lt_of_le, mod-eq_of_lt, arith, lit≤, rules}
 use Rattle.ieee.specs.Normal.{shift_of}
-use Rattle.ieee.specs.laws.NormalLaws.{Placed, placed}
+use Rattle.ieee.proofs.laws.NormalLaws.{Placed, placed}
 use Rattle.ieee.proofs.normalise.Statement.{statement}
 use Rattle.ieee.proofs.normalise.Tie as tie
 

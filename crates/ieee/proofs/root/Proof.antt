@@ -6,9 +6,9 @@ use lib.Ieee.Exact.{HasValue}
 use borrow.Author.Tests.{lt-leb}
 use Rattle.ieee.specs.Root.{rooted}
 use Rattle.ieee.specs.Normal.{exponent_in, significand_of}
-use Rattle.ieee.specs.laws.Nan.{is_nan_lem, no_nan, zero_by_zero}
-use Rattle.ieee.specs.laws.Fields.{Meaning, meaning}
-use Rattle.ieee.specs.laws.RootValue.{rooted_zero, rooted_negative, rooted_infinite, rooted_minus, rooted_nan}
+use Rattle.ieee.proofs.laws.Nan.{is_nan_lem, no_nan, zero_by_zero}
+use Rattle.ieee.proofs.laws.Fields.{Meaning, meaning}
+use Rattle.ieee.proofs.laws.RootValue.{rooted_zero, rooted_negative, rooted_infinite, rooted_minus, rooted_nan}
 use Rattle.ieee.proofs.root.Statement.{statement}
 use Rattle.ieee.proofs.root.Tie as tie
 

@@ -6,8 +6,8 @@ use lib.Ieee.Exact.{HasValue}
 use borrow.Author.Tests.{lt-leb}
 use Rattle.ieee.specs.declared.Normal.{Normal}
 use Rattle.ieee.specs.Normal.{exponent_in, significand_in, shift_of, Normalised}
-use Rattle.ieee.specs.laws.Fields.{Meaning, meaning_bits, number_bits}
-use Rattle.ieee.specs.laws.NormalLaws.{placed, even_of, evened}
+use Rattle.ieee.proofs.laws.Fields.{Meaning, meaning_bits, number_bits}
+use Rattle.ieee.proofs.laws.NormalLaws.{placed, even_of, evened}
 use Rattle.ieee.proofs.Rooting.{root_small, root_is}
 use Rattle.ieee.proofs.root_finite.Statement.{statement}
 use Rattle.ieee.proofs.root_finite.Tie as tie

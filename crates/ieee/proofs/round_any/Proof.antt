@@ -3,8 +3,8 @@ use Rattle.std.proofs.Common.{◌≡◌, T, sym, ap, ◌∙◌, subst, rules}
 use lib.Ieee.{binary32, binary64, to_bits, of_bits}
 use lib.Ieee.Bits.{of_bits-to_bits}
 use Rattle.ieee.specs.Narrow.{narrowed}
-use Rattle.ieee.specs.laws.Nan.{is_nan_lem, no_nan, zero_by_zero, bits_of_nan}
-use Rattle.ieee.specs.laws.NarrowLaws.{narrowed_nan, narrowed_fits}
+use Rattle.ieee.proofs.laws.Nan.{is_nan_lem, no_nan, zero_by_zero, bits_of_nan}
+use Rattle.ieee.proofs.laws.NarrowLaws.{narrowed_nan, narrowed_fits}
 use Rattle.ieee.proofs.Narrowing.{narrow_bits_is}
 use Rattle.ieee.proofs.round_any.Statement.{statement}
 use Rattle.ieee.proofs.round_any.Tie as tie

@@ -3,9 +3,9 @@ use Rattle.std.proofs.Common.{◌≡◌, ℕ, ◌*◌, ◌^◌, ◌<◌, Bool, n
 use lib.Ieee.{Float, binary32, binary64, to_bits, of_bits, fits, is_nan}
 use lib.Ieee.Bits.{nan_bits_is}
 use Rattle.ieee.specs.Narrow.{narrowed}
-use Rattle.ieee.specs.laws.Nan.{castable}
-use Rattle.ieee.specs.laws.NarrowLaws.{narrowed_fits}
-use Rattle.ieee.specs.laws.SingleLaws.{Cut, cut, not_nan}
+use Rattle.ieee.proofs.laws.Nan.{castable}
+use Rattle.ieee.proofs.laws.NarrowLaws.{narrowed_fits}
+use Rattle.ieee.proofs.laws.SingleLaws.{Cut, cut, not_nan}
 use Rattle.ieee.proofs.round_normal.Statement.{statement}
 use Rattle.ieee.proofs.round_normal.Tie as tie
 

@@ -2,8 +2,8 @@
 use Rattle.std.proofs.Common.{◌≡◌, ℕ, ◌+◌, ◌-◌, ◌*◌, ◌/◌, ◌%◌, ◌^◌, ◌<◌, ◌≤◌, sym, ap, ◌∙◌, mod-lt, div-le_self, arith, pow_pos, rules}
 use native.Mathlib.Nat.{mod-le}
 use lib.Bits.{bit_and, and_mask}
-use Rattle.ieee.specs.laws.Numbers.{one_shl}
-use Rattle.ieee.specs.laws.RoundedBits.{closest_up, closest_down}
+use Rattle.ieee.proofs.laws.Numbers.{one_shl}
+use Rattle.ieee.proofs.laws.RoundedBits.{closest_up, closest_down}
 use Rattle.ieee.proofs.shifted.Statement.{statement}
 use Rattle.ieee.proofs.shifted.Tie as tie
 

@@ -1,7 +1,7 @@
 -- `ieee::to_bits32` meets its contract: the number written at a NaN is the pattern that the logic gives it. Assumes nothing.
 use lib.Ieee.{binary32}
 use Rattle.std.proofs.Common.{rules}
-use Rattle.ieee.specs.laws.Nan.{no_nan, bits_of_nan}
+use Rattle.ieee.proofs.laws.Nan.{no_nan, bits_of_nan}
 use Rattle.ieee.proofs.to_bits32.Statement.{statement}
 use Rattle.ieee.proofs.to_bits32.Tie as tie
 

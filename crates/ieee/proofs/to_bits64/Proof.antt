@@ -1,7 +1,7 @@
 -- `ieee::to_bits64` meets its contract: the number written at a NaN is the pattern that the logic gives it. Assumes nothing.
 use lib.Ieee.{binary64}
 use Rattle.std.proofs.Common.{rules}
-use Rattle.ieee.specs.laws.Nan.{no_nan, bits_of_nan}
+use Rattle.ieee.proofs.laws.Nan.{no_nan, bits_of_nan}
 use Rattle.ieee.proofs.to_bits64.Statement.{statement}
 use Rattle.ieee.proofs.to_bits64.Tie as tie
 

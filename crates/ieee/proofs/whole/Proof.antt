@@ -3,8 +3,8 @@ use Rattle.std.proofs.Common.{T, sym, ap, ◌∙◌, subst, arith, le-leb}
 use lib.Ieee.{binary64, fits}
 use lib.Ieee.Bits.{of_bits-to_bits}
 use Rattle.ieee.specs.Whole.{div_by, whole_by}
-use Rattle.ieee.specs.laws.Nan.{is_nan_lem, no_nan, number_below}
-use Rattle.ieee.specs.laws.Fields.{meaning}
+use Rattle.ieee.proofs.laws.Nan.{is_nan_lem, no_nan, number_below}
+use Rattle.ieee.proofs.laws.Fields.{meaning}
 use Rattle.ieee.proofs.Wholes.{of_nan, below_zero}
 use Rattle.ieee.proofs.whole.Statement.{statement}
 use Rattle.ieee.proofs.whole.Tie as tie

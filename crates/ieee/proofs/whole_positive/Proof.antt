@@ -5,8 +5,8 @@ use borrow.Author.Tests.{lt-leb}
 use Rattle.ieee.specs.declared.Normal.{Normal}
 use Rattle.ieee.specs.Normal.{exponent_in, significand_in, shift_of, Normalised}
 use Rattle.ieee.specs.Whole.{div_by, whole_by}
-use Rattle.ieee.specs.laws.Fields.{Meaning, meaning_bits, number_bits}
-use Rattle.ieee.specs.laws.NormalLaws.{placed}
+use Rattle.ieee.proofs.laws.Fields.{Meaning, meaning_bits, number_bits}
+use Rattle.ieee.proofs.laws.NormalLaws.{placed}
 use Rattle.ieee.proofs.Wholes.{is_rule, low, middle, large}
 use Rattle.ieee.proofs.whole_positive.Statement.{statement}
 use Rattle.ieee.proofs.whole_positive.Tie as tie

@@ -3,7 +3,7 @@ use Rattle.std.proofs.Common.{◌*◌, ◌%◌, ◌^◌, ◌<◌, ◌≤◌, Boo
 use lib.Ieee.{binary32, binary64, nan_bits}
 use lib.Ieee.Bits.{nan_bits_is, of_bits-fits}
 use lib.Ieee.Fits.{fits_widens}
-use Rattle.ieee.specs.laws.Nan.{zero_by_zero, nan_of_bits, no_nan_bits, castable}
+use Rattle.ieee.proofs.laws.Nan.{zero_by_zero, nan_of_bits, no_nan_bits, castable}
 use Rattle.ieee.proofs.widen_bits.Statement.{statement}
 use Rattle.ieee.proofs.widen_bits.Tie as tie
 

@@ -10,9 +10,9 @@ use lib.Ieee.{Float, nan}
 use Rattle.rules.specs.Constants.{zero_f}
 use Rattle.rules.specs.Lists.{All}
 use Rattle.rules.specs.Impulse.{window_size}
-use Rattle.log.specs.Check.{all_to}
+use Rattle.stage_log.specs.Check.{all_to}
 use Rattle.impulse_window.specs.Rising.{Held}
-use Rattle.impulse.specs.laws.CircleLaws.{any_default}
+use Rattle.impulse.proofs.laws.CircleLaws.{any_default}
 use Rattle.impulse_arrays.specs.Occurs.{occurs}
 use borrow.Author.Rules.{rules}
 use Rattle.impulse_arrays.proofs.all_occur.Statement.{statement}

@@ -8,9 +8,9 @@ use native.Mathlib.Omega.{arith}
 use lib.ListN.{get_or}
 use lib.Ieee.{Float, nan}
 use Rattle.rules.specs.Constants.{zero_f}
-use Rattle.log.specs.Check.{all_to}
+use Rattle.stage_log.specs.Check.{all_to}
 use Rattle.impulse_arrays.specs.Fits.{power_fits}
-use Rattle.impulse.specs.laws.CircleLaws.{any_default}
+use Rattle.impulse.proofs.laws.CircleLaws.{any_default}
 use borrow.Author.Rules.{rules}
 use Rattle.impulse_arrays.proofs.first_powers_fit.Statement.{statement}
 use Rattle.impulse_arrays.proofs.first_powers_fit.Tie as tie

@@ -7,7 +7,7 @@ use borrow.Author.Tests.{not-false}
 use borrow.Author.Rules.{rules}
 use Rattle.rules.specs.Constants.{zero_f}
 use Rattle.rules.specs.Impulse.{window_size}
-use Rattle.log.specs.laws.CheckLaws.{all_at}
+use Rattle.stage_log.proofs.laws.CheckLaws.{all_at}
 use Rattle.impulse_arrays.specs.Occurs.{occurs}
 use Rattle.impulse_arrays.proofs.Arranged.{window_sorted}
 use Rattle.impulse_arrays.proofs.is_arranged.Statement.{statement}

@@ -9,7 +9,7 @@ use lib.Ieee.{Float}
 use borrow.Author.Rules.{rules}
 use Rattle.rules.specs.Constants.{zero_f}
 use Rattle.rules.specs.Impulse.{window_size}
-use Rattle.log.specs.laws.CheckLaws.{all_at, all_of}
+use Rattle.stage_log.proofs.laws.CheckLaws.{all_at, all_of}
 use Rattle.impulse_arrays.specs.Fits.{power_fits, powers_fit}
 use Rattle.impulse_arrays.proofs.powers_fit.Statement.{statement}
 use Rattle.impulse_arrays.proofs.powers_fit.Tie as tie

@@ -10,9 +10,9 @@ use lib.ListN.{get_or}
 use lib.Ieee.{Float, nan, binary64, to_bits}
 use borrow.Author.Tests.{eq-eqb, ne_eqb}
 use Rattle.rules.specs.Constants.{zero_f}
-use Rattle.log.specs.Check.{all_to}
-use Rattle.log.specs.laws.CheckLaws.{all_next, all_not}
-use Rattle.impulse.specs.laws.CircleLaws.{any_default}
+use Rattle.stage_log.specs.Check.{all_to}
+use Rattle.stage_log.proofs.laws.CheckLaws.{all_next, all_not}
+use Rattle.impulse.proofs.laws.CircleLaws.{any_default}
 use borrow.Author.Rules.{rules}
 use Rattle.impulse_arrays.proofs.same_powers.Statement.{statement}
 use Rattle.impulse_arrays.proofs.same_powers.Tie as tie

@@ -9,8 +9,8 @@ use lib.ListN.{length, get_or}
 use borrow.Author.Rules.{rules}
 use borrow.Author.Tests.{ltb-true, ltb-false, le-leb, lt-leb}
 use Rattle.rules.specs.Refusals.{within_limit}
-use Rattle.amplitude_limit.specs.laws.LimitLaws.{FirstBeyond, first_place}
-use Rattle.log.specs.laws.CheckLaws.{all_of, all_not}
+use Rattle.amplitude_limit.proofs.laws.LimitLaws.{FirstBeyond, first_place}
+use Rattle.stage_log.proofs.laws.CheckLaws.{all_of, all_not}
 use Rattle.impulse_arrays.specs.Fits.{samples_fit}
 use Rattle.impulse_arrays.proofs.samples_fit.Statement.{statement}
 use Rattle.impulse_arrays.proofs.samples_fit.Tie as tie

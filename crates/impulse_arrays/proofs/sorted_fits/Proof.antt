@@ -12,7 +12,7 @@ use borrow.Author.Tests.{eq-eqb}
 use borrow.Author.Rules.{rules}
 use Rattle.rules.specs.Constants.{zero_f}
 use Rattle.rules.specs.Sort.{sort}
-use Rattle.log.specs.laws.CheckLaws.{all_of}
+use Rattle.stage_log.proofs.laws.CheckLaws.{all_of}
 use Rattle.impulse_arrays.specs.Fits.{sorted_fits}
 use Rattle.impulse_arrays.proofs.sorted_fits.Statement.{statement}
 use Rattle.impulse_arrays.proofs.sorted_fits.Tie as tie

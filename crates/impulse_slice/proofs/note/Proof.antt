@@ -5,7 +5,7 @@ use Prim.Native.Nat.{ℕ, ◌+◌, ◌≤◌, ◌^◌}
 use native.Mathlib.Omega.{arith}
 use borrow.Author.Rules.{rules}
 use Rattle.impulse_slice.specs.Noted.{Noted, noted_of, note_all, doubts, filled_events, Roomy, events_size}
-use Rattle.impulse_slice.specs.laws.NotesLaws.{note_append, roomy_up, roomy_all}
+use Rattle.impulse_slice.proofs.laws.NotesLaws.{note_append, roomy_up, roomy_all}
 use Rattle.impulse_slice.proofs.note.Statement.{statement}
 use Rattle.impulse_slice.proofs.note.Tie as tie
 

@@ -4,7 +4,7 @@ use lib.Dec.{lit<}
 use borrow.Author.Rules.{rules}
 use borrow.Author.Tests.{not-true, not-false}
 use Rattle.rules.specs.Log.{span_of}
-use Rattle.log.specs.laws.CheckLaws.{bounded_fits}
+use Rattle.stage_log.proofs.laws.CheckLaws.{bounded_fits}
 use Rattle.impulse_slice.specs.Noted.{note_all}
 use Rattle.impulse_slice.proofs.Notings.{doubt_noted}
 use Rattle.impulse_slice.proofs.note_doubt.Statement.{statement}

@@ -3,7 +3,7 @@ use native.Mathlib.Omega.{arith}
 use lib.Dec.{lit<}
 use borrow.Author.Rules.{rules}
 use Rattle.rules.specs.Log.{span_of}
-use Rattle.log.specs.laws.CheckLaws.{bounded_fits}
+use Rattle.stage_log.proofs.laws.CheckLaws.{bounded_fits}
 use Rattle.impulse_slice.proofs.Notings.{mended_noted}
 use Rattle.impulse_slice.proofs.note_mended.Statement.{statement}
 use Rattle.impulse_slice.proofs.note_mended.Tie as tie

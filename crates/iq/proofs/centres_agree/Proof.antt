@@ -3,7 +3,7 @@ use Rattle.std.proofs.Common.{◌≡◌, Bool, ◌&&◌, pos, sym, ap, ◌∙◌
 use lib.Ieee.{Float, binary64, sub, neg, le, of_bits}
 use Rattle.rules.specs.Constants.{one}
 use Rattle.rules.specs.Guard.{magnitude}
-use Rattle.rules.specs.laws.SizeLaws.{size-le}
+use Rattle.rules.proofs.laws.SizeLaws.{size-le}
 use Rattle.rules.specs.Iq.{ranged, centres_agree}
 use Rattle.iq.proofs.centres_agree.Statement.{statement}
 use Rattle.iq.proofs.centres_agree.Tie as tie

@@ -3,7 +3,7 @@ use Rattle.std.proofs.Common.{◌≡◌, ◌-◌, ◌≤◌, sym, refl, ap, ◌�
 use lib.Ieee.{Float, binary64, sub, mul, div}
 use Rattle.rules.specs.Constants.{one}
 use Rattle.rules.specs.Iq.{cosine, cosine_series}
-use Rattle.iq.specs.laws.Series.{cosine_turn, cosine_end}
+use Rattle.iq.proofs.laws.Series.{cosine_turn, cosine_end}
 use Rattle.iq.proofs.cosine.Statement.{statement}
 use Rattle.iq.proofs.cosine.Tie as tie
 

@@ -1,5 +1,5 @@
 -- `iq::is_finite` is `finite`. Assumes nothing.
-use Rattle.iq.specs.laws.Tests.{finite_is}
+use Rattle.iq.proofs.laws.Tests.{finite_is}
 use Rattle.iq.proofs.is_finite.Statement.{statement}
 use Rattle.iq.proofs.is_finite.Tie as tie
 

@@ -3,7 +3,7 @@ use Rattle.std.proofs.Common.{◌≡◌, ◌-◌, ◌≤◌, sym, refl, ap, ◌�
 use lib.Ieee.{Float, binary64, sub, mul, div}
 use Rattle.rules.specs.Constants.{one}
 use Rattle.rules.specs.Iq.{sine, sine_series}
-use Rattle.iq.specs.laws.Series.{sine_turn, sine_end}
+use Rattle.iq.proofs.laws.Series.{sine_turn, sine_end}
 use Rattle.iq.proofs.sine.Statement.{statement}
 use Rattle.iq.proofs.sine.Tie as tie
 

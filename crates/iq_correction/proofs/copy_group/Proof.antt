@@ -1,6 +1,6 @@
 -- `iq_correction::copy_group` meets its contract. The invariant: what stands before place j is copied. Assumes nothing.
 use Rattle.std.proofs.Common.{◌-◌, refl, not-suc-le-zero, arith}
-use Rattle.iq_correction.specs.laws.GroupRuns.{Copying, copying_next, copying_end}
+use Rattle.iq_correction.proofs.laws.GroupRuns.{Copying, copying_next, copying_end}
 use Rattle.iq_correction.proofs.copy_group.Statement.{statement}
 use Rattle.iq_correction.proofs.copy_group.Tie as tie
 

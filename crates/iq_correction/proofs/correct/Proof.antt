@@ -1,5 +1,5 @@
 -- `iq_correction::correct` is `corrected`, rounded once. Assumes nothing.
-use Rattle.iq_correction.specs.laws.Steps.{corrected_by_lem}
+use Rattle.iq_correction.proofs.laws.Steps.{corrected_by_lem}
 use Rattle.std.proofs.Common.{rules}
 use Rattle.iq_correction.proofs.correct.Statement.{statement}
 use Rattle.iq_correction.proofs.correct.Tie as tie

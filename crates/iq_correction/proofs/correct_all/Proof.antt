@@ -1,8 +1,8 @@
 -- `iq_correction::correct_all` is the map of `corrected`. Assumes nothing.
 use borrow.Author.Tests.{not-false}
 use Rattle.complex.specs.View.{view64}
-use Rattle.iq_correction.specs.laws.GroupLaws.{small}
-use Rattle.iq_correction.specs.laws.GroupRuns.{mapping_rest}
+use Rattle.iq_correction.proofs.laws.GroupLaws.{small}
+use Rattle.iq_correction.proofs.laws.GroupRuns.{mapping_rest}
 use Rattle.std.proofs.Common.{rules}
 use Rattle.iq_correction.proofs.correct_all.Statement.{statement}
 use Rattle.iq_correction.proofs.correct_all.Tie as tie

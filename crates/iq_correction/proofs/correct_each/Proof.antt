@@ -3,7 +3,7 @@
 use Rattle.std.proofs.Common.{ℕ, ◌+◌, ◌-◌, length, set, sym, refl, subst, rules}
 use Rattle.complex.specs.View.{view64}
 use Rattle.rules.specs.Iq.{corrected}
-use Rattle.iq_correction.specs.laws.Maps.{mapping_next, mapping_end}
+use Rattle.iq_correction.proofs.laws.Maps.{mapping_next, mapping_end}
 use Rattle.iq_correction.specs.Groups.{Mapping}
 use Rattle.iq_correction.proofs.correct_each.Statement.{statement}
 use Rattle.iq_correction.proofs.correct_each.Tie as tie

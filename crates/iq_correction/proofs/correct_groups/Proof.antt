@@ -5,7 +5,7 @@ use borrow.Rule.Slice.PartMut.{mid_len}
 use Rattle.complex.specs.View.{view64}
 use Rattle.rules.specs.Iq.{corrected}
 use Rattle.iq_correction.specs.Groups.{Mapping}
-use Rattle.iq_correction.specs.laws.GroupRuns.{mapping_part}
+use Rattle.iq_correction.proofs.laws.GroupRuns.{mapping_part}
 use Rattle.iq_correction.proofs.correct_groups.Statement.{statement}
 use Rattle.iq_correction.proofs.correct_groups.Tie as tie
 

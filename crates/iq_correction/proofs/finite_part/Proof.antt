@@ -3,8 +3,8 @@ use Rattle.std.proofs.Common.{◌*◌, ◌%◌, ◌^◌, le_of_lt, rules, le-ltb
 use lib.Ieee.{binary32, binary64}
 use lib.Ieee.Bits.{of_bits-fits}
 use lib.Ieee.Fits.{fits_widens}
-use Rattle.ieee.specs.laws.Nan.{no_nan_bits, castable}
-use Rattle.iq_correction.specs.laws.GroupLaws.{part_number}
+use Rattle.ieee.proofs.laws.Nan.{no_nan_bits, castable}
+use Rattle.iq_correction.proofs.laws.GroupLaws.{part_number}
 use Rattle.iq_correction.proofs.finite_part.Statement.{statement}
 use Rattle.iq_correction.proofs.finite_part.Tie as tie
 

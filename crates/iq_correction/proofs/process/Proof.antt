@@ -3,7 +3,7 @@ use Rattle.std.proofs.Common.{◌≡◌, ℕ, List, map, sym, refl, ap, ◌∙�
 use Rattle.rules.specs.Iq.{Settled, Off, Observing, Withheld, corrected_by}
 use Rattle.iq.specs.declared.Iq.{Iq}
 use Rattle.iq.specs.View.{settled_of}
-use Rattle.iq_correction.specs.laws.Maps.{unchanged}
+use Rattle.iq_correction.proofs.laws.Maps.{unchanged}
 use Rattle.iq_correction.proofs.process.Statement.{statement}
 use Rattle.iq_correction.proofs.process.Tie as tie
 

@@ -3,7 +3,7 @@ use Rattle.std.proofs.Common.{true, false, ltb, [], ◌∷◌, length, sym, refl
 use borrow.Author.Tests.{not-true, not-false}
 use Rattle.complex.specs.View.{view64}
 use Rattle.amplitude_limit.specs.Limit.{returned}
-use Rattle.iq_correction.specs.laws.UndoLaws.{undo_by}
+use Rattle.iq_correction.proofs.laws.UndoLaws.{undo_by}
 use Rattle.iq_correction.proofs.revert_iq.Statement.{statement}
 use Rattle.iq_correction.proofs.revert_iq.Tie as tie
 

@@ -2,7 +2,7 @@
 use Rattle.std.proofs.Common.{◌-◌, not-suc-le-zero, arith, ltb-true}
 use Rattle.complex.specs.View.{view64}
 use Rattle.rules.specs.Iq.{corrected}
-use Rattle.iq_correction.specs.laws.GroupRuns.{finite_at, Trying, trying_next, trying_end}
+use Rattle.iq_correction.proofs.laws.GroupRuns.{finite_at, Trying, trying_next, trying_end}
 use Rattle.iq_correction.proofs.try_group.Statement.{statement}
 use Rattle.iq_correction.proofs.try_group.Tie as tie
 

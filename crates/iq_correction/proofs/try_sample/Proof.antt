@@ -4,7 +4,7 @@ use lib.Ieee.{binary64}
 use lib.Ieee.Bits.{to_bits-lt}
 use Rattle.complex.specs.Complex.{Complex}
 use Rattle.complex.specs.View.{view64}
-use Rattle.iq_correction.specs.laws.GroupLaws.{Numbers, numbers, exact, exact_by, part_lt, tried}
+use Rattle.iq_correction.proofs.laws.GroupLaws.{Numbers, numbers, exact, exact_by, part_lt, tried}
 use Rattle.iq_correction.proofs.try_sample.Statement.{statement}
 use Rattle.iq_correction.proofs.try_sample.Tie as tie
 

@@ -1,6 +1,6 @@
 -- `iq_correction::uncorrect` is `uncorrected_by`. Assumes nothing.
 use Rattle.complex.specs.View.{view64}
-use Rattle.iq_correction.specs.laws.Steps.{uncorrected_by_lem}
+use Rattle.iq_correction.proofs.laws.Steps.{uncorrected_by_lem}
 use Rattle.std.proofs.Common.{rules}
 use Rattle.iq_correction.proofs.uncorrect.Statement.{statement}
 use Rattle.iq_correction.proofs.uncorrect.Tie as tie

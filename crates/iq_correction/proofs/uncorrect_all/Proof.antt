@@ -2,7 +2,7 @@
 use Rattle.std.proofs.Common.{ℕ, map, ap, ◌∙◌, rules}
 use lib.Ieee.{Float}
 use Rattle.complex.specs.View.{view64}
-use Rattle.iq_correction.specs.laws.UndoLaws.{by_the_formula}
+use Rattle.iq_correction.proofs.laws.UndoLaws.{by_the_formula}
 use Rattle.iq_correction.specs.Undo.{uncorrected_by}
 use Rattle.iq_correction.proofs.uncorrect_all.Statement.{statement}
 use Rattle.iq_correction.proofs.uncorrect_all.Tie as tie

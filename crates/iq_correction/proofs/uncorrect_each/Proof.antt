@@ -2,7 +2,7 @@
 -- the same. Assumes nothing.
 use Rattle.std.proofs.Common.{ℕ, ◌+◌, ◌-◌, length, set, sym, refl, subst, rules}
 use Rattle.complex.specs.View.{view64}
-use Rattle.iq_correction.specs.laws.Maps.{mapping_next, mapping_end}
+use Rattle.iq_correction.proofs.laws.Maps.{mapping_next, mapping_end}
 use Rattle.iq_correction.specs.Groups.{Mapping}
 use Rattle.iq_correction.specs.Undo.{uncorrected_by}
 use Rattle.iq_correction.proofs.uncorrect_each.Statement.{statement}

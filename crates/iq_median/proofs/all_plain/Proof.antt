@@ -10,7 +10,7 @@ use lib.Ieee.{nan, binary64, fits}
 use Rattle.ieee.specs.Plain.{sign_clear}
 use Rattle.rules.specs.Lists.{All}
 use Rattle.rules.specs.Lists.{all_of}
-use Rattle.rules.specs.laws.ListLaws.{good_done, none_next, bit}
+use Rattle.rules.proofs.laws.ListLaws.{good_done, none_next, bit}
 use Rattle.iq_median.proofs.Lists.{all_at}
 use Rattle.iq_median.proofs.all_plain.Statement.{statement}
 use Rattle.iq_median.proofs.all_plain.Tie as tie

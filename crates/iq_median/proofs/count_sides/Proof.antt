@@ -4,7 +4,7 @@ use Prim.Native.Nat.{◌+◌, ◌-◌, ◌≤◌}
 use native.Mathlib.Omega.{arith}
 use lib.ListN.{length, get_or, drop}
 use lib.Ieee.{nan, lt}
-use Rattle.rules.specs.laws.ListLaws.{bit}
+use Rattle.rules.proofs.laws.ListLaws.{bit}
 use Rattle.iq_median.specs.Select.{below_of, above_of}
 use Rattle.iq_median.proofs.Selecting.{counted_next, counted_all}
 use Rattle.iq_median.proofs.count_sides.Statement.{statement}

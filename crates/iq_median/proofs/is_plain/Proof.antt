@@ -2,7 +2,7 @@
 use mathlib.Core.Path.{sym, ap, subst}
 use lib.Dec.{T}
 use lib.Ieee.{binary64, fits}
-use Rattle.ieee.specs.laws.Nan.{is_nan_lem, no_nan}
+use Rattle.ieee.proofs.laws.Nan.{is_nan_lem, no_nan}
 use Rattle.ieee.specs.Plain.{sign_clear}
 use Rattle.iq_median.proofs.Signs.{bit_tells}
 use Rattle.iq_median.proofs.is_plain.Statement.{statement}

@@ -4,7 +4,7 @@ use Prim.Native.Nat.{◌-◌}
 use native.Mathlib.Omega.{arith}
 use lib.ListN.{length, get_or}
 use lib.Ieee.{nan, lt}
-use Rattle.rules.specs.laws.ListLaws.{bit}
+use Rattle.rules.proofs.laws.ListLaws.{bit}
 use Rattle.iq_median.proofs.Selecting.{Kept, kept_next, kept_all}
 use Rattle.iq_median.proofs.keep_above.Statement.{statement}
 use Rattle.iq_median.proofs.keep_above.Tie as tie

@@ -5,7 +5,7 @@ use Prim.Native.Nat.{ℕ, ◌-◌, ◌≤◌}
 use native.Mathlib.Omega.{arith}
 use lib.ListN.{length, get_or, drop}
 use lib.Ieee.{binary64, nan, lt}
-use Rattle.ieee.specs.laws.Nan.{zero_by_zero}
+use Rattle.ieee.proofs.laws.Nan.{zero_by_zero}
 use borrow.Author.Tests.{not-true, not-false}
 use Rattle.iq_median.specs.Select.{least_above}
 use Rattle.iq_median.proofs.Selecting.{least_end, least_step}

@@ -6,7 +6,7 @@ use lib.Dec.{T}
 use lib.ListN.{length}
 use lib.Ieee.{binary64, nan}
 use Rattle.ieee.specs.Plain.{Plain}
-use Rattle.rules.specs.laws.SortLaws.{all_get_d}
+use Rattle.rules.proofs.laws.SortLaws.{all_get_d}
 use borrow.Author.Rules.{rules}
 use Rattle.iq_median.proofs.pivot.Statement.{statement}
 use Rattle.iq_median.proofs.pivot.Tie as tie

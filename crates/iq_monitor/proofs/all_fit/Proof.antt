@@ -7,7 +7,7 @@ use lib.ListN.{length, drop}
 use lib.Ieee.{nan}
 use Prim.Native.Nat.{◌-◌, ◌≤◌}
 use Rattle.rules.specs.Lists.{all_of}
-use Rattle.rules.specs.laws.ListLaws.{good_done, none_next, bit}
+use Rattle.rules.proofs.laws.ListLaws.{good_done, none_next, bit}
 use Rattle.iq_monitor.specs.Words.{sum_fits}
 use Rattle.iq_monitor.proofs.all_fit.Statement.{statement}
 use Rattle.iq_monitor.proofs.all_fit.Tie as tie

@@ -9,7 +9,7 @@ use Rattle.iq_monitor.specs.Observe.{power_at, cross_in}
 use Rattle.rules.specs.Monitor.{coherence_of, channel_width}
 use Rattle.rules.specs.Constants.{zero_f}
 use lib.Seq.{get_or-take}
-use Rattle.rules.specs.laws.ListLaws.{read_any}
+use Rattle.rules.proofs.laws.ListLaws.{read_any}
 use Rattle.iq_monitor.proofs.Turns.{mirror_lt}
 use borrow.Author.Rules.{rules}
 use Rattle.iq_monitor.proofs.pair_at.Statement.{statement}

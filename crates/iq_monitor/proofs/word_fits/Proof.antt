@@ -3,7 +3,7 @@ use mathlib.Core.Path.{◌≡◌, sym, ap, ◌∙◌}
 use mathlib.Core.Bool.{Bool, true, false, ◌&&◌}
 use lib.IntN.{pos}
 use lib.Ieee.{Float, le, neg, of_bits}
-use Rattle.rules.specs.laws.SizeLaws.{size-le}
+use Rattle.rules.proofs.laws.SizeLaws.{size-le}
 use Rattle.rules.specs.Constants.{word_limit}
 use Rattle.iq_monitor.specs.Words.{sum_fits}
 use Rattle.iq_monitor.proofs.word_fits.Statement.{statement}

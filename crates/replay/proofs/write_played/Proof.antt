@@ -2,7 +2,7 @@
 use Rattle.std.proofs.Common.{◌≡◌, ℕ, zero, suc, min, Bool, true, false, cond, List, [], length, sym, refl, ap, ◌∙◌, arith, rules}
 use Rattle.replay_text.specs.Text.{put}
 use Rattle.replay_text.specs.Notices.{refused_text, off_text}
-use Rattle.replay_text.specs.laws.PutLaws.{written_none}
+use Rattle.replay_text.proofs.laws.PutLaws.{written_none}
 use Rattle.replay_report.specs.Report.{report_text, text_unless}
 use Rattle.replay_report.specs.Shown.{report_in}
 use Rattle.replay.specs.declared.Played.{Played}

@@ -9,10 +9,10 @@ use borrow.Author.Tests.{ne_eqb}
 use Rattle.rules.specs.Guard.{unusable}
 use Rattle.chain.specs.Stages.{machine_of}
 use Rattle.chain.specs.Calls.{unread_refusal, taken}
-use Rattle.chain.specs.laws.CallTests.{told_number}
+use Rattle.chain.proofs.laws.CallTests.{told_number}
 use Rattle.replay_format.specs.Format.{sample_size}
 use Rattle.replay_feed.specs.Feeding.{BlockOutcome}
-use Rattle.replay_feed.specs.laws.FeedingLaws.{many, block_refused, block_taken}
+use Rattle.replay_feed.proofs.laws.FeedingLaws.{many, block_refused, block_taken}
 use Rattle.replay_feed.proofs.Parts.{part_words, call_slice, call_long, call_behind}
 use borrow.Author.Rules.{rules}
 use Rattle.replay_feed.proofs.feed.Statement.{statement}

@@ -1,7 +1,7 @@
 -- `replay_report::put_count_of`: the count of the ring that the stage and the kind name. Assumes nothing.
 use Prim.Native.Nat.{◌<◌}
 use native.Mathlib.Omega.{arith}
-use Rattle.log.specs.laws.RingNumbers.{ring_few}
+use Rattle.stage_log.proofs.laws.RingNumbers.{ring_few}
 use borrow.Author.Rules.{rules}
 use Rattle.replay_report.proofs.put_count_of.Statement.{statement}
 use Rattle.replay_report.proofs.put_count_of.Tie as tie

@@ -2,7 +2,7 @@
 use mathlib.Core.List.{◌++◌}
 use Rattle.iq.specs.View.{settled_of}
 use Rattle.chain_log.specs.Reading.{log_of}
-use Rattle.replay_text.specs.laws.PutLaws.{written_as, written_then}
+use Rattle.replay_text.proofs.laws.PutLaws.{written_as, written_then}
 use Rattle.replay_report.specs.Lines.{dropped_line, level_line, settled_line}
 use borrow.Author.Rules.{rules}
 use Rattle.replay_report.proofs.put_rest.Statement.{statement}

@@ -1,5 +1,5 @@
 -- `replay_report::put_spans`: the three stages, one behind the other. Assumes nothing.
-use Rattle.replay_text.specs.laws.PutLaws.{written_then}
+use Rattle.replay_text.proofs.laws.PutLaws.{written_then}
 use borrow.Author.Rules.{rules}
 use Rattle.replay_report.proofs.put_spans.Statement.{statement}
 use Rattle.replay_report.proofs.put_spans.Tie as tie

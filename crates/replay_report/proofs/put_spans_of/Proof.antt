@@ -6,15 +6,15 @@ use native.Mathlib.Omega.{arith}
 use lib.ListN.{length, take}
 use lib.Seq.{take_all}
 use Rattle.rules.specs.Log.{Span, span_of, ring_number}
-use Rattle.log.specs.View.{stage_of, mark_of}
+use Rattle.stage_log.specs.View.{stage_of, mark_of}
 use Rattle.chain_log.specs.declared.SpanRead.TheVariants.{Held}
 use Rattle.chain_log.specs.Reading.{said_span, number_in}
 use Rattle.replay_text.specs.Text.{each, Written}
-use Rattle.replay_text.specs.laws.PutLaws.{length_put, written_none}
+use Rattle.replay_text.proofs.laws.PutLaws.{length_put, written_none}
 use Rattle.replay_report.specs.Lines.{span_line}
 use Rattle.replay_report.specs.Report.{span_lines_of}
 use Rattle.replay_report.specs.Shown.{shown_spans}
-use Rattle.replay_report.specs.laws.ShownLaws.{number_none, number_some, span_next, shown_read, shown_few}
+use Rattle.replay_report.proofs.laws.ShownLaws.{number_none, number_some, span_next, shown_read, shown_few}
 use borrow.Author.Rules.{rules}
 use Rattle.replay_report.proofs.put_spans_of.Statement.{statement}
 use Rattle.replay_report.proofs.put_spans_of.Tie as tie

@@ -1,6 +1,6 @@
 -- `replay_report::put_stage_counts`: the four marks, one behind the other. Assumes nothing.
 use Rattle.replay_text.specs.Text.{each}
-use Rattle.replay_text.specs.laws.PutLaws.{written_then, written_last}
+use Rattle.replay_text.proofs.laws.PutLaws.{written_then, written_last}
 use borrow.Author.Rules.{rules}
 use Rattle.replay_report.proofs.put_stage_counts.Statement.{statement}
 use Rattle.replay_report.proofs.put_stage_counts.Tie as tie

@@ -1,7 +1,7 @@
 -- `replay_report::write_report`: its parts, one behind the other, from the first place on. Assumes nothing.
 use native.Mathlib.Omega.{arith}
-use Rattle.replay_text.specs.laws.PutLaws.{written_as, written_then}
-use Rattle.replay_report.specs.laws.ShownLaws.{report_pieces}
+use Rattle.replay_text.proofs.laws.PutLaws.{written_as, written_then}
+use Rattle.replay_report.proofs.laws.ShownLaws.{report_pieces}
 use borrow.Author.Rules.{rules}
 use Rattle.replay_report.proofs.write_report.Statement.{statement}
 use Rattle.replay_report.proofs.write_report.Tie as tie

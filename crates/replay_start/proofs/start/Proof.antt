@@ -3,8 +3,8 @@ use mathlib.Core.Path.{ap, sym, ◌∙◌}
 use Rattle.rules.specs.Constants.{zero_f}
 use Rattle.chain_make.specs.Making.{Said, fresh_state, made_words}
 use Rattle.replay_format.specs.Header.{said_header}
-use Rattle.replay_format.specs.laws.HeaderLaws.{config_again}
-use Rattle.replay_start.specs.laws.StartingLaws.{said_is, state_is}
+use Rattle.replay_format.proofs.laws.HeaderLaws.{config_again}
+use Rattle.replay_start.proofs.laws.StartingLaws.{said_is, state_is}
 use borrow.Author.Rules.{rules}
 use Rattle.replay_start.proofs.start.Statement.{statement}
 use Rattle.replay_start.proofs.start.Tie as tie

@@ -6,7 +6,7 @@ use native.Mathlib.Omega.{arith}
 use lib.ListN.{length, take}
 use lib.Seq.{take-suc, take_all}
 use Rattle.replay_text.specs.Text.{Written}
-use Rattle.replay_text.specs.laws.PutLaws.{length_put, written_none, written_then}
+use Rattle.replay_text.proofs.laws.PutLaws.{length_put, written_none, written_then}
 use borrow.Author.Rules.{rules}
 use Rattle.replay_text.proofs.put.Statement.{statement}
 use Rattle.replay_text.proofs.put.Tie as tie

@@ -1,7 +1,7 @@
 -- `replay_text::put_decimal`: the fewest digits are the decimal text. Assumes nothing.
 use mathlib.Core.Path.{◌∙◌}
 use native.Mathlib.Omega.{arith}
-use Rattle.replay_text.specs.laws.DigitLaws.{fewest_most, fewest_decimal}
+use Rattle.replay_text.proofs.laws.DigitLaws.{fewest_most, fewest_decimal}
 use borrow.Author.Rules.{rules}
 use Rattle.replay_text.proofs.put_decimal.Statement.{statement}
 use Rattle.replay_text.proofs.put_decimal.Tie as tie

@@ -2,7 +2,7 @@
 use mathlib.Core.Path.{◌≡◌}
 use native.Mathlib.Omega.{arith}
 use Rattle.replay_text.specs.Text.{hexadecimal}
-use Rattle.replay_text.specs.laws.DigitLaws.{fewest_most}
+use Rattle.replay_text.proofs.laws.DigitLaws.{fewest_most}
 use borrow.Author.Rules.{rules}
 use Rattle.replay_text.proofs.put_hex.Statement.{statement}
 use Rattle.replay_text.proofs.put_hex.Tie as tie

@@ -1,5 +1,5 @@
 -- `replay_text::put_number`: the texts stand one behind the other. Assumes nothing.
-use Rattle.replay_text.specs.laws.PutLaws.{written_then}
+use Rattle.replay_text.proofs.laws.PutLaws.{written_then}
 use borrow.Author.Rules.{rules}
 use Rattle.replay_text.proofs.put_number.Statement.{statement}
 use Rattle.replay_text.proofs.put_number.Tie as tie

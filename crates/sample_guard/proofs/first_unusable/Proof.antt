@@ -7,7 +7,7 @@ use borrow.Author.Tests.{lt-ltb, le-ltb, not-true, not-false}
 use lib.ListN.{length, drop}
 use Rattle.rules.specs.Guard.{first_unusable_from}
 use Rattle.sample_guard.specs.Found.{found}
-use Rattle.sample_guard.specs.laws.GuardLaws.{none_found, scan_next, scan_stop, scan_end}
+use Rattle.sample_guard.proofs.laws.GuardLaws.{none_found, scan_next, scan_stop, scan_end}
 use Rattle.sample_guard.proofs.first_unusable.Statement.{statement}
 use Rattle.sample_guard.proofs.first_unusable.Tie as tie
 

@@ -5,7 +5,7 @@ use Prim.Native.Nat.{◌%◌, ◌^◌}
 use native.Mathlib.Omega.{arith}
 use borrow.Author.Tests.{le-leb, lt-leb}
 use Rattle.amplitude_limit.specs.Limit.{under}
-use Rattle.sample_guard.specs.laws.GuardLaws.{usable_pattern}
+use Rattle.sample_guard.proofs.laws.GuardLaws.{usable_pattern}
 use Rattle.sample_guard.proofs.is_usable.Statement.{statement}
 use Rattle.sample_guard.proofs.is_usable.Tie as tie
 

@@ -3,7 +3,7 @@ use Prim.Native.Nat.{◌+◌, ◌-◌}
 use native.Mathlib.Omega.{arith}
 use borrow.Author.Rules.{rules}
 use lib.ListN.{length}
-use Rattle.sample_guard.specs.laws.GuardLaws.{Guarding, guarding_start, guarding_next, guarding_end}
+use Rattle.sample_guard.proofs.laws.GuardLaws.{Guarding, guarding_start, guarding_next, guarding_end}
 use Rattle.sample_guard.proofs.replace_unusable.Statement.{statement}
 use Rattle.sample_guard.proofs.replace_unusable.Tie as tie
 

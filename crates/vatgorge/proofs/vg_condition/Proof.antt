@@ -7,10 +7,10 @@ use borrow.Author.Rules.{rules}
 use borrow.Author.Tests.{ne_eqb}
 use Rattle.chain_state.specs.declared.InputConditioner.{InputConditioner}
 use Rattle.chain.specs.Calls.{Outcome, unread_refusal, called}
-use Rattle.chain.specs.laws.CallTests.{told_number, passes, unread_declined, read_declined, read_accepted}
+use Rattle.chain.proofs.laws.CallTests.{told_number, passes, unread_declined, read_declined, read_accepted}
 use Rattle.chain.specs.Stages.{machine_of}
 use Rattle.rules.specs.Answers.{number_of}
-use Rattle.vatgorge.specs.laws.CallAfter.{unread_after, declined_after}
+use Rattle.vatgorge.proofs.laws.CallAfter.{unread_after, declined_after}
 use Rattle.vatgorge.specs.Condition.{out_after}
 use Rattle.vatgorge.specs.Codes.{words_after}
 use Rattle.vatgorge.proofs.vg_condition.Statement.{statement}

@@ -4,13 +4,13 @@ use mathlib.Core.Path.{◌≡◌, subst, ap, ◌∙◌}
 use lib.Dec.{eqb}
 use borrow.Author.Rules.{rules}
 use Rattle.chain_words.specs.States.{state_of}
-use Rattle.chain_hop.specs.laws.HopKeeps.{hop_keeps}
+use Rattle.chain_hop.proofs.laws.HopKeeps.{hop_keeps}
 use Rattle.chain_hop.specs.Hops.{Hopped, said_hop, hop_of, hop_told}
 use Rattle.chain_hop.specs.declared.HopCalled.{HopCalled}
 use Rattle.chain_state.specs.declared.InputConditioner.{InputConditioner}
 use Rattle.rules.specs.Monitor.{Answer}
 use Rattle.rules.specs.Answers.{Said, is_accepted}
-use Rattle.vatgorge.specs.laws.Says.{says, hop_zero}
+use Rattle.vatgorge.proofs.laws.Says.{says, hop_zero}
 use Rattle.vatgorge.specs.Hop.{code_of, out_after}
 use Rattle.vatgorge.specs.Codes.{words_after, state_after}
 use Rattle.vatgorge.proofs.vg_hop.Statement.{statement}

@@ -2,7 +2,7 @@
 use mathlib.Core.Path.{ap, ◌∙◌}
 use borrow.Author.Rules.{rules}
 use Rattle.chain_log.specs.Reading.{span_read}
-use Rattle.log.specs.View.{stage_of, mark_of}
+use Rattle.stage_log.specs.View.{stage_of, mark_of}
 use Rattle.rules.specs.Log.{ring_number}
 use Rattle.vatgorge.specs.Span.{after_found}
 use Rattle.vatgorge.proofs.vg_span.Statement.{statement}

@@ -7,7 +7,7 @@ use lib.Dec.{eqb}
 use borrow.Author.Tests.{eq-eqb, ne_eqb, not-true, not-false}
 use Rattle.chain_config.specs.declared.ConditioningConfig.{ConditioningConfig}
 use Rattle.chain_config.specs.Config.{config_of, setting_refusal}
-use Rattle.chain_config.specs.laws.ConfigLaws.{Limits, setting_limits, unfit_setting, length_by}
+use Rattle.chain_config.proofs.laws.ConfigLaws.{Limits, setting_limits, unfit_setting, length_by}
 use borrow.Author.Rules.{rules}
 use Rattle.chain_config.proofs.ConditioningConfig.fits.Statement.{statement}
 use Rattle.chain_config.proofs.ConditioningConfig.fits.Tie as tie

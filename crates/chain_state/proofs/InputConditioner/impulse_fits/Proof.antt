@@ -2,7 +2,7 @@
 use mathlib.Core.Path.{◌≡◌, refl}
 use mathlib.Core.Bool.{Bool, true, false}
 use Prim.Native.Nat.{ℕ}
-use Rattle.log.specs.Check.{all_to}
+use Rattle.stage_log.specs.Check.{all_to}
 use Rattle.impulse.specs.declared.ImpulseSuppressor.{ImpulseSuppressor}
 use Rattle.impulse_arrays.specs.Fits.{arrays_fit}
 use Rattle.chain_state.specs.Fits.{suppressor_fits}

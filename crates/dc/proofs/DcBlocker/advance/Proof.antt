@@ -1,5 +1,5 @@
 -- `dc::DcBlocker::advance` is `stepped_by`. Assumes nothing.
-use Rattle.dc.specs.laws.Steps.{rested_by, moved_by}
+use Rattle.dc.proofs.laws.Steps.{rested_by, moved_by}
 use Rattle.std.proofs.Common.{rules}
 use Rattle.dc.proofs.DcBlocker.advance.Statement.{statement}
 use Rattle.dc.proofs.DcBlocker.advance.Tie as tie

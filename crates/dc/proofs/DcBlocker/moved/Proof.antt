@@ -1,5 +1,5 @@
 -- `dc::DcBlocker::moved` is `pushed`. Assumes nothing.
-use Rattle.dc.specs.laws.Steps.{pushed_by}
+use Rattle.dc.proofs.laws.Steps.{pushed_by}
 use Rattle.std.proofs.Common.{rules}
 use Rattle.dc.proofs.DcBlocker.moved.Statement.{statement}
 use Rattle.dc.proofs.DcBlocker.moved.Tie as tie

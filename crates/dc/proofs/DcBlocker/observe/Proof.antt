@@ -1,9 +1,9 @@
 -- `dc::DcBlocker::observe` is `after_slice`. The invariant: what is counted before place k, and what is left from k on, give the same. Assumes nothing.
 use Rattle.std.proofs.Common.{◌+◌, ◌-◌, length, sym, refl, subst, arith, rules}
 use mir.Val.{bool_byte}
-use Rattle.rules.specs.laws.ListLaws.{bit}
+use Rattle.rules.proofs.laws.ListLaws.{bit}
 use Rattle.dc.specs.declared.Stepped.{Stepped}
-use Rattle.dc.specs.laws.Runs.{Counting, counting_start, counting_next, counting_end}
+use Rattle.dc.proofs.laws.Runs.{Counting, counting_start, counting_next, counting_end}
 use Rattle.dc.proofs.DcBlocker.observe.Statement.{statement}
 use Rattle.dc.proofs.DcBlocker.observe.Tie as tie
 

@@ -1,5 +1,5 @@
 -- `dc::DcBlocker::observe_sample` is `observed`. Assumes nothing.
-use Rattle.dc.specs.laws.Steps.{plainly, observed_by}
+use Rattle.dc.proofs.laws.Steps.{plainly, observed_by}
 use Rattle.std.proofs.Common.{rules}
 use Rattle.dc.proofs.DcBlocker.observe_sample.Statement.{statement}
 use Rattle.dc.proofs.DcBlocker.observe_sample.Tie as tie

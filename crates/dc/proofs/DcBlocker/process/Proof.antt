@@ -3,8 +3,8 @@
 use Rattle.std.proofs.Common.{◌+◌, ◌-◌, length, set, sym, refl, subst, arith, rules}
 use mir.Val.{bool_byte}
 use Rattle.dc.specs.declared.Taken.{Taken}
-use Rattle.rules.specs.laws.ListLaws.{bit}
-use Rattle.dc.specs.laws.Runs.{counting_start, Processing, processing_next, processing_end}
+use Rattle.rules.proofs.laws.ListLaws.{bit}
+use Rattle.dc.proofs.laws.Runs.{counting_start, Processing, processing_next, processing_end}
 use Rattle.dc.proofs.DcBlocker.process.Statement.{statement}
 use Rattle.dc.proofs.DcBlocker.process.Tie as tie
 

@@ -1,5 +1,5 @@
 -- `dc::DcBlocker::process_sample` is `processed`: a sample less the level, and the level moved by that. Assumes nothing.
-use Rattle.dc.specs.laws.Steps.{plainly, processed_by}
+use Rattle.dc.proofs.laws.Steps.{plainly, processed_by}
 use Rattle.std.proofs.Common.{rules}
 use Rattle.dc.proofs.DcBlocker.process_sample.Statement.{statement}
 use Rattle.dc.proofs.DcBlocker.process_sample.Tie as tie

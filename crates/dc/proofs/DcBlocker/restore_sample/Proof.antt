@@ -7,7 +7,7 @@ use Rattle.rules.specs.Dc.{advanced}
 use Rattle.dc.specs.declared.DcBlocker.{DcBlocker}
 use Rattle.dc.specs.declared.Stepped.{Stepped}
 use Rattle.dc.specs.Blocker.{level_of, blocker_of, pushed, stepped_by}
-use Rattle.dc.specs.laws.Steps.{plainly, restored_by}
+use Rattle.dc.proofs.laws.Steps.{plainly, restored_by}
 use Rattle.dc.proofs.DcBlocker.restore_sample.Statement.{statement}
 use Rattle.dc.proofs.DcBlocker.restore_sample.Tie as tie
 

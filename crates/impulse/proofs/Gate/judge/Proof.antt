@@ -11,7 +11,7 @@ use Rattle.rules.specs.Impulse.{Setting, width, window_size, trim_size}
 use Rattle.impulse.specs.declared.Mending.{Mending}
 use Rattle.impulse.specs.declared.Gate.{Gate}
 use Rattle.impulse.specs.Room.{run_end}
-use Rattle.impulse.specs.laws.RoomLaws.{entered_keeps, entered_setting}
+use Rattle.impulse.proofs.laws.RoomLaws.{entered_keeps, entered_setting}
 use Rattle.impulse.specs.Machine.{setting_of, entered, grown, ending, Judgement, decided, judge, flagged_by}
 use Rattle.impulse.specs.View.{judged_of}
 use Rattle.impulse.proofs.Gate.judge.Statement.{statement}

@@ -9,7 +9,7 @@ use borrow.Author.Rules.{rules}
 use Rattle.rules.specs.Impulse.{power_of, window_size}
 use Rattle.impulse.specs.declared.Gate.{Gate}
 use Rattle.impulse.specs.Room.{run_end}
-use Rattle.impulse.specs.laws.RoomLaws.{ordered_length}
+use Rattle.impulse.proofs.laws.RoomLaws.{ordered_length}
 use Rattle.impulse.specs.Machine.{push}
 use Rattle.impulse.proofs.Gate.push.Statement.{statement}
 use Rattle.impulse.proofs.Gate.push.Tie as tie

@@ -4,7 +4,7 @@ use borrow.Author.Tests.{not-true, not-false}
 use Rattle.complex.specs.View.{view64}
 use Rattle.rules.specs.Iq.{coefficient}
 use Rattle.iq.specs.View.{calibration_of}
-use Rattle.iq.specs.laws.Settling.{settled_by_lem}
+use Rattle.iq.proofs.laws.Settling.{settled_by_lem}
 use Rattle.iq.proofs.IqCalibration.authorized.Statement.{statement}
 use Rattle.iq.proofs.IqCalibration.authorized.Tie as tie
 

@@ -2,7 +2,7 @@
 use Rattle.std.proofs.Common.{◌≡◌, ℕ, Bool, true, false, ◌&&◌, eqb, sym, refl, ap, ◌∙◌, rules}
 use Rattle.rules.specs.Iq.{gain_fits, phase_fits, centre_fits, centres_agree, correctable}
 use Rattle.iq.specs.View.{calibration_of}
-use Rattle.iq.specs.laws.Tests.{fits_by, validation_by}
+use Rattle.iq.proofs.laws.Tests.{fits_by, validation_by}
 use Rattle.iq.proofs.IqCalibration.correctable.Statement.{statement}
 use Rattle.iq.proofs.IqCalibration.correctable.Tie as tie
 

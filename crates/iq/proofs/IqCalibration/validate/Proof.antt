@@ -4,7 +4,7 @@ use lib.Ieee.{neg, of_bits}
 use borrow.Author.Tests.{not-true, not-false}
 use Rattle.rules.specs.Refusals.{validation}
 use Rattle.iq.specs.View.{calibration_of}
-use Rattle.iq.specs.laws.Tests.{validation_by}
+use Rattle.iq.proofs.laws.Tests.{validation_by}
 use Rattle.iq.proofs.IqCalibration.validate.Statement.{statement}
 use Rattle.iq.proofs.IqCalibration.validate.Tie as tie
 

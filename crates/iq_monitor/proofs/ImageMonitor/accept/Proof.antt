@@ -14,7 +14,7 @@ use Rattle.iq_monitor.specs.declared.HopAnswer.TheVariants as answer
 use Rattle.iq_monitor.specs.declared.ImageMonitor.{ImageMonitor}
 use Rattle.iq_monitor.specs.Words.{added_hop}
 use Rattle.iq_monitor.specs.Observe.{Seen, evidence, report_in, first_or, monitor_of, full, end_of}
-use Rattle.iq_monitor.specs.laws.ObserveLaws.{accepted_by}
+use Rattle.iq_monitor.proofs.laws.ObserveLaws.{accepted_by}
 use borrow.Author.Rules.{rules}
 use Rattle.iq_monitor.proofs.ImageMonitor.accept.Statement.{statement}
 use Rattle.iq_monitor.proofs.ImageMonitor.accept.Tie as tie

@@ -9,12 +9,12 @@ use native.Mathlib.Omega.{arith}
 use lib.Dec.{ltb}
 use borrow.Author.Tests.{lt-ltb, le-ltb}
 use Rattle.rules.specs.Refusals.{bad_start, any_beyond, first_beyond_from}
-use Rattle.amplitude_limit.specs.laws.LimitLaws.{first_place}
+use Rattle.amplitude_limit.proofs.laws.LimitLaws.{first_place}
 use Rattle.iq_monitor.specs.declared.HopAnswer.TheVariants as answer
 use Rattle.iq_monitor.specs.declared.ImageMonitor.{ImageMonitor}
 use Rattle.iq_monitor.specs.declared.Observed.{Observed}
 use Rattle.iq_monitor.specs.Observe.{Seen, observed, said, hop_said}
-use Rattle.iq_monitor.specs.laws.ObserveLaws.{observed_by, said_is, wrong_length, right_length, start_above, start_within}
+use Rattle.iq_monitor.proofs.laws.ObserveLaws.{observed_by, said_is, wrong_length, right_length, start_above, start_within}
 use borrow.Author.Rules.{rules}
 use Rattle.iq_monitor.proofs.ImageMonitor.observe.Statement.{statement}
 use Rattle.iq_monitor.proofs.ImageMonitor.observe.Tie as tie

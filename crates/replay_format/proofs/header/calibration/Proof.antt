@@ -1,5 +1,5 @@
 -- `replay_format::header::calibration`: by the present byte, none or three numbers. Assumes nothing.
-use Rattle.replay_format.specs.laws.HeaderLaws.{present}
+use Rattle.replay_format.proofs.laws.HeaderLaws.{present}
 use borrow.Author.Rules.{rules}
 use Rattle.replay_format.proofs.header.calibration.Statement.{statement}
 use Rattle.replay_format.proofs.header.calibration.Tie as tie

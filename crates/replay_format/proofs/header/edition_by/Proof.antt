@@ -1,7 +1,7 @@
 -- `replay_format::header::edition_by` is `edition_by`. Assumes nothing.
 use mathlib.Core.Path.{ap, ◌∙◌}
 use Rattle.impulse_pause.specs.View.{edition_of}
-use Rattle.replay_format.specs.laws.HeaderLaws.{edition_by_lem}
+use Rattle.replay_format.proofs.laws.HeaderLaws.{edition_by_lem}
 use borrow.Author.Rules.{rules}
 use Rattle.replay_format.proofs.header.edition_by.Statement.{statement}
 use Rattle.replay_format.proofs.header.edition_by.Tie as tie

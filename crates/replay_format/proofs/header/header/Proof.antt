@@ -4,7 +4,7 @@ use mathlib.Core.Bool.{true, false}
 use borrow.Author.Tests.{le-leb, lt-leb, not-true, not-false}
 use Rattle.replay_format.specs.Format.{version_fits}
 use Rattle.replay_format.specs.Header.{config}
-use Rattle.replay_format.specs.laws.HeaderLaws.{said_by}
+use Rattle.replay_format.proofs.laws.HeaderLaws.{said_by}
 use borrow.Author.Rules.{rules}
 use Rattle.replay_format.proofs.header.header.Statement.{statement}
 use Rattle.replay_format.proofs.header.header.Tie as tie

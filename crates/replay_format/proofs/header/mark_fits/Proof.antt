@@ -1,6 +1,6 @@
 -- `replay_format::header::mark_fits` tests byte by byte. Assumes nothing.
-use Rattle.rules.specs.laws.TestLaws.{and_so}
-use Rattle.replay_format.specs.laws.HeaderLaws.{last_test}
+use Rattle.rules.proofs.laws.TestLaws.{and_so}
+use Rattle.replay_format.proofs.laws.HeaderLaws.{last_test}
 use borrow.Author.Tests.{eq-eqb, ne_eqb}
 use borrow.Author.Rules.{rules}
 use Rattle.replay_format.proofs.header.mark_fits.Statement.{statement}

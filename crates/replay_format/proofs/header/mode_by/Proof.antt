@@ -1,5 +1,5 @@
 -- `replay_format::header::mode_by` is `mode_by`. Assumes nothing.
-use Rattle.replay_format.specs.laws.HeaderLaws.{mode_apply}
+use Rattle.replay_format.proofs.laws.HeaderLaws.{mode_apply}
 use borrow.Author.Rules.{rules}
 use Rattle.replay_format.proofs.header.mode_by.Statement.{statement}
 use Rattle.replay_format.proofs.header.mode_by.Tie as tie

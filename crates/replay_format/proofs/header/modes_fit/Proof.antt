@@ -1,6 +1,6 @@
 -- `replay_format::header::modes_fit` tests byte by byte. Assumes nothing.
-use Rattle.rules.specs.laws.TestLaws.{and_so}
-use Rattle.replay_format.specs.laws.HeaderLaws.{last_test}
+use Rattle.rules.proofs.laws.TestLaws.{and_so}
+use Rattle.replay_format.proofs.laws.HeaderLaws.{last_test}
 use borrow.Author.Tests.{le-leb, lt-leb}
 use borrow.Author.Rules.{rules}
 use Rattle.replay_format.proofs.header.modes_fit.Statement.{statement}

@@ -1,6 +1,6 @@
 -- `replay_format::words::half_at`: four bytes, each in its place. Assumes nothing.
 use native.Mathlib.Omega.{arith}
-use Rattle.replay_format.specs.laws.FormatLaws.{half_by_bytes}
+use Rattle.replay_format.proofs.laws.FormatLaws.{half_by_bytes}
 use borrow.Author.Rules.{rules}
 use Rattle.replay_format.proofs.words.half_at.Statement.{statement}
 use Rattle.replay_format.proofs.words.half_at.Tie as tie

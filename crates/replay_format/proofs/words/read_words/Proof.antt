@@ -3,7 +3,7 @@ use Prim.Native.Nat.{◌-◌}
 use native.Mathlib.Omega.{arith}
 use borrow.Author.Rules.{rules}
 use lib.ListN.{length}
-use Rattle.replay_format.specs.laws.FormatLaws.{Reading, reading_start, reading_next, reading_end}
+use Rattle.replay_format.proofs.laws.FormatLaws.{Reading, reading_start, reading_next, reading_end}
 use Rattle.replay_format.proofs.words.read_words.Statement.{statement}
 use Rattle.replay_format.proofs.words.read_words.Tie as tie
 

@@ -1,6 +1,6 @@
 -- `replay_format::words::tail_number`: by what is left over of the bytes. Assumes nothing.
 use mathlib.Core.Path.{sym}
-use Rattle.replay_format.specs.laws.FormatLaws.{tail_refused, tail_passes}
+use Rattle.replay_format.proofs.laws.FormatLaws.{tail_refused, tail_passes}
 use Rattle.replay_format.proofs.words.tail_number.Statement.{statement}
 use Rattle.replay_format.proofs.words.tail_number.Tie as tie
 

@@ -1,5 +1,5 @@
 -- `replay_format::words::word_at`: two halves. Assumes nothing.
-use Rattle.replay_format.specs.laws.FormatLaws.{word_by_halves}
+use Rattle.replay_format.proofs.laws.FormatLaws.{word_by_halves}
 use borrow.Author.Rules.{rules}
 use Rattle.replay_format.proofs.words.word_at.Statement.{statement}
 use Rattle.replay_format.proofs.words.word_at.Tie as tie

@@ -1,7 +1,7 @@
 -- `replay_report::lines::put_count`: nothing where the count is 0, else the ring's name and the count. Assumes nothing.
 use borrow.Author.Tests.{eq-eqb, ne_eqb}
 use Rattle.replay_text.specs.Text.{letters, line}
-use Rattle.replay_text.specs.laws.PutLaws.{written_none, written_then}
+use Rattle.replay_text.proofs.laws.PutLaws.{written_none, written_then}
 use Rattle.replay_report.specs.Lines.{count_line}
 use borrow.Author.Rules.{rules}
 use Rattle.replay_report.proofs.lines.put_count.Statement.{statement}

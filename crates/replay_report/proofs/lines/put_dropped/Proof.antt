@@ -1,7 +1,7 @@
 -- `replay_report::lines::put_dropped`: the two numbers stand one behind the other. Assumes nothing.
 use Rattle.replay_text.specs.Text.{letters}
-use Rattle.replay_text.specs.laws.PutLaws.{written_as, written_then}
-use Rattle.replay_report.specs.laws.LineLaws.{dropped_pieces}
+use Rattle.replay_text.proofs.laws.PutLaws.{written_as, written_then}
+use Rattle.replay_report.proofs.laws.LineLaws.{dropped_pieces}
 use borrow.Author.Rules.{rules}
 use Rattle.replay_report.proofs.lines.put_dropped.Statement.{statement}
 use Rattle.replay_report.proofs.lines.put_dropped.Tie as tie

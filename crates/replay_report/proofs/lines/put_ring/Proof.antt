@@ -1,6 +1,6 @@
 -- `replay_report::lines::put_ring`: the stage's name and the mark's. Assumes nothing.
 use Rattle.replay_text.specs.Text.{letters}
-use Rattle.replay_text.specs.laws.PutLaws.{written_then}
+use Rattle.replay_text.proofs.laws.PutLaws.{written_then}
 use Rattle.replay_report.specs.Lines.{ring_name}
 use borrow.Author.Rules.{rules}
 use Rattle.replay_report.proofs.lines.put_ring.Statement.{statement}

@@ -1,8 +1,8 @@
 -- `replay_report::lines::put_span`: the ring's name, and the span's two numbers. Assumes nothing.
-use Rattle.log.specs.View.{stage_of, mark_of}
+use Rattle.stage_log.specs.View.{stage_of, mark_of}
 use Rattle.replay_text.specs.Text.{letters}
-use Rattle.replay_text.specs.laws.PutLaws.{written_as, written_then}
-use Rattle.replay_report.specs.laws.LineLaws.{span_pieces}
+use Rattle.replay_text.proofs.laws.PutLaws.{written_as, written_then}
+use Rattle.replay_report.proofs.laws.LineLaws.{span_pieces}
 use borrow.Author.Rules.{rules}
 use Rattle.replay_report.proofs.lines.put_span.Statement.{statement}
 use Rattle.replay_report.proofs.lines.put_span.Tie as tie

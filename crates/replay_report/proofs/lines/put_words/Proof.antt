@@ -1,6 +1,6 @@
 -- `replay_report::lines::put_words`: the level's two words. Assumes nothing.
 use Rattle.replay_text.specs.Text.{letters, line}
-use Rattle.replay_text.specs.laws.PutLaws.{written_then}
+use Rattle.replay_text.proofs.laws.PutLaws.{written_then}
 use Rattle.replay_report.specs.Lines.{level_line}
 use borrow.Author.Rules.{rules}
 use Rattle.replay_report.proofs.lines.put_words.Statement.{statement}

@@ -3,7 +3,7 @@ use mathlib.Core.Path.{sym, ap, ◌∙◌}
 use Rattle.chain_config.specs.declared.ConditioningConfig.{ConditioningConfig}
 use Rattle.chain_config.specs.Config.{config_of, observed}
 use Rattle.replay_format.specs.Header.{config_from}
-use Rattle.replay_format.specs.laws.HeaderLaws.{config_again}
+use Rattle.replay_format.proofs.laws.HeaderLaws.{config_again}
 use Rattle.vatgorge.specs.Config.{config_words}
 use borrow.Author.Rules.{rules}
 use Rattle.vatgorge.proofs.config.vg_observing.Statement.{statement}

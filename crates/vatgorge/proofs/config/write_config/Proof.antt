@@ -1,6 +1,6 @@
 -- `vatgorge::config::write_config`: its words say it, by its types. Assumes nothing.
 use mathlib.Core.Path.{ap, ◌∙◌}
-use Rattle.vatgorge.specs.laws.ConfigAgain.{config_again}
+use Rattle.vatgorge.proofs.laws.ConfigAgain.{config_again}
 use Rattle.vatgorge.specs.Config.{config_in}
 use borrow.Author.Rules.{rules}
 use Rattle.vatgorge.proofs.config.write_config.Statement.{statement}

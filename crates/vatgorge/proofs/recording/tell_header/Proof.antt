@@ -1,7 +1,7 @@
 -- `vatgorge::recording::tell_header`: by what was read. Assumes nothing.
 use mathlib.Core.Path.{sym, ap, ◌∙◌}
 use Rattle.replay_format.specs.Header.{said_header}
-use Rattle.replay_format.specs.laws.HeaderLaws.{config_again}
+use Rattle.replay_format.proofs.laws.HeaderLaws.{config_again}
 use Rattle.vatgorge.specs.Config.{config_words}
 use Rattle.vatgorge.specs.Recording.{header_words, header_config}
 use borrow.Author.Rules.{rules}

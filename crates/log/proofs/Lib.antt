@@ -1,2 +1,0 @@
--- laws that several functions' proofs cite
-pub mod Places

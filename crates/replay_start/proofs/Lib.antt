@@ -1,0 +1,2 @@
+-- what is proved of the definitions
+pub mod laws

@@ -1,0 +1,4 @@
+-- definitions
+pub mod View
+pub mod Ready
+pub mod Check

@@ -1,0 +1,429 @@
+// What the stages marked: twelve rings of spans in one lent store, and a ring of repairs in another. A
+// ring's numbers go by value; its words are a part of the store that is lent on.
+#![tactic(auto)]
+
+ghost use Rattle.std.specs.Prelude.{◌≡◌, true, List, [], ◌∷◌, ℕ, ◌+◌, ◌-◌, ◌*◌, ◌%◌, ◌<◌, ◌^◌, min, length, get_or};
+ghost use Rattle.rules.specs.Log.{Sound, repair_width, store_width};
+ghost use Rattle.rules.specs.Log.{spans_of};
+ghost use Rattle.rules.specs.Log.{ring_number, stage_number, mark_number, span_of, joins, lengthened, roomed, append, mark};
+ghost use Rattle.stage_log.specs.View.{stage_of, mark_of, ring_in, marks_in, Logged, fresh_ring, fresh_log, fresh_notes, marked_at, words_of_repair};
+ghost use Rattle.stage_log.specs.Ready.{Open, Markable, Fits};
+ghost use Rattle.stage_log.specs.Check.{end_fits, ring_fits, log_fits, ends_fit, dropped_in_all};
+
+// The words of a repair.
+pub const REPAIR_WORDS: usize = 6;
+
+// The words of a span.
+pub const SPAN_WORDS: usize = 2;
+
+// The rings of spans.
+pub const RINGS: usize = 12;
+
+// The words of the span store for each span that a ring holds.
+pub const STORE_WORDS: usize = RINGS * SPAN_WORDS;
+
+// 2^48: the most samples in all, and the last start of a hop or a repair.
+pub const TOTAL_LIMIT: u64 = 0x1_0000_0000_0000;
+
+// 2^49: the largest sum of a newest span's start and length.
+pub const SUM_LIMIT: u64 = 0x2_0000_0000_0000;
+
+// 2^52: the largest counter.
+pub const COUNTER_LIMIT: u64 = 0x10_0000_0000_0000;
+
+#[derive(Drop)]
+pub enum Stage {
+    Impulse,
+    Dc,
+    Iq,
+}
+
+#[derive(Drop)]
+pub enum Mark {
+    Repaired,
+    Flagged,
+    Corrected,
+    Uncertain,
+}
+
+impl Stage {
+    pub fn number(self) -> usize
+        ensures { result ≡ stage_number (stage_of self) }
+    {
+        match self {
+            Stage::Impulse => 0,
+            Stage::Dc => 1,
+            Stage::Iq => 2,
+        }
+    }
+}
+
+impl Mark {
+    pub fn number(self) -> usize
+        ensures { result ≡ mark_number (mark_of self) }
+    {
+        match self {
+            Mark::Repaired => 0,
+            Mark::Flagged => 1,
+            Mark::Corrected => 2,
+            Mark::Uncertain => 3,
+        }
+    }
+}
+
+// Where the oldest entry stands, how many there are, and how many were dropped.
+#[derive(Drop)]
+pub struct Ring {
+    pub head: usize,
+    pub count: usize,
+    pub dropped: u64,
+}
+
+// A ring of spans, and how many samples it was told of.
+#[derive(Drop)]
+pub struct Marks {
+    pub samples: u64,
+    pub ring: Ring,
+}
+
+#[derive(Drop)]
+pub struct Log {
+    pub rings: [Ring; RINGS],
+    pub counts: [u64; RINGS],
+}
+
+// All that the log is told: the rings of spans, the ring of repairs, and how many runs were too long.
+#[derive(Drop)]
+pub struct Notes {
+    pub log: Log,
+    pub repairs: Ring,
+    pub longruns: u64,
+}
+
+// A span, as a ring holds it.
+#[derive(Drop)]
+pub struct Span {
+    pub start: u64,
+    pub len: u64,
+}
+
+// A mended run: its first sample, its length, and the words that stood there, unused ones 0.
+#[derive(Drop)]
+pub struct Repair {
+    pub start: u64,
+    pub len: u64,
+    pub first: u64,
+    pub second: u64,
+    pub third: u64,
+    pub fourth: u64,
+}
+
+// The number of a ring.
+pub fn ring_number(stage: Stage, kind: Mark) -> usize
+    ensures { result ≡ ring_number (stage_of stage) (mark_of kind) }
+{
+    stage.number() * 4 + kind.number()
+}
+
+impl Ring {
+    pub fn fresh() -> Ring
+        ensures { result ≡ fresh_ring }
+    {
+        Ring {
+            head: 0,
+            count: 0,
+            dropped: 0,
+        }
+    }
+
+    // Where the newest entry stands.
+    fn newest_place(self, capacity: usize) -> usize
+        requires { (0 < self.count) × (self.head < capacity) × (self.head + self.count < 2 ^ 64) }
+        ensures { (result ≡ (self.head + (self.count - 1)) % capacity) × (result < capacity) }
+    {
+        (self.head + (self.count - 1)) % capacity
+    }
+
+    // Where the next one goes.
+    fn next_place(self, capacity: usize) -> usize
+        requires { (self.head < capacity) × (self.head + self.count < 2 ^ 64) }
+        ensures { (result ≡ (self.head + self.count) % capacity) × (result < capacity) }
+    {
+        (self.head + self.count) % capacity
+    }
+
+    // The oldest entry goes where the ring is full.
+    fn with_room(self, capacity: usize) -> Ring
+        requires { (self.head < capacity) × (self.dropped + 1 < 2 ^ 64) }
+        ensures { (ws : List ℕ) → ring_in result ws ≡ roomed capacity (ring_in self ws) }
+    {
+        if self.count < capacity {
+            return self;
+        }
+        Ring {
+            head: (self.head + 1) % capacity,
+            count: self.count - 1,
+            dropped: self.dropped + 1,
+        }
+    }
+
+    fn with_one_more(self) -> Ring
+        requires { self.count + 1 < 2 ^ 64 }
+        ensures { (result.head ≡ self.head) × (result.count ≡ self.count + 1) × (result.dropped ≡ self.dropped) }
+    {
+        Ring {
+            head: self.head,
+            count: self.count + 1,
+            dropped: self.dropped,
+        }
+    }
+}
+
+// Whether the newest span ends at start.
+fn joins_newest(ring: Ring, words: &[u64], capacity: usize, start: u64) -> bool
+    requires { Open 2 capacity (ring_in ring words.now) }
+    ensures { result ≡ joins capacity (ring_in ring words.now) start }
+{
+    let held = ring.count;
+    if held == 0 {
+        return false;
+    }
+    let place = ring.newest_place(capacity) * SPAN_WORDS;
+    let s = words[place];
+    let l = words[place + 1];
+    if start < s {
+        return false;
+    }
+    start - s == l
+}
+
+// Lengthens the newest span.
+fn lengthen(ring: Ring, words: &mut [u64], capacity: usize, start: u64, len: u64)
+    requires fact { Open 2 capacity (ring_in ring words.old) }
+    requires start_value { joins capacity (ring_in ring words.old) start ≡ true }
+    requires len_bound { start + len < 2 ^ 64 }
+    ensures { ring_in ring words.new ≡ lengthened capacity (ring_in ring words.old) len }
+{
+    let place = ring.newest_place(capacity) * SPAN_WORDS + 1;
+    words[place] = words[place] + len;
+}
+
+// A new span, behind the others.
+fn enter_span(ring: Ring, words: &mut [u64], capacity: usize, start: u64, len: u64) -> Ring
+    requires { Open 2 capacity (ring_in ring words.old) }
+    ensures { ring_in result words.new ≡ append capacity (ring_in ring words.old) (start ∷ len ∷ []) }
+{
+    let q = ring.with_room(capacity);
+    let place = q.next_place(capacity) * SPAN_WORDS;
+    words[place] = start;
+    words[place + 1] = len;
+    q.with_one_more()
+}
+
+// Marks len samples from start on in the ring whose words these are.
+pub fn mark_ring(m: Marks, words: &mut [u64], capacity: usize, start: u64, len: u64) -> Marks
+    requires { Markable capacity (marks_in m words.old) (span_of start len) }
+    ensures { marks_in result words.new ≡ mark capacity (marks_in m words.old) (span_of start len) }
+{
+    if len == 0 {
+        return m;
+    }
+    let samples = m.samples + len;
+    let ring = m.ring;
+    if joins_newest(ring, words, capacity, start) {
+        lengthen(ring, words, capacity, start, len);
+        return Marks { samples, ring };
+    }
+    let entered = enter_span(ring, words, capacity, start, len);
+    Marks {
+        samples,
+        ring: entered,
+    }
+}
+
+impl Notes {
+    pub fn fresh() -> Notes
+        ensures { result ≡ fresh_notes }
+    {
+        let log = Log::fresh();
+        let repairs = Ring::fresh();
+        Notes {
+            log,
+            repairs,
+            longruns: 0,
+        }
+    }
+}
+
+impl Log {
+    pub fn fresh() -> Log
+        ensures { result ≡ fresh_log }
+    {
+        let empty = Ring::fresh();
+        Log {
+            rings: [empty; RINGS],
+            counts: [0; RINGS],
+        }
+    }
+
+    // Marks len samples from start on in ring number which, whose part of the store is lent on.
+    fn mark_at(self, spans: &mut [u64], capacity: usize, which: usize, start: u64, len: u64) -> Log
+        requires which_bound { which < 12 }
+        requires fits { Fits capacity (record { log = self; spans = spans.old }) which (span_of start len) }
+        ensures { ◌≡◌ {A = Logged} (record { log = result; spans = spans.new })
+            (marked_at capacity (record { log = self; spans = spans.old }) which (span_of start len)) }
+    {
+        let a = which * (capacity * SPAN_WORDS);
+        let e = a + capacity * SPAN_WORDS;
+        let ring = self.rings[which];
+        let samples = self.counts[which];
+        let m = mark_ring(
+            Marks { samples, ring },
+            &mut spans[a..e],
+            capacity,
+            start,
+            len,
+        );
+        let marked = m.ring;
+        let mut out = self;
+        out.rings[which] = marked;
+        out.counts[which] = m.samples;
+        out
+    }
+
+    // Marks len samples from start on for a stage.
+    pub fn mark(
+        self,
+        spans: &mut [u64],
+        capacity: usize,
+        stage: Stage,
+        kind: Mark,
+        start: u64,
+        len: u64,
+    ) -> Log
+        requires { Fits capacity (record { log = self; spans = spans.old }) (ring_number (stage_of stage) (mark_of kind)) (span_of start len) }
+        ensures { ◌≡◌ {A = Logged} (record { log = result; spans = spans.new })
+            (marked_at capacity (record { log = self; spans = spans.old }) (ring_number (stage_of stage) (mark_of kind)) (span_of start len)) }
+    {
+        let which = ring_number(stage, kind);
+        self.mark_at(spans, capacity, which, start, len)
+    }
+}
+
+// A repair, behind the others.
+pub fn record_repair(ring: Ring, repairs: &mut [u64], capacity: usize, r: Repair) -> Ring
+    requires { Open repair_width capacity (ring_in ring repairs.old) }
+    ensures { ring_in result repairs.new ≡ append capacity (ring_in ring repairs.old) (words_of_repair r) }
+{
+    let q = ring.with_room(capacity);
+    let place = q.next_place(capacity) * REPAIR_WORDS;
+    repairs[place] = r.start;
+    repairs[place + 1] = r.len;
+    repairs[place + 2] = r.first;
+    repairs[place + 3] = r.second;
+    repairs[place + 4] = r.third;
+    repairs[place + 5] = r.fourth;
+    q.with_one_more()
+}
+
+// ---- reading
+
+// Span number i of a ring, the oldest first.
+pub fn span_at(ring: Ring, words: &[u64], capacity: usize, i: usize) -> Span
+    requires sound { Sound 2 capacity (ring_in ring words.now) }
+    requires i_lt_count { i < ring.count }
+    ensures { span_of result.start result.len ≡ get_or (spans_of capacity (ring_in ring words.now)) i (span_of 0 0) }
+{
+    let head = ring.head;
+    let place = (head + i) % capacity * SPAN_WORDS;
+    let start = words[place];
+    let len = words[place + 1];
+    Span { start, len }
+}
+
+// Whether the newest span, if there is one, ends in range.
+fn end_fits(ring: Ring, words: &[u64], capacity: usize) -> bool
+    requires { Sound 2 capacity (ring_in ring words.now) }
+    ensures { result ≡ end_fits capacity (ring_in ring words.now) }
+{
+    if ring.count == 0 {
+        return true;
+    }
+    let place = ring.newest_place(capacity) * SPAN_WORDS;
+    let s = words[place];
+    let l = words[place + 1];
+    if SUM_LIMIT < s {
+        return false;
+    }
+    l <= SUM_LIMIT - s
+}
+
+// Whether a ring's numbers are in range.
+pub fn ring_fits(ring: Ring, count: u64, capacity: usize) -> bool
+    ensures { result ≡ ring_fits capacity ring count }
+{
+    if capacity <= ring.head {
+        return false;
+    }
+    if capacity < ring.count {
+        return false;
+    }
+    if COUNTER_LIMIT < ring.dropped {
+        return false;
+    }
+    count <= COUNTER_LIMIT
+}
+
+// The sum, or the greatest u64 if it is more.
+fn capped_sum(a: u64, b: u64) -> u64
+    ensures { result ≡ min (a + b) (2 ^ 64 - 1) }
+{
+    if 0xffff_ffff_ffff_ffff - a < b {
+        return 0xffff_ffff_ffff_ffff;
+    }
+    a + b
+}
+
+impl Log {
+    // Whether every ring's numbers are in range.
+    pub fn fits(self, capacity: usize) -> bool
+        ensures { result ≡ log_fits capacity self }
+    {
+        for k in 0..RINGS {
+            let ring = self.rings[k];
+            let count = self.counts[k];
+            if !ring_fits(ring, count, capacity) {
+                return false;
+            }
+        }
+        true
+    }
+
+    // Whether every ring's newest span ends in range.
+    pub fn ends_fit(self, spans: &[u64], capacity: usize) -> bool
+        requires { (log_fits capacity self ≡ true) × (length spans.now ≡ capacity * store_width) }
+        ensures { result ≡ ends_fit capacity (record { log = self; spans = spans.now }) }
+    {
+        for k in 0..RINGS {
+            let a = k * (capacity * SPAN_WORDS);
+            let e = a + capacity * SPAN_WORDS;
+            let ring = self.rings[k];
+            if !end_fits(ring, &spans[a..e], capacity) {
+                return false;
+            }
+        }
+        true
+    }
+
+    // How many spans were dropped in all, or the greatest u64 if they are more.
+    pub fn dropped(self) -> u64
+        ensures { result ≡ dropped_in_all self }
+    {
+        let mut sum: u64 = 0;
+        for k in 0..RINGS {
+            let ring = self.rings[k];
+            sum = capped_sum(sum, ring.dropped);
+        }
+        sum
+    }
+}
