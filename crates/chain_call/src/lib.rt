@@ -29,7 +29,7 @@ use stage_log::{Log, Mark, Stage};
 use stage_mode::StageMode;
 
 // How a call is answered.
-#[derive(Drop)]
+#[derive(Clone, Copy)]
 pub enum Conditioned {
     // So many samples are released, from the slice's first place on.
     Ready(usize),

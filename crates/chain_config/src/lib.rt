@@ -19,7 +19,7 @@ pub const REPAIR_LIMIT: usize = 4096;
 
 // Which stages run, the receiver's rate and centre, the channels of a hop, the calibration, how many
 // spans a ring and how many repairs the log holds, and the edition of the pause rule.
-#[derive(Drop)]
+#[derive(Clone, Copy)]
 pub struct ConditioningConfig {
     pub impulse: StageMode,
     pub dc: StageMode,
@@ -34,7 +34,7 @@ pub struct ConditioningConfig {
 }
 
 // Whether a configuration may be made with the stores that are lent.
-#[derive(Drop)]
+#[derive(Clone, Copy)]
 pub enum Fitness {
     Fit,
     BadRate,

@@ -29,7 +29,7 @@ pub enum HopFitness {
 }
 
 // How a hop is answered.
-#[derive(Drop)]
+#[derive(Clone, Copy)]
 pub enum HopSaid {
     // IQ is off, or a wrong number of channels, or fewer than 8.
     Nothing,

@@ -16,7 +16,7 @@ use iq_monitor::ImageMonitor;
 use stage_log::Notes;
 
 // What making answers.
-#[derive(Drop)]
+#[derive(Clone, Copy)]
 pub enum MakingAnswer {
     // No stage runs.
     Off,

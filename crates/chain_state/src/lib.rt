@@ -14,7 +14,7 @@ use stage_log::Notes;
 use stage_mode::StageMode;
 
 // What making settled. `impulse`: that stage runs; whether it applies or observes stands in its gate.
-#[derive(Drop)]
+#[derive(Clone, Copy)]
 pub struct Settings {
     pub fs: f64,
     pub n: usize,
@@ -27,7 +27,7 @@ pub struct Settings {
 
 // How many samples came, how many were handed on, and how many are held back; and on how many of
 // those handed on the DC stage's update was clamped.
-#[derive(Drop)]
+#[derive(Clone, Copy)]
 pub struct Counts {
     pub seen: u64,
     pub released: u64,
@@ -35,7 +35,7 @@ pub struct Counts {
     pub clamped: u64,
 }
 
-#[derive(Drop)]
+#[derive(Clone, Copy)]
 pub struct InputConditioner {
     pub settings: Settings,
     pub counts: Counts,

@@ -8,13 +8,13 @@ ghost use Rattle.complex.specs.Complex.{sum, difference, product, power, quotien
 ghost use Rattle.complex.specs.Complex.{word_of, sample_of};
 ghost use Rattle.complex.specs.View.{view32, make32, view64, make64, single_of};
 
-#[derive(Drop)]
+#[derive(Clone, Copy)]
 pub struct Complex32 {
     pub re: f32,
     pub im: f32,
 }
 
-#[derive(Drop)]
+#[derive(Clone, Copy)]
 pub struct Complex64 {
     pub re: f64,
     pub im: f64,

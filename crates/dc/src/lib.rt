@@ -19,7 +19,7 @@ use complex::Complex64;
 const TAU: f64 = 6.283185307179586;
 
 // The level `dc` with its `n` updates, and the weight `a` that the corner gives.
-#[derive(Drop)]
+#[derive(Clone, Copy)]
 pub struct DcBlocker {
     pub a: f64,
     pub n: u64,
@@ -306,7 +306,7 @@ fn restore(y: &[u64], fs: f64, out: &mut [u64])
 }
 
 // What DC undo answers: it wrote all of out, or it refused and wrote nothing.
-#[derive(Drop)]
+#[derive(Clone, Copy)]
 pub enum Reverted {
     Restored,
     BadRate,

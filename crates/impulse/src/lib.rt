@@ -18,21 +18,21 @@ use impulse_pause::PauseEdition;
 use stage_log::Repair;
 
 // An open run of flagged samples. `paused`: one of them lies in a paused block.
-#[derive(Drop)]
+#[derive(Clone, Copy)]
 pub struct Run {
     pub start: u64,
     pub len: u64,
     pub paused: bool,
 }
 
-#[derive(Drop)]
+#[derive(Clone, Copy)]
 pub enum Open {
     Running(Run),
     Closed,
 }
 
 // The newest judged sample that is not flagged.
-#[derive(Drop)]
+#[derive(Clone, Copy)]
 pub enum Left {
     Neighbour(u64),
     Missing,
@@ -40,7 +40,7 @@ pub enum Left {
 
 // What making settled. The edition stands beside the other small field: behind the block length it would
 // cost one more copy wherever a gate moves.
-#[derive(Drop)]
+#[derive(Clone, Copy)]
 pub struct GateSettings {
     pub apply: bool,
     pub edition: PauseEdition,
@@ -48,14 +48,14 @@ pub struct GateSettings {
 }
 
 // What a repair is made from: the open run, and its left neighbour.
-#[derive(Drop)]
+#[derive(Clone, Copy)]
 pub struct Mending {
     pub run: Open,
     pub left: Left,
 }
 
 // A block of samples: its number, how many of its judged samples are flagged, and whether it is paused.
-#[derive(Drop)]
+#[derive(Clone, Copy)]
 pub struct Block {
     pub number: u64,
     pub flagged: u64,
@@ -63,7 +63,7 @@ pub struct Block {
 }
 
 // The suppressor's scalars. `block` is the block of the newest judged sample.
-#[derive(Drop)]
+#[derive(Clone, Copy)]
 pub struct Gate {
     pub settings: GateSettings,
     pub received: u64,
@@ -72,7 +72,7 @@ pub struct Gate {
 }
 
 // The whole state. `sorted` has the window's powers, ascending, and then zeros.
-#[derive(Drop)]
+#[derive(Clone, Copy)]
 pub struct ImpulseSuppressor {
     pub gate: Gate,
     pub window: [f32; ImpulseSuppressor::WINDOW],

@@ -6,7 +6,7 @@ ghost use Rattle.rules.specs.Pauses.{second, above_entry, within_exit, pauses};
 ghost use Rattle.impulse_pause.specs.View.{edition_of, number_of, numbered};
 
 // The edition of the rule.
-#[derive(Drop)]
+#[derive(Clone, Copy)]
 pub enum PauseEdition {
     First,
     Second,

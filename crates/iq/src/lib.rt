@@ -18,7 +18,7 @@ const RADIANS_PER_DEGREE: f64 = 0.017453292519943295;
 
 // A receiver's calibration: the gain of Q over that of I, the phase error of Q in degrees, and the
 // centre in Hz at which it was measured.
-#[derive(Drop)]
+#[derive(Clone, Copy)]
 pub struct IqCalibration {
     pub gain: f64,
     pub phase: f64,
@@ -26,7 +26,7 @@ pub struct IqCalibration {
 }
 
 // A calibration, if there is one.
-#[derive(Drop)]
+#[derive(Clone, Copy)]
 pub enum Calibration {
     Absent,
     Present(IqCalibration),
@@ -42,7 +42,7 @@ pub enum Validated {
 }
 
 // What the chain settles.
-#[derive(Drop)]
+#[derive(Clone, Copy)]
 pub enum Iq {
     Off,
     Observing,

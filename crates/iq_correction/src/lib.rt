@@ -220,7 +220,7 @@ pub fn process(iq: Iq, samples: &mut [u64])
 }
 
 // What IQ undo answers: it wrote all samples, or it refused and wrote nothing.
-#[derive(Drop)]
+#[derive(Clone, Copy)]
 pub enum Reverted {
     Restored,
     Unfit,

@@ -16,7 +16,7 @@ ghost use Rattle.iq_monitor.specs.Observe.{accepted_of, observed, said, hop_said
 use complex::Complex64;
 
 // Evidence from one window. Powers are sums of channel powers, not dB.
-#[derive(Drop)]
+#[derive(Clone, Copy)]
 pub struct Evidence {
     pub start: u64,
     pub end: u64,
@@ -28,14 +28,14 @@ pub struct Evidence {
 }
 
 // Where the window that is open starts.
-#[derive(Drop)]
+#[derive(Clone, Copy)]
 pub enum Begun {
     Never,
     At(u64),
 }
 
 // How a hop is answered.
-#[derive(Drop)]
+#[derive(Clone, Copy)]
 pub enum HopAnswer {
     // A wrong number of channels, or fewer than 8.
     Nothing,
@@ -47,7 +47,7 @@ pub enum HopAnswer {
     Beyond(usize),
 }
 
-#[derive(Drop)]
+#[derive(Clone, Copy)]
 pub struct ImageMonitor {
     pub first: Begun,
     pub end: u64,

@@ -14,7 +14,7 @@ pub const SPANS: usize = 256;
 pub const REPAIRS: usize = 1024;
 
 // What a header says: number 14, or the chain's configuration.
-#[derive(Drop)]
+#[derive(Clone, Copy)]
 pub enum HeaderRead {
     Bad,
     Config(ConditioningConfig),

@@ -31,14 +31,14 @@ pub const SUM_LIMIT: u64 = 0x2_0000_0000_0000;
 // 2^52: the largest counter.
 pub const COUNTER_LIMIT: u64 = 0x10_0000_0000_0000;
 
-#[derive(Drop)]
+#[derive(Clone, Copy)]
 pub enum Stage {
     Impulse,
     Dc,
     Iq,
 }
 
-#[derive(Drop)]
+#[derive(Clone, Copy)]
 pub enum Mark {
     Repaired,
     Flagged,
@@ -72,7 +72,7 @@ impl Mark {
 }
 
 // Where the oldest entry stands, how many there are, and how many were dropped.
-#[derive(Drop)]
+#[derive(Clone, Copy)]
 pub struct Ring {
     pub head: usize,
     pub count: usize,
@@ -86,14 +86,14 @@ pub struct Marks {
     pub ring: Ring,
 }
 
-#[derive(Drop)]
+#[derive(Clone, Copy)]
 pub struct Log {
     pub rings: [Ring; RINGS],
     pub counts: [u64; RINGS],
 }
 
 // All that the log is told: the rings of spans, the ring of repairs, and how many runs were too long.
-#[derive(Drop)]
+#[derive(Clone, Copy)]
 pub struct Notes {
     pub log: Log,
     pub repairs: Ring,

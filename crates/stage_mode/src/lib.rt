@@ -5,7 +5,7 @@ ghost use Rattle.std.specs.Prelude.{◌≡◌};
 ghost use Rattle.rules.specs.Mode.{is_apply, runs};
 ghost use Rattle.stage_mode.specs.View.{mode_of};
 
-#[derive(Drop)]
+#[derive(Clone, Copy)]
 pub enum StageMode {
     Off,
     Observe,
