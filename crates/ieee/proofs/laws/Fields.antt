@@ -1,10 +1,10 @@
 -- An f64 by the fields of its bit pattern: a number of the format's smallest values, or an infinity. Assumes nothing.
-use Rattle.std.specs.Prelude.{◌≡◌, ℕ, zero, suc, ◌+◌, ◌-◌, ◌*◌, ◌/◌, ◌%◌, ◌^◌, ◌<◌, ◌≤◌, Bool, true, false, cond, not, T, ◌⊎◌, ◌==◌, ◌≢◌, is_nan, nat_le, to_bits, refl, Float}
+use Rattle.std.specs.Prelude.{◌≡◌, ℕ, zero, suc, ◌+◌, ◌-◌, ◌*◌, ◌/◌, ◌%◌, ◌^◌, ◌<◌, ◌≤◌, Bool, true, false, cond, not, T, ◌⊎◌, ◌==◌, ◌≢◌, nat_le, to_bits, refl, Float}
 use Rattle.std.proofs.Common.{sym, ap, ◌∙◌, subst, inr, mod-lt, arith, eqb→eq, pow_pos, le-ltb}
 use Rattle.std.proofs.Math.Logic.{inl}
 use Rattle.std.proofs.Math.Pow.{field}
 use Rattle.std.specs.Float.{nan, inf, binary64}
-use Rattle.std.specs.Float.Ieee.{odd, of_fields, of_bits, fits}
+use Rattle.std.specs.Float.Ieee.{odd, of_fields, of_bits, is_nan, fits}
 use Rattle.std.specs.Float.Ieee.Fits.{eq→eqb}
 use Rattle.std.specs.Float.Ieee.Exact.{HasValue, odd_sign}
 use Rattle.std.specs.Float.Ieee.Bits.{of_bits-to_bits, nan_bits_is}

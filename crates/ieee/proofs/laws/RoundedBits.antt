@@ -9,7 +9,7 @@ use Rattle.std.proofs.Math.Dec.{is_le, compare_is_eq, nleb→lt, eqb_refl}
 use Rattle.std.proofs.Math.Arith.{lt_of_le-ne}
 use Rattle.std.proofs.Math.Pow.{pow-lt}
 use Rattle.std.specs.Float.{nan, inf, fin, Format, binary32, binary64}
-use Rattle.std.specs.Float.Ieee.{prec, emax, low, up, down, size, nearest, odd, units, round, hid, ones, top, to_bits}
+use Rattle.std.specs.Float.Ieee.{prec, emax, low, down, size, nearest, odd, units, round, hid, ones, top, to_bits}
 use Rattle.std.specs.Float.Ieee.Digits.{size-le}
 use Rattle.std.specs.Float.Ieee.Fits.{two, down_pos, round_is, nearest-le}
 use Rattle.std.specs.Float.Ieee.Exact.{HasValue, odd_sign}

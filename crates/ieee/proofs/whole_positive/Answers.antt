@@ -1,5 +1,5 @@
 -- `ieee::whole_positive` meets its contract, by the cases of `proofs/Wholes.antt`. Assumes nothing.
-use Rattle.std.proofs.Common.{◌≡◌, ℕ, ◌+◌, ◌-◌, ◌*◌, ◌%◌, ◌^◌, ◌<◌, ◌≤◌, min, Bool, false, leb, ap, ◌∙◌, mod-lt, arith, pow_pos, rules}
+use Rattle.std.proofs.Common.{◌≡◌, ℕ, ◌+◌, ◌-◌, ◌*◌, ◌%◌, ◌^◌, ◌<◌, ◌≤◌, min, Bool, false, leb, ap, ◌∙◌, mod-lt, arith, pow_pos}
 use lib.Ieee.{binary64, of_bits}
 use borrow.Author.Tests.{lt-leb}
 use Rattle.ieee.specs.declared.Normal.{Normal}
@@ -8,8 +8,7 @@ use Rattle.ieee.specs.Whole.{div_by, whole_by}
 use Rattle.ieee.proofs.laws.Fields.{Meaning, meaning_bits, number_bits}
 use Rattle.ieee.proofs.laws.NormalLaws.{placed}
 use Rattle.ieee.proofs.Wholes.{is_rule, low, middle, large}
-use Rattle.ieee.proofs.whole_positive.Statement.{statement}
-use Rattle.ieee.proofs.whole_positive.Tie as tie
+use Rattle.ieee.proofs.whole_positive.Goals as goal
 
 record Ground (b : ℕ) (n : Normal) : Type 0 where
   high : n.digits < 2 ^ 62
@@ -45,54 +44,28 @@ module _ (b : ℕ) (n : Normal) (up : Bool) (L : b ≤ 2047 * 2 ^ 52) (u : Norma
   past : 1074 + n.shift + 2 < n.place → 2 ^ 64 - 1 ≡ whole_by (div_by up) (of_bits binary64 b)
   past h = large (div_by up) (is_rule up) (of_bits binary64 b) (leb (2 ^ 63) b) (exponent_in b) (b % 2 ^ 52) few sign (omega arith) means
 
-normalise-requires : tie.Need-normalise-requires
-normalise-requires c κs = search rules
+pub overflow_add-first : goal.overflow_add-first
+overflow_add-first c = let g = ground _ _ c.normalise-n.ensures in omega arith
 
-add-first : tie.Need-overflow-add-first
-add-first c = let g = ground _ _ c.before.normalise.ensures in omega arith
+pub dropped-requires : goal.dropped-requires
+dropped-requires c =
+    record {
+      fact_1 = (ground _ _ c.normalise-n.ensures).high;
+      fact_2 = omega arith;
+    }
 
-least-requires : tie.Need-least-requires
-least-requires c κs = search rules
+pub returns-then-place-first : goal.returns-then-place-first
+returns-then-place-first c =
+    cut c.args.b c.normalise-n.result c.args.up c.requires c.normalise-n.ensures _ _ c.if-place-first.true
+    c.least.ensures c.dropped.ensures
 
-dropped-requires : tie.Need-dropped-requires
-dropped-requires c κs = ((ground _ _ c.before.before.before.normalise.ensures).high, omega arith)
+pub overflow_add-first-2 : goal.overflow_add-first-2
+overflow_add-first-2 c = let g = ground _ _ c.normalise-n.ensures in omega arith
 
-returns : tie.Need-returns
+pub returns-then-place-first-2 : goal.returns-then-place-first-2
+returns-then-place-first-2 c =
+    grown c.args.b c.normalise-n.result c.args.up c.requires c.normalise-n.ensures c.if-place-first.false (omega arith)
+
+pub returns : goal.returns
 returns c =
-    let s = c.before.before.before.before in
-    cut s.before.args.b s.normalise.result s.before.args.up s.before.requires s.normalise.ensures _ _ c.before.before.if1.true
-    c.before.least.ensures c.dropped.ensures
-
-add-if2 : tie.Need-overflow-add-if2
-add-if2 c = let g = ground _ _ c.before.before.normalise.ensures in omega arith
-
-sub-result : tie.Need-overflow-sub-result
-sub-result c = omega arith
-
-shl-result : tie.Need-overflow-shl-result
-shl-result c = omega arith
-
-returns-2 : tie.Need-returns-2
-returns-2 c =
-    let s = c.before.before.before in
-    grown s.before.args.b s.normalise.result s.before.args.up s.before.requires s.normalise.ensures c.before.if1.false (omega arith)
-
-returns-3 : tie.Need-returns-3
-returns-3 c =
-    let s = c.before.before.before in
-    past s.before.args.b s.normalise.result s.before.args.up s.before.requires s.normalise.ensures (omega arith)
-
-pub whole-positive-spec : {M : Type 1} → statement M
-whole-positive-spec =
-    tie.close
-    (tie.spec
-    normalise-requires
-    add-first
-    least-requires
-    dropped-requires
-    returns
-    add-if2
-    sub-result
-    shl-result
-    returns-2
-    returns-3)
+    past c.args.b c.normalise-n.result c.args.up c.requires c.normalise-n.ensures (omega arith)

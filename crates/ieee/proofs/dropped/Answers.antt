@@ -1,10 +1,9 @@
 -- `ieee::dropped` meets its contract: of a rule's fraction, the divisor is a power of two, and half of it one too, or 0 of 1. Assumes nothing.
-use Rattle.std.proofs.Common.{◌≡◌, ℕ, ◌+◌, ◌-◌, ◌*◌, ◌/◌, ◌%◌, ◌^◌, ◌<◌, ◌≤◌, Bool, true, false, ◌⊎◌, sym, ap, ◌∙◌, inl, inr, mul_assoc, eq-zero-or-pos, mul_left_comm, arith, pow_pos, pow_mono, rules}
+use Rattle.std.proofs.Common.{◌≡◌, ℕ, ◌+◌, ◌-◌, ◌*◌, ◌/◌, ◌%◌, ◌^◌, ◌<◌, ◌≤◌, Bool, true, false, ◌⊎◌, sym, ap, ◌∙◌, inl, inr, mul_assoc, eq-zero-or-pos, mul_left_comm, arith, pow_pos, pow_mono}
 use lib.Ieee.Nearest.{div_same}
 use Rattle.ieee.specs.Whole.{round_div, div_by}
 use Rattle.ieee.proofs.laws.Numbers.{one_shl, pow_twice}
-use Rattle.ieee.proofs.dropped.Statement.{statement}
-use Rattle.ieee.proofs.dropped.Tie as tie
+use Rattle.ieee.proofs.dropped.Goals as goal
 
 record Known (r : ℕ) : Type 0 where
   unit : 1 * 2 ^ r % 2 ^ 64 ≡ 2 ^ r
@@ -32,39 +31,17 @@ away m u U (inr e) =
 away_is : (m u v : ℕ) (t : Bool) → 0 < u → (u ≡ 1) ⊎ (u ≡ 2 * (u / 2)) → v ≡ u → t ≡ false → (m + v / 2) / u ≡ div_by t m u
 away_is m u v t U h e p = ap (λ (x : ℕ). (m + x / 2) / u) e ∙ away m u U h ∙ ap (λ (b : Bool). div_by b m u) (sym p)
 
-shl-u : tie.Need-overflow-shl-u
-shl-u c = search rules
+pub overflow_sub-result : goal.overflow_sub-result
+overflow_sub-result c = let k = known c.args.r c.requires.fact_2 in omega arith
 
-sub-result : tie.Need-overflow-sub-result
-sub-result c = let k = known c.before.args.r c.before.requires.1 in omega arith
+pub overflow_add-result : goal.overflow_add-result
+overflow_add-result c = let k = known c.args.r c.requires.fact_2 in omega arith
 
-add-result : tie.Need-overflow-add-result
-add-result c = let k = known c.before.args.r c.before.requires.1 in omega arith
+pub overflow_add-result-else-up : goal.overflow_add-result-else-up
+overflow_add-result-else-up c = let k = known c.args.r c.requires.fact_2 in omega arith
 
-shr-result : tie.Need-overflow-shr-result
-shr-result c = search rules
+pub returns-then-up : goal.returns-then-up
+returns-then-up c = let k = known c.args.r c.requires.fact_2 in up_is _ _ _ _ k.unit c.if-up.true
 
-add-result-2 : tie.Need-overflow-add-result-2
-add-result-2 c = let k = known c.before.args.r c.before.requires.1 in omega arith
-
-shr-result-2 : tie.Need-overflow-shr-result-2
-shr-result-2 c = search rules
-
-returns : tie.Need-returns
-returns c = let k = known c.before.args.r c.before.requires.1 in up_is _ _ _ _ k.unit c.if1.true
-
-returns-2 : tie.Need-returns-2
-returns-2 c = let k = known c.before.args.r c.before.requires.1 in away_is _ _ _ _ k.some (halves _) k.unit c.if1.false
-
-pub dropped-spec : {M : Type 1} → statement M
-dropped-spec =
-    tie.close
-    (tie.spec
-    shl-u
-    sub-result
-    add-result
-    shr-result
-    add-result-2
-    shr-result-2
-    returns
-    returns-2)
+pub returns-else-up : goal.returns-else-up
+returns-else-up c = let k = known c.args.r c.requires.fact_2 in away_is _ _ _ _ k.some (halves _) k.unit c.if-up.false

@@ -9,8 +9,7 @@ use Rattle.ieee.specs.Normal.{exponent_in, significand_in, shift_of, Normalised}
 use Rattle.ieee.proofs.laws.Fields.{Meaning, meaning_bits, number_bits}
 use Rattle.ieee.proofs.laws.NormalLaws.{placed, even_of, evened}
 use Rattle.ieee.proofs.Rooting.{root_small, root_is}
-use Rattle.ieee.proofs.root_finite.Statement.{statement}
-use Rattle.ieee.proofs.root_finite.Tie as tie
+use Rattle.ieee.proofs.root_finite.Goals as goal
 
 -- the bounds on what was taken apart
 record Ground (b : ℕ) (n : Normal) : Type 0 where
@@ -56,62 +55,37 @@ finite b h N l = go (leb (2 ^ 63) b) (lt-leb (2 ^ 63) b (omega arith)) (meaning_
 field : (y c : ℕ) → c ≤ 61 → y ≤ 2045 → (1030 + y + (y + c) % 2 - c) / 2 ≡ (1032 + y - (c + (2 - (y + c) % 2))) / 2
 field y c h l = omega arith
 
-at : (c : tie.After-normalise) → Ground c.before.args.b c.normalise.result
-at c = ground _ _ c.before.requires.0 c.before.requires.1 c.normalise.ensures
+at : (c : goal.After-struct_known-1) → Ground c.args.b c.normalise-n.result
+at c = ground _ _ c.requires.fact_1 c.requires.fact_2 c.normalise-n.ensures
 
-g_small : (c : tie.After-half-root) → c.half-root.result < 2 ^ 54
-g_small c = let h = c.half-root.ensures in let r = root_small _ h.R (mod-lt _ (pow_pos 64)) h.low in omega arith
+g_small : (c : goal.After-struct_known-3-1) → c.half_root-g.result < 2 ^ 54
+g_small c = let h = c.half_root-g.ensures in let r = root_small _ h.R (mod-lt _ (pow_pos 64)) h.low in omega arith
 
-normalise-requires : tie.Need-normalise-requires
-normalise-requires c κs = search rules
+pub overflow_add-odd : goal.overflow_add-odd
+overflow_add-odd c = let g = at c in omega arith
 
-add-odd : tie.Need-overflow-add-odd
-add-odd c = let g = at c.before in omega arith
+pub overflow_add-n : goal.overflow_add-n
+overflow_add-n c = search rules
 
-sub-half-root : tie.Need-overflow-sub-half-root
-sub-half-root c = search rules
+pub overflow_sub-n : goal.overflow_sub-n
+overflow_sub-n c = let g = at c.before.before.before.before.before in omega arith
 
-shl-half-root : tie.Need-overflow-shl-half-root
-shl-half-root c = search rules
+pub overflow_add-n-3 : goal.overflow_add-n-3
+overflow_add-n-3 c = let r = g_small c.before in let g = at c.before.before.before.before.before in omega arith
 
-from-bits64-requires : tie.Need-from-bits64-requires
-from-bits64-requires c κs = search rules
-
-half-root-requires : tie.Need-half-root-requires
-half-root-requires c κs = search rules
-
-add-from-bits64 : tie.Need-overflow-add-from-bits64
-add-from-bits64 c = search rules
-
-add-from-bits64-2 : tie.Need-overflow-add-from-bits64-2
-add-from-bits64-2 c = search rules
-
-sub-from-bits64 : tie.Need-overflow-sub-from-bits64
-sub-from-bits64 c = let g = at c.before.before.before.before.before.before in omega arith
-
-mul-from-bits64 : tie.Need-overflow-mul-from-bits64
-mul-from-bits64 c = search rules
-
-add-from-bits64-3 : tie.Need-overflow-add-from-bits64-3
-add-from-bits64-3 c = let r = g_small c.before.before in let g = at c.before.before.before.before.before.before in omega arith
-
-from-bits64-requires-2 : tie.Need-from-bits64-requires-2
-from-bits64-requires-2 c κs = search rules
-
-returns : tie.Need-returns
+pub returns : goal.returns
 returns c =
-    let s = c.before.before.before.before.before.before.before in
-    let b = s.before.args.b in
-    let n = s.normalise.result in
-    let u = s.normalise.ensures in
-    let g = at s in
-    let h = c.before.before.before.half-root.ensures in
+    let b = c.args.b in
+    let n = c.normalise-n.result in
+    let u = c.normalise-n.ensures in
+    let g = at c.before.before.before.before.before.before in
+    let h = c.half_root-g.ensures in
     let w = word b n u g in
-    let L = s.before.requires.1 in
+    let L = c.requires.fact_2 in
     let N = number_bits b (omega arith) in
-    c.from-bits642.ensures
+    c.from_bits64-2.ensures
     ∙ ap (of_bits binary64)
-    (ap (λ (k : ℕ). k * 2 ^ 52 + c.before.before.before.half-root.result) (field n.place n.shift g.near g.far
+    (ap (λ (k : ℕ). k * 2 ^ 52 + c.half_root-g.result) (field n.place n.shift g.near g.far
     ∙ ap (λ (y : ℕ). (1032 + y - (n.shift + (2 - (y + n.shift) % 2))) / 2) u.place
     ∙ ap (λ (c : ℕ). (1032 + (exponent_in b - 1) - (c + (2 - (exponent_in b - 1 + c) % 2))) / 2) u.shift)
     ∙ ap (λ (g : ℕ). (1032 + (exponent_in b - 1) - even_of (significand_in b) (exponent_in b - 1)) / 2 * 2 ^ 52 + g) h.half)
@@ -119,21 +93,3 @@ returns c =
     (finite b L N g.below)
     (subst (λ (a : ℕ). h.R * h.R ≤ a * 2 ^ 44) w h.low)
     (subst (λ (a : ℕ). a * 2 ^ 44 < (h.R + 1) * (h.R + 1)) w h.high)
-
-pub root-finite-spec : {M : Type 1} → statement M
-root-finite-spec =
-    tie.close
-    (tie.spec
-    normalise-requires
-    add-odd
-    sub-half-root
-    shl-half-root
-    from-bits64-requires
-    half-root-requires
-    add-from-bits64
-    add-from-bits64-2
-    sub-from-bits64
-    mul-from-bits64
-    add-from-bits64-3
-    from-bits64-requires-2
-    returns)
