@@ -2,7 +2,7 @@
 -- words is marking on the list of spans. Assumes nothing.
 use Rattle.std.specs.Prelude.{◌≡◌, Bool, true, false, cond, ◌&&◌, ltb, eqb, set, drop}
 use Rattle.std.proofs.Math.Path.{refl, sym}
-use Rattle.std.proofs.Common.{ap, ◌∙◌, add-one, mod-lt, mod-eq_of_lt, arith, lt-ltb, eq-eqb, ne_eqb, ltb-false, length-append, get_or-set_same, get_or-set_other, get_or-take, get_or-drop}
+use Rattle.std.proofs.Common.{ap, ◌∙◌, subst, add-one, mod-lt, mod-eq_of_lt, arith, lt-ltb, eq-eqb, ne_eqb, ltb-false, length-append, get_or-set_same, get_or-set_other, get_or-take, get_or-drop}
 use mathlib.Core.List.{List, [], ◌∷◌, ◌++◌, append_assoc, append-nil, foldl, map, map-append}
 use Prim.Native.Nat.{ℕ, zero, suc, ◌+◌, ◌*◌, ◌-◌, ◌%◌, ◌≤◌, ◌<◌}
 use Rattle.std.proofs.Math.Nat.{mod-eq-sub-mod, mod-add-mod}
@@ -269,7 +269,9 @@ module _ (cap : ℕ) (ws : List ℕ) (h : ℕ) where
   longer_by (suc c) n f g =
       let p = (h + c) % cap in
       let l = at ws (p * 2 + 1) + n in
-      rw (last_place c)
+      subst (λ (q : ℕ). up_to (λ i. span_in (set ws (q * 2 + 1) (at ws (q * 2 + 1) + n)) ((h + i) % cap)) (suc c)
+      ≡ longer (up_to (λ i. span_in ws ((h + i) % cap)) (suc c)) n)
+      (sym (last_place c))
       ((λ j.
       up_to_same (λ i. span_in (set ws (p * 2 + 1) l) ((h + i) % cap)) (λ i. span_in ws ((h + i) % cap)) c
       (λ i k. other_span ((h + i) % cap) p l (places_differ cap h i c k (omega arith))) j

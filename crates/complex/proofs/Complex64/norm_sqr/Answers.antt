@@ -1,0 +1,8 @@
+-- `complex::Complex64::norm_sqr` is `power`, operation by operation. Assumes nothing.
+use mathlib.Core.Path.{refl}
+use Rattle.complex.specs.Complex.{power}
+use Rattle.complex.proofs.Complex64.norm_sqr.Goals as goal
+
+pub returns : goal.returns
+unfolding power
+returns c = refl
