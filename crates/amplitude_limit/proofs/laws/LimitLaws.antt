@@ -41,6 +41,7 @@ scan_within k (w ∷ ws) g = go (within_limit w) g.0 (scan_within (suc k) ws g.1
   where
     go : (t : Bool) → T t → first_beyond_from (suc k) ws ≡ suc k + length ws → cond t (first_beyond_from (suc k) ws) k ≡ k + suc (length ws)
     go true u e = omega arith
+    go false u e = elim u [ ]
 
 -- ---- what the place is
 

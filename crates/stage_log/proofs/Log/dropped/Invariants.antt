@@ -1,0 +1,15 @@
+-- `stage_log::Log::dropped` meets its contract: the sum is that of the rings before number k, as a u64 has it. Assumes nothing.
+use mathlib.Core.Path.{◌≡◌}
+use Prim.Native.Nat.{ℕ, ◌-◌, ◌≤◌, ◌^◌, min}
+use Rattle.stage_log.specs.declared.Log.{Log}
+use Rattle.stage_log.specs.Check.{sum_to, ring_of}
+use Rattle.stage_log.proofs.Log.dropped.Given as goal
+
+abbrev pub each : Log → ℕ → ℕ
+each l k = (ring_of l k).dropped
+
+abbrev pub invariant-loop-k : goal.invariant-loop-k
+invariant-loop-k l = (l.k ≤ 12) × (l.sum ≡ min (sum_to (each l.self) l.k) (2 ^ 64 - 1))
+
+abbrev pub decreases-loop-k : goal.decreases-loop-k
+decreases-loop-k l = 12 - l.k
