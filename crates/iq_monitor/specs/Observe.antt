@@ -3,7 +3,7 @@ use Rattle.std.specs.Prelude.{◌≡◌, Bool, true, not, ◌||◌, cond, List, 
 use Rattle.std.specs.Float.{nan}
 use Rattle.complex.specs.Complex.{Complex}
 use Rattle.rules.specs.Constants.{zero_f}
-use Rattle.rules.specs.Monitor.{Choice, nobody, channel_at, eligible, stronger, Report, Pair, pair_of, reported, window_length, Answer, no_report, report}
+use Rattle.rules.specs.Monitor.{Choice, nobody, channel_at, eligible, stronger, Report, pair_of, reported, window_length, Answer, no_report, report}
 use Rattle.rules.specs.Monitor.{channel_width}
 use Rattle.rules.specs.Answers.{Said, accepted, nothing, refused}
 use Rattle.rules.specs.Refusals.{first_of, bad_start, any_beyond, first_beyond_from}
