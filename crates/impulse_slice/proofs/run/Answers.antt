@@ -1,0 +1,131 @@
+-- `impulse_slice::run` meets its contract. Assumes nothing.
+use mathlib.Core.Path.{◌≡◌, refl, ap, ◌∙◌}
+use mathlib.Core.List.{List}
+use Prim.Native.Nat.{ℕ, ◌-◌, ◌<◌}
+use native.Mathlib.Omega.{arith}
+use lib.ListN.{length}
+use Rattle.impulse.specs.Machine.{setting_of}
+use Rattle.impulse.specs.View.{suppressor_of}
+use Rattle.impulse_slice.specs.Noted.{noted_of, note_all, state_after, handed, told, over}
+use Rattle.impulse_slice.proofs.Turns.{Going, going_first, out_few, length_same, going_full, going_room, going_roomy, going_next, going_last}
+use Rattle.impulse_slice.proofs.run.Goals as goal
+
+pub loop-k-init : goal.loop-k-init
+loop-k-init c =
+    let a = c.args in (
+      going_first a.span_capacity a.repair_capacity a.held (suppressor_of a.first a.window.now a.sorted.now a.pending.now)
+          (noted_of a.notes a.spans.now a.repairs.now) a.samples.now c.requires.held_in_bounds,
+      refl,
+      refl,
+    )
+
+pub take-t-requires : goal.take-t-requires
+take-t-requires c =
+    let a = c.args in
+    let l = c.loop-k in
+    let m₀ = suppressor_of a.first a.window.now a.sorted.now a.pending.now in
+    let n₀ = noted_of a.notes a.spans.now a.repairs.now in
+    let m = suppressor_of l.gate l.window l.sorted l.pending in
+    let n = noted_of l.said l.spans l.repairs in
+    let g = l.invariant.0 in
+    let same = length_same a.span_capacity a.repair_capacity a.held m₀ n₀ a.samples.now m n l.samples l.out l.k g in
+    let few = out_few a.span_capacity a.repair_capacity a.held m₀ n₀ a.samples.now m n l.samples l.out l.k g in
+    let h : l.k < length a.samples.now = omega (arith, same) in
+    record {
+      k_in_bounds = (omega arith, few);
+      room = going_room a.span_capacity a.repair_capacity a.held m₀ n₀ a.samples.now m n l.samples l.out l.k g h c.requires.room;
+      sorted_len = going_full a.span_capacity a.repair_capacity a.held m₀ n₀ a.samples.now m n l.samples l.out l.k g c.requires.sorted_len;
+      roomy =
+          going_roomy a.span_capacity a.repair_capacity a.held m₀ n₀ a.samples.now m n l.samples l.out l.k g h c.requires.room
+              c.requires.roomy;
+    }
+
+pub overflow_add-k : goal.overflow_add-k
+overflow_add-k c =
+    let a = c.args in
+    let l = c.loop-k in
+    let m₀ = suppressor_of a.first a.window.now a.sorted.now a.pending.now in
+    let n₀ = noted_of a.notes a.spans.now a.repairs.now in
+    let m = suppressor_of l.gate l.window l.sorted l.pending in
+    let n = noted_of l.said l.spans l.repairs in
+    let same = length_same a.span_capacity a.repair_capacity a.held m₀ n₀ a.samples.now m n l.samples l.out l.k l.invariant.0 in
+    omega (
+      arith,
+      same,
+      c.loop-k-test.true,
+    )
+
+pub loop-k-smaller : goal.loop-k-smaller
+loop-k-smaller c =
+    let a = c.args in
+    let l = c.loop-k in
+    let m₀ = suppressor_of a.first a.window.now a.sorted.now a.pending.now in
+    let n₀ = noted_of a.notes a.spans.now a.repairs.now in
+    let m = suppressor_of l.gate l.window l.sorted l.pending in
+    let n = noted_of l.said l.spans l.repairs in
+    let same = length_same a.span_capacity a.repair_capacity a.held m₀ n₀ a.samples.now m n l.samples l.out l.k l.invariant.0 in
+    omega (
+      arith,
+      same,
+      c.loop-k-test.true,
+    )
+
+pub loop-k-preserved : goal.loop-k-preserved
+loop-k-preserved c =
+    let a = c.args in
+    let l = c.loop-k in
+    let m₀ = suppressor_of a.first a.window.now a.sorted.now a.pending.now in
+    let n₀ = noted_of a.notes a.spans.now a.repairs.now in
+    let m = suppressor_of l.gate l.window l.sorted l.pending in
+    let n = noted_of l.said l.spans l.repairs in
+    let t = c.take-t in
+    let g = l.invariant.0 in
+    let same = length_same a.span_capacity a.repair_capacity a.held m₀ n₀ a.samples.now m n l.samples l.out l.k g in
+    let h : l.k < length a.samples.now =
+    omega (
+      arith,
+      same,
+      c.loop-k-test.true,
+    ) in (
+      going_next a.span_capacity a.repair_capacity a.held m₀ n₀ a.samples.now m n l.samples l.out l.k g
+          (suppressor_of t.result.gate t.new.window t.new.sorted t.new.pending)
+          (noted_of t.result.notes t.new.spans t.new.repairs)
+          t.new.samples t.result.out h t.ensures.suppressor t.ensures.noted t.ensures.ready t.ensures.written,
+      t.auto.spans ∙ l.invariant.1,
+      t.auto.repairs ∙ l.invariant.2,
+    )
+
+pub shape_of-samples : goal.shape_of-samples
+shape_of-samples c =
+    let a = c.args in
+    let l = c.loop-k in
+    let m₀ = suppressor_of a.first a.window.now a.sorted.now a.pending.now in
+    let n₀ = noted_of a.notes a.spans.now a.repairs.now in
+    let m = suppressor_of l.gate l.window l.sorted l.pending in
+    let n = noted_of l.said l.spans l.repairs in
+    length_same a.span_capacity a.repair_capacity a.held m₀ n₀ a.samples.now m n l.samples l.out l.k l.invariant.0
+
+pub shape_of-spans : goal.shape_of-spans
+shape_of-spans c = c.loop-k.invariant.1
+
+pub shape_of-repairs : goal.shape_of-repairs
+shape_of-repairs c = c.loop-k.invariant.2
+
+pub returns : goal.returns
+returns c =
+    let a = c.args in
+    let l = c.loop-k in
+    let m₀ = suppressor_of a.first a.window.now a.sorted.now a.pending.now in
+    let n₀ = noted_of a.notes a.spans.now a.repairs.now in
+    let m = suppressor_of l.gate l.window l.sorted l.pending in
+    let n = noted_of l.said l.spans l.repairs in
+    let g = l.invariant.0 in
+    let s = setting_of a.first in
+    let same = length_same a.span_capacity a.repair_capacity a.held m₀ n₀ a.samples.now m n l.samples l.out l.k g in
+    let all = going_last a.span_capacity a.repair_capacity a.held m₀ n₀ a.samples.now m n l.samples l.out l.k g (omega (arith, same)) in
+    record {
+      suppressor = g.state ∙ ap (state_after s m₀) all;
+      noted = g.notes ∙ ap (λ (xs : List ℕ). note_all a.span_capacity a.repair_capacity n₀ (told s m₀ xs)) all;
+      ready = g.ready ∙ ap (λ (xs : List ℕ). length (handed s m₀ xs)) all;
+      written = g.written ∙ ap (λ (xs : List ℕ). over (handed s m₀ xs) a.samples.now) all;
+    }
