@@ -1,6 +1,5 @@
 -- `impulse_slice::counted` meets its contract. Assumes nothing.
 use native.Mathlib.Omega.{arith}
-use borrow.Author.Rules.{rules}
 use Rattle.impulse_slice.proofs.counted.Goals as goal
 
 pub returns-then-long : goal.returns-then-long

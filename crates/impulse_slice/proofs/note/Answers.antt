@@ -3,7 +3,6 @@ use mathlib.Core.Path.{◌≡◌, subst, ap, sym, ◌∙◌}
 use mathlib.Core.Bool.{Bool, true, false}
 use Prim.Native.Nat.{ℕ, ◌+◌, ◌≤◌, ◌^◌}
 use native.Mathlib.Omega.{arith}
-use borrow.Author.Rules.{rules}
 use Rattle.impulse_slice.specs.Noted.{Noted, noted_of, note_all, doubts, filled_events, Roomy, events_size}
 use Rattle.impulse_slice.proofs.laws.NotesLaws.{note_append, roomy_up, roomy_all}
 use Rattle.impulse_slice.proofs.note.Goals as goal
@@ -26,8 +25,8 @@ note_ended-requires c =
     record {
       roomy =
           doubted a.span_capacity a.repair_capacity (noted_of a.notes a.spans.now a.repairs.now)
-              (noted_of d.result d.new.spans a.repairs.now) a.j
-              a.doubt (d.ensures a.repair_capacity a.repairs.now) c.requires.roomy;
+          (noted_of d.result d.new.spans a.repairs.now) a.j
+          a.doubt (d.ensures a.repair_capacity a.repairs.now) c.requires.roomy;
       ended_bound = c.requires.j_bound.1;
     }
 

@@ -1,8 +1,6 @@
 -- `impulse_slice::note_doubt` meets its contract. Assumes nothing.
 use native.Mathlib.Omega.{arith}
 use lib.Dec.{lit<}
-use borrow.Author.Rules.{rules}
-use borrow.Author.Tests.{not-true, not-false}
 use Rattle.rules.specs.Log.{span_of}
 use Rattle.stage_log.proofs.laws.CheckLaws.{bounded_fits}
 use Rattle.impulse_slice.specs.Noted.{note_all}

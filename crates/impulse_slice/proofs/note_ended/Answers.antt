@@ -1,7 +1,6 @@
 -- `impulse_slice::note_ended` meets its contract. Assumes nothing.
 use mathlib.Core.Path.{subst, ap, sym, ◌∙◌}
 use Prim.Native.Nat.{◌≤◌, ◌^◌}
-use borrow.Author.Rules.{rules}
 use Rattle.impulse.specs.declared.Ended.{Ended}
 use Rattle.impulse_slice.specs.Noted.{noted_of, note_all, filled_events, ended_end}
 use Rattle.impulse_slice.proofs.note_ended.Goals as goal

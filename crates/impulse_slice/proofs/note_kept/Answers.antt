@@ -1,7 +1,6 @@
 -- `impulse_slice::note_kept` meets its contract. Assumes nothing.
 use native.Mathlib.Omega.{arith}
 use lib.Dec.{lit<}
-use borrow.Author.Rules.{rules}
 use Rattle.rules.specs.Log.{span_of}
 use Rattle.stage_log.proofs.laws.CheckLaws.{bounded_fits}
 use Rattle.impulse_slice.proofs.Notings.{kept_noted}

@@ -7,7 +7,6 @@ use native.Mathlib.Omega.{arith}
 use lib.ListN.{take, drop, take-append-drop}
 use lib.Seq.{sets-eq}
 use borrow.Author.Rules.{rules}
-use Rattle.impulse.specs.View.{given}
 use Rattle.impulse_slice.specs.Noted.{placed}
 use Rattle.impulse_slice.proofs.put.Goals as goal
 

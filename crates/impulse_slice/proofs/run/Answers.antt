@@ -1,13 +1,13 @@
 -- `impulse_slice::run` meets its contract. Assumes nothing.
-use mathlib.Core.Path.{◌≡◌, refl, ap, ◌∙◌}
+use mathlib.Core.Path.{refl, ap, ◌∙◌}
 use mathlib.Core.List.{List}
-use Prim.Native.Nat.{ℕ, ◌-◌, ◌<◌}
+use Prim.Native.Nat.{ℕ, ◌<◌}
 use native.Mathlib.Omega.{arith}
 use lib.ListN.{length}
 use Rattle.impulse.specs.Machine.{setting_of}
 use Rattle.impulse.specs.View.{suppressor_of}
 use Rattle.impulse_slice.specs.Noted.{noted_of, note_all, state_after, handed, told, over}
-use Rattle.impulse_slice.proofs.Turns.{Going, going_first, out_few, length_same, going_full, going_room, going_roomy, going_next, going_last}
+use Rattle.impulse_slice.proofs.Turns.{going_first, out_few, length_same, going_full, going_room, going_roomy, going_next, going_last}
 use Rattle.impulse_slice.proofs.run.Goals as goal
 
 pub loop-k-init : goal.loop-k-init
@@ -37,7 +37,7 @@ take-t-requires c =
       sorted_len = going_full a.span_capacity a.repair_capacity a.held m₀ n₀ a.samples.now m n l.samples l.out l.k g c.requires.sorted_len;
       roomy =
           going_roomy a.span_capacity a.repair_capacity a.held m₀ n₀ a.samples.now m n l.samples l.out l.k g h c.requires.room
-              c.requires.roomy;
+          c.requires.roomy;
     }
 
 pub overflow_add-k : goal.overflow_add-k

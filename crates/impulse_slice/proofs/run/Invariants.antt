@@ -1,13 +1,10 @@
 -- `impulse_slice::run` meets its contract. Assumes nothing.
-use mathlib.Core.Path.{◌≡◌, refl, ap, ◌∙◌}
-use mathlib.Core.List.{List}
-use Prim.Native.Nat.{ℕ, ◌-◌, ◌<◌}
-use native.Mathlib.Omega.{arith}
+use mathlib.Core.Path.{◌≡◌}
+use Prim.Native.Nat.{◌-◌}
 use lib.ListN.{length}
-use Rattle.impulse.specs.Machine.{setting_of}
 use Rattle.impulse.specs.View.{suppressor_of}
-use Rattle.impulse_slice.specs.Noted.{noted_of, note_all, state_after, handed, told, over}
-use Rattle.impulse_slice.proofs.Turns.{Going, going_first, out_few, length_same, going_full, going_room, going_roomy, going_next, going_last}
+use Rattle.impulse_slice.specs.Noted.{noted_of}
+use Rattle.impulse_slice.proofs.Turns.{Going}
 use Rattle.impulse_slice.proofs.run.Given as goal
 
 abbrev pub invariant-loop-k : goal.invariant-loop-k

@@ -4,7 +4,6 @@ use mathlib.Core.List.{List}
 use Prim.Native.Nat.{ℕ, ◌+◌}
 use native.Mathlib.Omega.{arith}
 use lib.ListN.{length, get_or}
-use borrow.Author.Rules.{rules}
 use Rattle.impulse_slice.specs.Noted.{noted_of, placed}
 use Rattle.impulse_slice.proofs.Turns.{next_state, emitted, said, ended_early}
 use Rattle.impulse_slice.proofs.take.Goals as goal
@@ -16,12 +15,11 @@ note-said-requires c =
     let j = c.next_judged-j.ensures in
     record {
       roomy = c.requires.roomy;
-      j_bound =
-          (
-            omega (arith, j, c.requires.room.early),
-            ended_early a.gate a.window.now a.sorted.now a.pending.now (get_or a.samples.now a.k 0) p.result p.ensures.result
-                c.requires.room,
-          );
+      j_bound = (
+        omega (arith, j, c.requires.room.early),
+        ended_early a.gate a.window.now a.sorted.now a.pending.now (get_or a.samples.now a.k 0) p.result p.ensures.result
+            c.requires.room,
+      );
     }
 
 pub put-behind-requires : goal.put-behind-requires
@@ -40,10 +38,10 @@ returns c =
     record {
       suppressor =
           next_state a.gate a.window.now a.sorted.now a.pending.now x p.result p.ensures.result p.new.window p.new.sorted
-              p.new.pending p.ensures.powers p.ensures.ascending p.ensures.words;
+          p.new.pending p.ensures.powers p.ensures.ascending p.ensures.words;
       noted =
           said a.gate a.window.now a.sorted.now a.pending.now x p.result p.ensures.result a.span_capacity a.repair_capacity
-              (noted_of a.notes a.spans.now a.repairs.now) _ j.result j.ensures n.ensures;
+          (noted_of a.notes a.spans.now a.repairs.now) _ j.result j.ensures n.ensures;
       ready = q.result ∙ ap (λ (l : List ℕ). a.out + length l) is;
       written = q.words ∙ ap (placed a.samples.now a.out) is;
     }
