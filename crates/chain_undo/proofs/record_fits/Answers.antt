@@ -12,23 +12,7 @@ use Rattle.rules.specs.Lists.{at}
 use Rattle.rules.specs.Constants.{total_limit}
 use Rattle.chain_undo.specs.Undoing.{record_in, record_fits}
 use Rattle.chain_undo.proofs.laws.Records.{record_start, record_length, record_by}
-use Rattle.chain_undo.proofs.record_fits.Statement.{statement}
-use Rattle.chain_undo.proofs.record_fits.Tie as tie
-
-mul-start : tie.Need-overflow-mul-start
-mul-start c = search rules
-
-shared-slice-read-start : tie.Need-shared-slice-read-start
-shared-slice-read-start c = search rules
-
-add-len : tie.Need-overflow-add-len
-add-len c = search rules
-
-mul-len : tie.Need-overflow-mul-len
-mul-len c = search rules
-
-shared-slice-read-len : tie.Need-shared-slice-read-len
-shared-slice-read-len c = search rules
+use Rattle.chain_undo.proofs.record_fits.Goals as goal
 
 -- the record's tests by those of the words read
 module _ (ws : List ℕ) (place : ℕ) where
@@ -49,24 +33,11 @@ module _ (ws : List ℕ) (place : ℕ) where
   by_start : (at ws (place + 1) ≡ 0 → ⊥) → at ws (place + 1) ≤ longest_run → leb (at ws place) total_limit ≡ record_fits (record_in ws place)
   by_start z h = sym (read_by true true _ (lt-ltb 0 (at ws (place + 1)) (omega arith)) (le-leb (at ws (place + 1)) longest_run h) refl)
 
-returns : tie.Need-returns
-returns c = let a = c.before.before.before.args in no_length a.repairs.now a.place c.if1.true
+pub returns-then-len-eq0 : goal.returns-then-len-eq0
+returns-then-len-eq0 c = let a = c.args in no_length a.repairs.now a.place c.if-len-eq0.true
 
-returns-2 : tie.Need-returns-2
-returns-2 c = let a = c.before.before.before.before.args in too_long a.repairs.now a.place c.if2.true
+pub returns-then-len : goal.returns-then-len
+returns-then-len c = let a = c.args in too_long a.repairs.now a.place c.if-len.true
 
-returns-3 : tie.Need-returns-3
-returns-3 c = let a = c.before.before.before.before.args in by_start a.repairs.now a.place c.before.if1.false c.if2.false
-
-pub record-fits-spec : {M : Type 1} → statement M
-record-fits-spec =
-    tie.close
-    (tie.spec
-    mul-start
-    shared-slice-read-start
-    add-len
-    mul-len
-    shared-slice-read-len
-    returns
-    returns-2
-    returns-3)
+pub returns : goal.returns
+returns c = let a = c.args in by_start a.repairs.now a.place c.if-len-eq0.false c.if-len.false

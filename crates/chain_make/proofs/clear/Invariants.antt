@@ -1,0 +1,13 @@
+-- `chain_make::clear` fills the words with 0. Assumes nothing.
+use mathlib.Core.Path.{refl}
+use Prim.Native.Nat.{◌-◌}
+use native.Mathlib.Omega.{arith}
+use lib.ListN.{length}
+use Rattle.iq_monitor.proofs.Turns.{Cleared, cleared_next, cleared_all}
+use Rattle.chain_make.proofs.clear.Given as goal
+
+abbrev pub invariant-loop-k : goal.invariant-loop-k
+invariant-loop-k l = Cleared 0 l.initial.words l.words l.k
+
+abbrev pub decreases-loop-k : goal.decreases-loop-k
+decreases-loop-k l = length l.initial.words - l.k

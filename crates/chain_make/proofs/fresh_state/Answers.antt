@@ -1,0 +1,15 @@
+-- `chain_make::fresh_state`: each part is fresh. Assumes nothing.
+use Rattle.chain_make.specs.Making.{fresh_state}
+use borrow.Author.Rules.{rules}
+use Rattle.chain_make.proofs.fresh_state.Goals as goal
+
+pub returns : goal.returns
+unfolding fresh_state
+returns c =
+    rw (
+      c.fresh_settings-settings.ensures,
+      c.fresh_suppressor-suppressor.ensures,
+      c.fresh-blocker.ensures,
+      c.fresh-monitor.ensures,
+      c.fresh-notes.ensures,
+    )
