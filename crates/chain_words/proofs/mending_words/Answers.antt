@@ -1,0 +1,6 @@
+-- `chain_words::mending_words`: each word by its field. Assumes nothing.
+use borrow.Author.Rules.{rules}
+use Rattle.chain_words.proofs.mending_words.Goals as goal
+
+pub returns : goal.returns
+returns c = rw (c.left_words-left.ensures, c.run_words-run.ensures)

@@ -1,0 +1,6 @@
+-- `chain_words::notes_words`: each word by its field. Assumes nothing.
+use borrow.Author.Rules.{rules}
+use Rattle.chain_words.proofs.notes_words.Goals as goal
+
+pub returns : goal.returns
+returns c = rw c.ring_words-ring.ensures

@@ -1,0 +1,6 @@
+-- `chain_words::read_suppressor`: each field by its words. Assumes nothing.
+use borrow.Author.Rules.{rules}
+use Rattle.chain_words.proofs.read_suppressor.Goals as goal
+
+pub returns : goal.returns
+returns c = cc
