@@ -1,5 +1,4 @@
 -- `chain_undo::put_back` writes the sample's place, if the slice has it. Assumes nothing.
-use borrow.Author.Rules.{rules}
 use Rattle.chain_undo.proofs.laws.Records.{returned_before, returned_in, returned_past}
 use Rattle.chain_undo.proofs.put_back.Goals as goal
 

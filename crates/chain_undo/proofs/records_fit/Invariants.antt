@@ -1,19 +1,11 @@
 -- `chain_undo::records_fit` meets its contract: each record before number i fits. Assumes nothing.
-use mathlib.Core.Path.{◌≡◌, refl, sym, ◌∙◌}
+use mathlib.Core.Path.{◌≡◌}
 use mathlib.Core.Bool.{Bool, true}
 use mathlib.Core.List.{List}
-use Prim.Native.Nat.{ℕ, ◌+◌, ◌-◌, ◌≤◌}
-use native.Mathlib.Numerals.{add-one}
-use native.Mathlib.Omega.{arith}
-use borrow.Author.Rules.{rules}
-use borrow.Author.Tests.{not-true, not-false}
-use lib.ListN.{length}
-use Rattle.rules.specs.Log.{repair_width}
+use Prim.Native.Nat.{ℕ, ◌-◌, ◌≤◌}
 use Rattle.stage_log.specs.Check.{all_to}
-use Rattle.stage_log.proofs.laws.CheckLaws.{all_next, all_not}
-use Rattle.stage_log.specs.View.{ring_in}
 use Rattle.chain_undo.specs.Undoing.{record_in, record_fits}
-use Rattle.chain_undo.proofs.laws.Records.{place_of, place_in, held_fit}
+use Rattle.chain_undo.proofs.laws.Records.{place_of}
 use Rattle.chain_undo.proofs.records_fit.Given as goal
 
 abbrev pub test : List ℕ → ℕ → ℕ → ℕ → Bool

@@ -2,8 +2,7 @@
 use mathlib.Core.Path.{◌≡◌, sym, ◌∙◌}
 use mathlib.Core.Bool.{true}
 use native.Mathlib.Omega.{arith}
-use borrow.Author.Rules.{rules}
-use borrow.Author.Tests.{eq-eqb, ne_eqb, not-true, not-false}
+use borrow.Author.Tests.{eq-eqb, ne_eqb}
 use Rattle.chain_state.specs.Fits.{state_fits}
 use Rattle.chain_state.proofs.laws.FitsLaws.{state_fit}
 use Rattle.chain_undo.specs.Undoing.{records_fit, records_of}
@@ -44,8 +43,8 @@ pub returns-then-not-records_fit : goal.returns-then-not-records_fit
 returns-then-not-records_fit c =
     let a = c.args in
     let whole = unfit_records a.state a.repairs.now a.samples.now a.first (fits (goal.at.returns-then-not-records_fit c).Else-not-fits)
-        (eq-eqb _ _ c.if-repairs-capacity.false)
-        (sym c.records_fit.ensures ∙ c.if-not-records_fit.true) in
+    (eq-eqb _ _ c.if-repairs-capacity.false)
+    (sym c.records_fit.ensures ∙ c.if-not-records_fit.true) in
     record { answer = whole.0; written = whole.1 }
 
 pub undo_records-requires : goal.undo_records-requires

@@ -1,9 +1,8 @@
 -- `chain_undo::undo_record` puts one original back a turn. Assumes nothing.
 use mathlib.Core.Path.{◌≡◌, refl, sym, ap, ◌∙◌}
 use mathlib.Core.List.{List}
-use Prim.Native.Nat.{ℕ, ◌+◌, ◌-◌, ◌≤◌, ◌<◌}
+use Prim.Native.Nat.{ℕ, ◌+◌, ◌≤◌, ◌<◌}
 use native.Mathlib.Omega.{arith}
-use borrow.Author.Rules.{rules}
 use lib.ListN.{length}
 use Rattle.rules.specs.Impulse.{longest_run}
 use Rattle.rules.specs.Lists.{at}
@@ -27,8 +26,12 @@ fit c = record_fit (record_in c.args.repairs.now c.args.place) c.requires.place_
 
 few : (c : In-loop-t) → c.loop-t.t < longest_run
 few c =
-    omega (arith, c.loop-t-test.true, read_length c.args.repairs.now c.args.place
-    (record_fit (record_in c.args.repairs.now c.args.place) c.requires.place_value))
+    omega (
+      arith,
+      c.loop-t-test.true,
+      read_length c.args.repairs.now c.args.place
+          (record_fit (record_in c.args.repairs.now c.args.place) c.requires.place_value),
+    )
 
 inside : (c : In-loop-t) → let a = c.args in
     a.place + 2 + c.loop-t.t < length a.repairs.now

@@ -1,16 +1,9 @@
 -- `chain_undo::undo_record` puts one original back a turn. Assumes nothing.
-use mathlib.Core.Path.{◌≡◌, refl, sym, ap, ◌∙◌}
-use mathlib.Core.List.{List}
-use Prim.Native.Nat.{ℕ, ◌+◌, ◌-◌, ◌≤◌, ◌<◌}
-use native.Mathlib.Omega.{arith}
-use borrow.Author.Rules.{rules}
+use mathlib.Core.Path.{◌≡◌}
+use Prim.Native.Nat.{◌-◌, ◌≤◌}
 use lib.ListN.{length}
-use Rattle.rules.specs.Impulse.{longest_run}
-use Rattle.rules.specs.Lists.{at}
 use Rattle.rules.specs.Undo.{undone}
-use Rattle.rules.specs.Constants.{total_limit}
 use Rattle.chain_undo.specs.Undoing.{record_in}
-use Rattle.chain_undo.proofs.laws.Records.{Fit, record_fit, record_start, record_length, undone_step}
 use Rattle.chain_undo.proofs.undo_record.Given as goal
 
 abbrev pub invariant-loop-t : goal.invariant-loop-t

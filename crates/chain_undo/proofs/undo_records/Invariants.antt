@@ -1,15 +1,12 @@
 -- `chain_undo::undo_records` undoes one record a turn, oldest first. Assumes nothing.
-use mathlib.Core.Path.{◌≡◌, refl, sym, ap, ◌∙◌}
+use mathlib.Core.Path.{◌≡◌}
 use mathlib.Core.List.{List}
-use Prim.Native.Nat.{ℕ, ◌+◌, ◌-◌, ◌≤◌}
-use native.Mathlib.Omega.{arith}
+use Prim.Native.Nat.{ℕ, ◌-◌, ◌≤◌}
 use lib.ListN.{length}
-use Rattle.rules.specs.Log.{repair_width}
 use Rattle.rules.specs.Lists.{up_to}
 use Rattle.rules.specs.Undo.{undone_all}
-use Rattle.stage_log.specs.View.{ring_in}
 use Rattle.chain_undo.specs.Undoing.{record_in}
-use Rattle.chain_undo.proofs.laws.Records.{place_of, place_in, held_are, each_fits, undone_next}
+use Rattle.chain_undo.proofs.laws.Records.{place_of}
 use Rattle.chain_undo.proofs.undo_records.Given as goal
 
 -- record i of a store

@@ -1,6 +1,5 @@
 -- `chain_words::begun_words`: by its variant. Assumes nothing.
 use mathlib.Core.Path.{sym, ap}
-use borrow.Author.Rules.{rules}
 use Rattle.chain_words.specs.Words.{begun_words}
 use Rattle.chain_words.proofs.begun_words.Goals as goal
 

@@ -1,5 +1,4 @@
 -- `chain_words::complex_at`: each field by its word. Assumes nothing.
-use borrow.Author.Rules.{rules}
 use Rattle.chain_words.proofs.complex_at.Goals as goal
 
 pub returns : goal.returns

@@ -1,11 +1,9 @@
 -- `chain_words::copy_out`: word by word. Assumes nothing.
-use mathlib.Core.Path.{◌≡◌, refl, sym, ◌∙◌}
-use Prim.Native.Nat.{◌-◌, ◌≤◌}
+use mathlib.Core.Path.{refl, sym, ◌∙◌}
 use native.Mathlib.Omega.{arith}
 use lib.ListN.{length}
-use borrow.Author.Rules.{rules}
 use Rattle.chain_words.specs.States.{part}
-use Rattle.chain_words.proofs.Filling.{Made, made_next, made_all, get_d_part, part_length}
+use Rattle.chain_words.proofs.Filling.{made_next, made_all, get_d_part, part_length}
 use Rattle.chain_words.proofs.copy_out.Goals as goal
 
 pub loop-k-init : goal.loop-k-init

@@ -1,11 +1,9 @@
 -- `chain_words::copy_out`: word by word. Assumes nothing.
-use mathlib.Core.Path.{◌≡◌, refl, sym, ◌∙◌}
+use mathlib.Core.Path.{◌≡◌}
 use Prim.Native.Nat.{◌-◌, ◌≤◌}
-use native.Mathlib.Omega.{arith}
 use lib.ListN.{length}
-use borrow.Author.Rules.{rules}
 use Rattle.chain_words.specs.States.{part}
-use Rattle.chain_words.proofs.Filling.{Made, made_next, made_all, get_d_part, part_length}
+use Rattle.chain_words.proofs.Filling.{Made}
 use Rattle.chain_words.proofs.copy_out.Given as goal
 
 abbrev pub invariant-loop-k : goal.invariant-loop-k

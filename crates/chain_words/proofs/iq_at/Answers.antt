@@ -1,6 +1,4 @@
 -- `chain_words::iq_at`: by its tag. Assumes nothing.
-use borrow.Author.Tests.{ne_eqb}
-use borrow.Author.Rules.{rules}
 use Rattle.chain_words.proofs.iq_at.Goals as goal
 
 pub returns-in-0 : goal.returns-in-0
@@ -11,6 +9,3 @@ returns-in-1 c = rw c.in-1.is
 
 pub returns-in-2 : goal.returns-in-2
 returns-in-2 c = rw (c.in-2.is, c.complex_at.ensures)
-
-pub returns-in_default : goal.returns-in_default
-returns-in_default c = rw (ne_eqb _ 0 c.in_default.rest.0.0.1, ne_eqb _ 1 c.in_default.rest.0.1, ne_eqb _ 2 c.in_default.rest.1)

@@ -1,6 +1,5 @@
 -- `chain_words::iq_typed`: by its variant. Assumes nothing.
 use mathlib.Core.Path.{sym, subst}
-use borrow.Author.Rules.{rules}
 use Rattle.chain_words.specs.Typed.{IqTyped}
 use Rattle.chain_words.proofs.iq_typed.Goals as goal
 

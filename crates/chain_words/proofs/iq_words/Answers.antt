@@ -1,7 +1,6 @@
 -- `chain_words::iq_words`: by its variant. Assumes nothing.
 use mathlib.Core.Path.{sym, ap, ◌∙◌}
 use mathlib.Core.List.{[], ◌∷◌}
-use borrow.Author.Rules.{rules}
 use Rattle.chain_words.specs.Words.{iq_words}
 use Rattle.chain_words.proofs.iq_words.Goals as goal
 

@@ -1,5 +1,4 @@
 -- `chain_words::mode_at`: by its tag. Assumes nothing.
-use borrow.Author.Tests.{ne_eqb}
 use Rattle.chain_words.proofs.mode_at.Goals as goal
 
 pub returns-in-0 : goal.returns-in-0
@@ -7,6 +6,3 @@ returns-in-0 c = rw c.in-0.is
 
 pub returns-in-1 : goal.returns-in-1
 returns-in-1 c = rw c.in-1.is
-
-pub returns-in_default : goal.returns-in_default
-returns-in_default c = rw (ne_eqb _ 0 c.in_default.rest.0.1, ne_eqb _ 1 c.in_default.rest.1)

@@ -1,10 +1,7 @@
 -- `chain_words::put`: word by word. Assumes nothing.
 use mathlib.Core.Path.{refl}
-use Prim.Native.Nat.{◌-◌}
 use native.Mathlib.Omega.{arith}
-use lib.ListN.{length}
-use borrow.Author.Rules.{rules}
-use Rattle.chain_words.proofs.Filling.{Filled, filled_none, filled_next, filled_all}
+use Rattle.chain_words.proofs.Filling.{filled_none, filled_next, filled_all}
 use Rattle.chain_words.proofs.put.Goals as goal
 
 pub loop-k-init : goal.loop-k-init

@@ -1,13 +1,12 @@
 -- `chain_words::put_rings`: ring by ring. Assumes nothing.
 use mathlib.Core.List.{List, ◌++◌, append-nil}
 use mathlib.Core.Path.{◌≡◌, refl, sym, ap, ◌∙◌}
-use Prim.Native.Nat.{ℕ, ◌+◌, ◌*◌, ◌-◌, ◌≤◌}
+use Prim.Native.Nat.{ℕ, ◌+◌, ◌*◌}
 use native.Mathlib.Omega.{arith}
 use lib.Seq.{take_all}
 use lib.ListN.{length, get_or, take}
 use borrow.Author.Rules.{rules}
 use Rattle.stage_log.specs.View.{fresh_ring}
-use Rattle.rules.proofs.laws.ListLaws.{length-map}
 use Rattle.chain_words.proofs.laws.Rings.{rings_next, rings_none}
 use Rattle.chain_words.specs.Words.{ring_words, rings_words}
 use Rattle.chain_words.proofs.Filling.{behind, two}
@@ -32,7 +31,7 @@ loop-k-preserved c =
     let l = c.loop-k in
     let at = c.args.at in
     let rings = c.args.log.rings in
-    let n : length rings ≡ 12 = sym (length-map _ rings) ∙ c.well_formed.0.1.1.0.1.0.1 in
+    let n : length rings ≡ 12 = c.well_formed.0.1.1.0.1.0.1 in
     let r = c.ring_words in
     let put = c.put in
     let ring = ring_words (get_or rings l.k fresh_ring) in
@@ -47,7 +46,7 @@ pub returns : goal.returns
 returns c =
     let l = c.loop-k in
     let rings = c.args.log.rings in
-    let n : length rings ≡ 12 = sym (length-map _ rings) ∙ c.well_formed.0.1.1.0.1.0.1 in
+    let n : length rings ≡ 12 = c.well_formed.0.1.1.0.1.0.1 in
     let e : l.k ≡ 12 = omega arith in
     let whole : take l.k rings ≡ rings = take_all l.k rings (omega arith) in
     record {

@@ -1,16 +1,9 @@
 -- `chain_words::put_rings`: ring by ring. Assumes nothing.
-use mathlib.Core.List.{List, ◌++◌, append-nil}
-use mathlib.Core.Path.{◌≡◌, refl, sym, ap, ◌∙◌}
-use Prim.Native.Nat.{ℕ, ◌+◌, ◌*◌, ◌-◌, ◌≤◌}
-use native.Mathlib.Omega.{arith}
-use lib.Seq.{take_all}
-use lib.ListN.{length, get_or, take}
-use borrow.Author.Rules.{rules}
-use Rattle.stage_log.specs.View.{fresh_ring}
-use Rattle.rules.proofs.laws.ListLaws.{length-map}
-use Rattle.chain_words.proofs.laws.Rings.{rings_next, rings_none}
-use Rattle.chain_words.specs.Words.{ring_words, rings_words}
-use Rattle.chain_words.proofs.Filling.{behind, two}
+use mathlib.Core.List.{◌++◌}
+use mathlib.Core.Path.{◌≡◌}
+use Prim.Native.Nat.{◌+◌, ◌*◌, ◌-◌, ◌≤◌}
+use lib.ListN.{length, take}
+use Rattle.chain_words.specs.Words.{rings_words}
 use Rattle.chain_words.proofs.put_rings.Given as goal
 
 abbrev pub invariant-loop-k : goal.invariant-loop-k

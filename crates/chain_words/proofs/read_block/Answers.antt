@@ -1,5 +1,4 @@
 -- `chain_words::read_block`: each field by its word. Assumes nothing.
-use borrow.Author.Rules.{rules}
 use Rattle.chain_words.proofs.read_block.Goals as goal
 
 pub returns : goal.returns

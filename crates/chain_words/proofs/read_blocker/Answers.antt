@@ -1,5 +1,4 @@
 -- `chain_words::read_blocker`: each field by its word. Assumes nothing.
-use borrow.Author.Rules.{rules}
 use Rattle.chain_words.proofs.read_blocker.Goals as goal
 
 pub returns : goal.returns

@@ -1,5 +1,4 @@
 -- `chain_words::read_gate`: each field by its words. Assumes nothing.
-use borrow.Author.Rules.{rules}
 use Rattle.chain_words.proofs.read_gate.Goals as goal
 
 pub returns : goal.returns

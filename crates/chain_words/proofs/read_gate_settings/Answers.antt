@@ -1,5 +1,4 @@
 -- `chain_words::read_gate_settings`: each field by its word. Assumes nothing.
-use borrow.Author.Rules.{rules}
 use Rattle.chain_words.proofs.read_gate_settings.Goals as goal
 
 pub returns : goal.returns

@@ -1,5 +1,4 @@
 -- `chain_words::read_notes`: each field by its words. Assumes nothing.
-use borrow.Author.Rules.{rules}
 use Rattle.chain_words.proofs.read_notes.Goals as goal
 
 pub returns : goal.returns

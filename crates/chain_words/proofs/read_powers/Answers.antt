@@ -1,13 +1,11 @@
 -- `chain_words::read_powers`: word by word. Assumes nothing.
 use mathlib.Core.Path.{refl, sym, ◌∙◌}
-use Prim.Native.Nat.{◌-◌}
 use native.Mathlib.Omega.{arith}
 use lib.ListN.{get_or-map}
-use borrow.Author.Rules.{rules}
 use Rattle.rules.specs.Impulse.{window_size}
 use Rattle.rules.proofs.laws.ListLaws.{length-map}
 use Rattle.chain_words.specs.States.{part, power_of, powers_in}
-use Rattle.chain_words.proofs.Filling.{Made, made_next, made_all, get_d_part, part_length}
+use Rattle.chain_words.proofs.Filling.{made_next, made_all, get_d_part, part_length}
 use Rattle.chain_words.proofs.read_powers.Goals as goal
 
 pub loop-k-init : goal.loop-k-init

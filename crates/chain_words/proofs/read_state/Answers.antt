@@ -1,5 +1,4 @@
 -- `chain_words::read_state`: each field by its words. Assumes nothing.
-use borrow.Author.Rules.{rules}
 use Rattle.chain_words.specs.States.{state_of}
 use Rattle.chain_words.proofs.read_state.Goals as goal
 

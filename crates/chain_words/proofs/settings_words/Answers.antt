@@ -1,5 +1,4 @@
 -- `chain_words::settings_words`: each word by its field. Assumes nothing.
-use borrow.Author.Rules.{rules}
 use Rattle.chain_words.proofs.settings_words.Goals as goal
 
 pub returns : goal.returns

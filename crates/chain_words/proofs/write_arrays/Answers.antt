@@ -1,12 +1,10 @@
 -- `chain_words::write_arrays`: one behind another. Assumes nothing.
 use mathlib.Core.List.{◌++◌}
-use mathlib.Core.Path.{◌≡◌, refl, sym, ◌∙◌}
+use mathlib.Core.Path.{◌≡◌, refl, ◌∙◌}
 use Prim.Native.Nat.{◌+◌}
 use native.Mathlib.Omega.{arith}
 use lib.ListN.{length, take}
-use borrow.Author.Rules.{rules}
 use Rattle.rules.specs.Impulse.{lookahead_size}
-use Rattle.rules.proofs.laws.ListLaws.{length-map}
 use Rattle.chain_words.specs.Words.{powers_words}
 use Rattle.chain_words.specs.Places as place
 use Rattle.chain_words.proofs.Filling.{behind, two}
@@ -15,7 +13,7 @@ use Rattle.chain_words.proofs.write_arrays.Goals as goal
 pub put-requires : goal.put-requires
 put-requires c =
     let pending = c.args.m.pending in
-    let n : length pending ≡ lookahead_size = sym (length-map _ pending) ∙ c.well_formed.0.1.1.1.1.1.0.1.0.1 in
+    let n : length pending ≡ lookahead_size = c.well_formed.0.1.1.1.1.1.0.1.0.1 in
     omega (arith, c.put_powers-2.ensures.sized, c.put_powers.ensures.sized, c.requires)
 
 pub returns : goal.returns
@@ -24,7 +22,7 @@ returns c =
     let window = powers_words c.args.m.window in
     let sorted = powers_words c.args.m.sorted in
     let pending = c.args.m.pending in
-    let n : length pending ≡ lookahead_size = sym (length-map _ pending) ∙ c.well_formed.0.1.1.1.1.1.0.1.0.1 in
+    let n : length pending ≡ lookahead_size = c.well_formed.0.1.1.1.1.1.0.1.0.1 in
     let e : place.pending + length pending ≡ place.rings = omega arith in
     let put = c.put_powers in
     let put2 = c.put_powers-2 in

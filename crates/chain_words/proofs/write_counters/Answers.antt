@@ -2,7 +2,6 @@
 use mathlib.Core.Path.{refl, ◌∙◌}
 use mathlib.Core.List.{◌++◌}
 use lib.ListN.{take}
-use borrow.Author.Rules.{rules}
 use Rattle.chain_words.specs.Words.{monitor_words, counts_words, notes_words}
 use Rattle.chain_words.specs.Places as place
 use Rattle.chain_words.proofs.Filling.{behind, two}
@@ -32,5 +31,5 @@ returns c =
       front = all;
       sized =
           put3.ensures.sized ∙ put2.ensures.sized ∙ put.ensures.sized
-              ∙ c.requires;
+          ∙ c.requires;
     }

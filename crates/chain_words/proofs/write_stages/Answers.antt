@@ -1,7 +1,6 @@
 -- `chain_words::write_stages`: part by part. Assumes nothing.
 use mathlib.Core.Path.{refl, ◌∙◌}
 use mathlib.Core.List.{[], ◌++◌}
-use borrow.Author.Rules.{rules}
 use Rattle.chain_words.specs.Words.{settings_words, gate_words, blocker_words}
 use Rattle.chain_words.specs.Places as place
 use Rattle.chain_words.proofs.Filling.{behind}
@@ -31,5 +30,5 @@ returns c =
       front = p3;
       sized =
           put3.ensures.sized ∙ put2.ensures.sized ∙ put.ensures.sized
-              ∙ c.requires;
+          ∙ c.requires;
     }

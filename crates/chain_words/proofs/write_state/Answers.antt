@@ -5,8 +5,6 @@ use Prim.Native.Nat.{ℕ, ◌≤◌}
 use native.Mathlib.Omega.{arith}
 use lib.Seq.{take_all}
 use lib.ListN.{length, take}
-use borrow.Author.Rules.{rules}
-use Rattle.rules.proofs.laws.ListLaws.{length-map}
 use Rattle.chain_words.proofs.laws.Again.{again}
 use Rattle.chain_words.specs.Typed.{Typed}
 use Rattle.chain_words.specs.States.{state_of}
@@ -43,11 +41,11 @@ returns c =
       dc = blocker.1;
       window = arrays.ensures.held.0;
       sorted = arrays.ensures.held.1;
-      window_long = sym (length-map _ s.suppressor.window) ∙ gs.1.1.1.0.1.0.1;
-      sorted_long = sym (length-map _ s.suppressor.sorted) ∙ gs.1.1.1.1.0.1.0.1;
-      pending_long = sym (length-map _ s.suppressor.pending) ∙ gs.1.1.1.1.1.0.1.0.1;
-      rings_long = sym (length-map _ s.notes.log.rings) ∙ gl.1.1.0.1.0.1;
-      counts_long = sym (length-map _ s.notes.log.counts) ∙ gl.1.1.1.0.1.0.1;
+      window_long = gs.1.1.1.0.1.0.1;
+      sorted_long = gs.1.1.1.1.0.1.0.1;
+      pending_long = gs.1.1.1.1.1.0.1.0.1;
+      rings_long = gl.1.1.0.1.0.1;
+      counts_long = gl.1.1.1.0.1.0.1;
     } in
     record {
       words = words;
