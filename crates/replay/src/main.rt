@@ -17,8 +17,8 @@ use chain_make::MakingAnswer;
 use chain_state::InputConditioner;
 use impulse::ImpulseSuppressor;
 use iq_monitor::ImageMonitor;
-use libc::{STDIN_FILENO, STDOUT_FILENO};
 use replay_start::StartAnswer;
+use std::io::Read;
 
 // Blocks to read at most, 2^64 - 1 of 65,536 bytes: more than any recording has.
 const BLOCKS: u64 = 0xffff_ffff_ffff_ffff;
@@ -88,30 +88,31 @@ fn text_store() -> [u8; 262144]
 
 // One read into a part of a block. One that brings nothing is at the recording's end, or failed and has
 // been told.
-fn read_some(part: &mut [u8]) -> Block
+fn read_some(rt: &(impl Input + Eprint), part: &mut [u8]) -> Block
     ensures { result.size ≤ length part.old }
 {
-    let got = libc::read(STDIN_FILENO, part);
-    if got < 0 {
-        os::fail(b"replay: the recording could not be read");
-        return Block {
-            size: 0,
-            failed: true,
-        };
-    }
-    Block {
-        size: io::count(got, part),
-        failed: false,
+    match rt.reader().read(part) {
+        Ok(size) => Block {
+            size,
+            failed: false,
+        },
+        Err(e) => {
+            let _ = eprintln!(rt; "replay: the recording could not be read: {e}");
+            Block {
+                size: 0,
+                failed: true,
+            }
+        }
     }
 }
 
 // Reads until the block is full, the recording ends, or a read fails.
-fn read_block(bytes: &mut [u8]) -> Block
+fn read_block(rt: &(impl Input + Eprint), bytes: &mut [u8]) -> Block
     ensures { IsPrefixLen result.size bytes.new }
 {
     let mut size = 0;
     while size < bytes.len() {
-        let more = read_some(&mut bytes[size..]);
+        let more = read_some(rt, &mut bytes[size..]);
         if more.failed {
             return more;
         }
@@ -188,10 +189,10 @@ fn take(
 }
 
 // Reads another block.
-fn read(played: Played, bytes: &mut [u8]) -> Played
+fn read(rt: &(impl Input + Eprint), played: Played, bytes: &mut [u8]) -> Played
     ensures { IsPrefixLen result.size bytes.new }
 {
-    let block = read_block(bytes);
+    let block = read_block(rt, bytes);
     let mut out = played;
     out.size = block.size;
     out.failed = block.failed;
@@ -200,6 +201,7 @@ fn read(played: Played, bytes: &mut [u8]) -> Played
 
 // Takes the block that waits, and reads another, unless this one was not full.
 fn turn(
+    rt: &(impl Input + Eprint),
     played: Played,
     bytes: &mut [u8],
     samples: &mut [u64],
@@ -214,11 +216,12 @@ fn turn(
     if size < bytes.len() {
         return taken;
     }
-    read(taken, bytes)
+    read(rt, taken, bytes)
 }
 
 // Every block, from the one that waits on.
 fn play(
+    rt: &(impl Input + Eprint),
     first: Played,
     bytes: &mut [u8],
     samples: &mut [u64],
@@ -230,7 +233,7 @@ fn play(
     let mut played = first;
     let mut left = BLOCKS;
     while 0 < left && 0 < played.size {
-        played = turn(played, bytes, samples, spans, repairs);
+        played = turn(rt, played, bytes, samples, spans, repairs);
         left -= 1;
     }
     played
@@ -287,6 +290,7 @@ fn write_played(played: Played, spans: &[u64], text: &mut [u8]) -> usize
 // Reads and plays every block, beginning with what making left, and puts what is to be printed into the
 // text.
 fn play_recording(
+    rt: &(impl Input + Eprint),
     made: Played,
     bytes: &mut [u8],
     samples: &mut [u64],
@@ -296,13 +300,13 @@ fn play_recording(
 ) -> usize
     ensures { result ≤ length text.old }
 {
-    let first = read(made, bytes);
-    let played = play(first, bytes, samples, spans, repairs);
+    let first = read(rt, made, bytes);
+    let played = play(rt, first, bytes, samples, spans, repairs);
     write_played(played, spans, text)
 }
 
 // Puts what is to be printed of a recording with this header into the text.
-fn replay(head: &[u8], text: &mut [u8]) -> usize
+fn replay(rt: &(impl Input + Eprint), head: &[u8], text: &mut [u8]) -> usize
     ensures { result ≤ length text.old }
 {
     let mut spans = span_store();
@@ -314,9 +318,10 @@ fn replay(head: &[u8], text: &mut [u8]) -> usize
         return replay_text::notices::write_refusal(replay_start::start_number(answer), text);
     };
     let state = started.state;
-    let mut bytes = io::large_buffer();
+    let mut bytes = [0u8; 65536];
     let mut samples = sample_store();
     play_recording(
+        rt,
         begin(made, state),
         &mut bytes,
         &mut samples,
@@ -326,22 +331,22 @@ fn replay(head: &[u8], text: &mut [u8]) -> usize
     )
 }
 
-fn print(text: &[u8], size: usize)
+fn print(rt: &(impl Print + Eprint), text: &[u8], size: usize)
     requires { size ≤ length text.now }
 {
-    if !io::write_all(STDOUT_FILENO, &text[..size]) {
-        os::fail(b"replay: the report could not be written");
+    if let Err(e) = rt.write_all(&text[..size]) {
+        let _ = eprintln!(rt; "replay: the report could not be written: {e}");
     }
 }
 
-fn main() {
+fn main(rt: HostRuntime) {
     let mut head = [0u8; 49];
-    let header = read_block(&mut head);
+    let header = read_block(&rt, &mut head);
     if header.failed {
         return;
     }
     let known = header.size;
     let mut text = text_store();
-    let long = replay(&head[..known], &mut text);
-    print(&text, long);
+    let long = replay(&rt, &head[..known], &mut text);
+    print(&rt, &text, long);
 }

@@ -1,11 +1,11 @@
 // A chain as words with small stores of its own, how an operation on it ended, and whether it left what it must.
 
 use chain_words::STATE_WORDS;
-use libc::STDOUT_FILENO;
+use std::io;
 use test_operations::{ACCEPTED, NOTHING, REPORTED, Told};
 
 // A state's words, and stores one word longer than those of 2 spans, 2 repairs and 8 channels.
-#[derive(Drop)]
+#[derive(Clone, Copy)]
 pub struct Bench {
     pub state: [u64; STATE_WORDS],
     pub spans: [u64; 49],
@@ -14,7 +14,7 @@ pub struct Bench {
 }
 
 // Which operation it was, the answer as two numbers, what was left, and whether that is as it must be.
-#[derive(Drop)]
+#[derive(Clone, Copy)]
 pub struct Tried {
     pub op: u64,
     pub number: u64,
@@ -82,19 +82,11 @@ pub fn ended(op: u64, told: Told, given: Bench, left: Bench) -> Tried {
 
 // ---- the answer in words
 
-pub fn say(number: u64) {
+pub fn say(rt: &impl Print, number: u64) -> io::Result<()> {
     match number {
-        ACCEPTED => {
-            io::write_all(STDOUT_FILENO, b"accepted");
-        }
-        NOTHING => {
-            io::write_all(STDOUT_FILENO, b"nothing");
-        }
-        REPORTED => {
-            io::write_all(STDOUT_FILENO, b"report");
-        }
-        _ => {
-            io::print_decimal(STDOUT_FILENO, number);
-        }
+        ACCEPTED => rt.write_all(b"accepted"),
+        NOTHING => rt.write_all(b"nothing"),
+        REPORTED => rt.write_all(b"report"),
+        _ => print!(rt; "{number}"),
     }
 }

@@ -7,10 +7,13 @@
 // hexadecimal. `chain_words` has the places of a state; 172 to 219 is the span store, 220 to 251 the monitor's, 252 to
 // 263 the repair store.
 
+ghost use Rattle.std.specs.Prelude.{◌≤◌, IfOk, length};
+
 use crate::bench::{Bench, Tried, say};
 use crate::operations::{asked, call, fresh, hop, undo};
-use libc::{STDIN_FILENO, STDOUT_FILENO};
 use stage_mode::StageMode;
+use std::io;
+use std::io::Read;
 use test_operations::ACCEPTED;
 
 // The sample (1, 0).
@@ -54,78 +57,75 @@ fn chain(letter: u8) -> Bench {
 
 // ---- a call, a hop and repair undo on a chain
 
-fn say_changed(t: Tried) {
+fn say_changed(rt: &impl Print, t: Tried) -> io::Result<()> {
     if !t.good {
-        io::write_all(STDOUT_FILENO, b" changed");
+        rt.write_all(b" changed")?;
     }
+    Ok(())
 }
 
-fn say_call(number: u64, ready: u64) {
+fn say_call(rt: &impl Print, number: u64, ready: u64) -> io::Result<()> {
     if number == ACCEPTED {
-        io::write_all(STDOUT_FILENO, b"ready ");
-        io::print_decimal(STDOUT_FILENO, ready);
-        return;
+        return print!(rt; "ready {ready}");
     }
-    say(number);
+    say(rt, number)
 }
 
-fn say_hop(number: u64) {
+fn say_hop(rt: &impl Print, number: u64) -> io::Result<()> {
     if number == ACCEPTED {
-        io::write_all(STDOUT_FILENO, b"no report");
-        return;
+        return rt.write_all(b"no report");
     }
-    say(number);
+    say(rt, number)
 }
 
 // With 24 samples (1, 0).
-fn show_call(b: Bench) {
+fn show_call(rt: &impl Print, b: Bench) -> io::Result<()> {
     let t = call(b, [ONE; 64], 24, asked());
-    io::write_all(STDOUT_FILENO, b": call ");
-    say_call(t.number, t.value);
-    say_changed(t);
+    rt.write_all(b": call ")?;
+    say_call(rt, t.number, t.value)?;
+    say_changed(rt, t)
 }
 
 // With 8 channels (1, 0).
-fn show_hop(b: Bench) {
+fn show_hop(rt: &impl Print, b: Bench) -> io::Result<()> {
     let t = hop(b, [ONE; 64], 8, 100, asked());
-    io::write_all(STDOUT_FILENO, b", hop ");
-    say_hop(t.number);
-    say_changed(t);
+    rt.write_all(b", hop ")?;
+    say_hop(rt, t.number)?;
+    say_changed(rt, t)
 }
 
-fn say_undo(number: u64) {
+fn say_undo(rt: &impl Print, number: u64) -> io::Result<()> {
     if number == ACCEPTED {
-        io::write_all(STDOUT_FILENO, b"restored");
-        return;
+        return rt.write_all(b"restored");
     }
-    say(number);
+    say(rt, number)
 }
 
 // Over 64 samples (1, 0).
-fn show_undo(b: Bench) {
+fn show_undo(rt: &impl Print, b: Bench) -> io::Result<()> {
     let t = undo(b, [ONE; 64], asked());
-    io::write_all(STDOUT_FILENO, b", undo ");
-    say_undo(t.number);
-    say_changed(t);
+    rt.write_all(b", undo ")?;
+    say_undo(rt, t.number)?;
+    say_changed(rt, t)
 }
 
 // How a call, a hop and repair undo on this chain are answered, and the line's end.
-fn show_chain(b: Bench) {
+fn show_chain(rt: &impl Print, b: Bench) -> io::Result<()> {
     let mut state = b.state;
     test_operations::settle(&mut state);
     let mut given = b;
     given.state = state;
-    show_call(given);
-    show_hop(given);
-    show_undo(given);
-    io::write_all(STDOUT_FILENO, b"\n");
+    show_call(rt, given)?;
+    show_hop(rt, given)?;
+    show_undo(rt, given)?;
+    rt.write_all(b"\n")
 }
 
 // ---- a line
 
 // How far a line is read: its part, the place of a word, the digits since as a decimal and as a hexadecimal
 // number, and the chain that it gives.
-#[derive(Drop)]
+#[derive(Clone, Copy)]
 struct Reading {
     part: u64,
     place: u64,
@@ -190,54 +190,70 @@ fn with_place(r: Reading) -> Reading {
     out
 }
 
-fn end_line(r: Reading) -> Reading {
+fn end_line(rt: &impl Print, r: Reading) -> io::Result<Reading> {
     let bench = given(r);
-    show_chain(bench);
-    in_part(LETTER, bench)
+    show_chain(rt, bench)?;
+    Ok(in_part(LETTER, bench))
 }
 
-fn read_word(r: Reading, c: u8) -> Reading {
+fn read_word(rt: &impl Print, r: Reading, c: u8) -> io::Result<Reading> {
     match c {
-        b'=' => with_place(r),
-        b' ' => in_part(r.part, given(r)),
-        b'\n' => end_line(r),
-        _ => with_digit(r, digit(c)),
+        b'=' => Ok(with_place(r)),
+        b' ' => Ok(in_part(r.part, given(r))),
+        b'\n' => end_line(rt, r),
+        _ => Ok(with_digit(r, digit(c))),
     }
 }
 
-fn say_byte(c: u8) {
+fn say_byte(rt: &impl Print, c: u8) -> io::Result<()> {
     let text = [c];
-    io::write_all(STDOUT_FILENO, &text);
+    rt.write_all(&text)
 }
 
-fn read(r: Reading, c: u8) -> Reading {
+fn read(rt: &impl Print, r: Reading, c: u8) -> io::Result<Reading> {
     let part = r.part;
     if c == b'|' {
-        return in_part(part % 2 + 1, r.bench);
+        return Ok(in_part(part % 2 + 1, r.bench));
     }
     match part {
-        LETTER => in_part(LETTER, chain(c)),
+        LETTER => Ok(in_part(LETTER, chain(c))),
         CAUSE => {
-            say_byte(c);
-            r
+            say_byte(rt, c)?;
+            Ok(r)
         }
-        _ => read_word(r, c),
+        _ => read_word(rt, r, c),
     }
 }
 
 // ---- all lines
 
-fn read_all(text: &[u8]) {
+fn read_all(rt: &impl Print, text: &[u8]) -> io::Result<()> {
     let mut r = in_part(LETTER, chain(b'a'));
     let mut k: usize = 0;
     while k < text.len() {
-        r = read(r, text[k]);
+        r = read(rt, r, text[k])?;
         k += 1;
     }
+    Ok(())
 }
 
-pub fn show() {
-    let mut text = io::large_buffer();
-    let n = io::read_full(STDIN_FILENO, &mut text);
-    read_all(&text[..n]);
+// Reads until the text is full or the input ends, and answers how many bytes there are.
+fn read_full(input: &mut impl Read, text: &mut [u8]) -> io::Result<usize>
+    ensures { IfOk result (λ n. n ≤ length text.new) }
+{
+    let mut size = 0;
+    while size < text.len() {
+        let more = input.read(&mut text[size..])?;
+        if more == 0 {
+            break;
+        }
+        size += more;
+    }
+    Ok(size)
+}
+
+pub fn show(rt: &(impl Input + Print)) -> io::Result<()> {
+    let mut text = [0u8; 65536];
+    let n = read_full(&mut rt.reader(), &mut text)?;
+    read_all(rt, &text[..n])
 }

@@ -9,7 +9,9 @@ mod operations;
 mod random;
 mod spoil;
 
-fn main() {
-    causes::show();
-    random::show();
+use std::io;
+
+fn main(rt: HostRuntime) -> io::Result<()> {
+    causes::show(&rt)?;
+    random::show(&rt)
 }

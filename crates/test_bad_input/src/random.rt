@@ -7,8 +7,8 @@ use crate::operations::asked;
 use crate::spoil::spoilt;
 use crate::{draw, operations};
 use chain_words::{CHANNELS, END, HELD};
-use libc::STDOUT_FILENO;
 use stage_mode::StageMode;
+use std::io;
 use test_operations::Lent;
 
 const TURNS: u64 = 24000;
@@ -91,43 +91,35 @@ fn run(counts: &mut [u64; COUNTS]) {
 
 // ---- the counts
 
-fn print_operation(op: u64) {
+fn print_operation(rt: &impl Print, op: u64) -> io::Result<()> {
     match op {
-        0 => {
-            io::write_all(STDOUT_FILENO, b"making ");
-        }
-        1 => {
-            io::write_all(STDOUT_FILENO, b"call ");
-        }
-        _ => {
-            io::write_all(STDOUT_FILENO, b"hop ");
-        }
+        0 => rt.write_all(b"making "),
+        1 => rt.write_all(b"call "),
+        _ => rt.write_all(b"hop "),
     }
 }
 
 // A line for a number that was answered.
-fn print_count(op: u64, number: u64, count: u64) {
+fn print_count(rt: &impl Print, op: u64, number: u64, count: u64) -> io::Result<()> {
     if count == 0 {
-        return;
+        return Ok(());
     }
-    print_operation(op);
-    say(number);
-    io::write_all(STDOUT_FILENO, b" ");
-    io::print_decimal(STDOUT_FILENO, count);
-    io::write_all(STDOUT_FILENO, b"\n");
+    print_operation(rt, op)?;
+    say(rt, number)?;
+    println!(rt; " {count}")
 }
 
-fn print(counts: &[u64; COUNTS]) {
+fn print(rt: &impl Print, counts: &[u64; COUNTS]) -> io::Result<()> {
     for k in 0..CHANGED {
-        print_count(k as u64 / 128, k as u64 % 128, counts[k]);
+        print_count(rt, k as u64 / 128, k as u64 % 128, counts[k])?;
     }
+    Ok(())
 }
 
-pub fn show() {
+pub fn show(rt: &impl Print) -> io::Result<()> {
     let mut counts = [0u64; COUNTS];
     run(&mut counts);
-    print(&counts);
-    io::write_all(STDOUT_FILENO, b"refused, and not all as it was: ");
-    io::print_decimal(STDOUT_FILENO, counts[CHANGED]);
-    io::write_all(STDOUT_FILENO, b"\n");
+    print(rt, &counts)?;
+    let changed = counts[CHANGED];
+    println!(rt; "refused, and not all as it was: {changed}")
 }

@@ -3,9 +3,10 @@
 // input and those of the answer in 16 hexadecimal digits each.
 #![tactic(auto)]
 
-ghost use Rattle.std.specs.Prelude.{◌+◌, ◌≤◌, length};
+ghost use Rattle.std.specs.Prelude.{◌+◌, ◌≤◌, IfOk, length};
 
-use libc::{STDIN_FILENO, STDOUT_FILENO};
+use std::io;
+use std::io::Read;
 
 fn digit(c: u8) -> u64 {
     if c < b'a' {
@@ -44,23 +45,39 @@ fn computed(first: u8, third: u8, input: u64) -> u64 {
 }
 
 // Looks at one line.
-fn try_line(line: &[u8])
+fn try_line(rt: &impl Print, line: &[u8]) -> io::Result<()>
     requires { 42 ≤ length line.now }
 {
     let answer = computed(line[0], line[2], word(line, 8));
     if answer != word(line, 25) {
-        io::write_all(STDOUT_FILENO, line);
-        io::print_hex(STDOUT_FILENO, answer, 16);
-        io::write_all(STDOUT_FILENO, b"\n");
+        rt.write_all(line)?;
+        println!(rt; "{answer:016x}")?;
     }
+    Ok(())
 }
 
-fn main() {
-    let mut text = io::large_buffer();
-    let n = io::read_full(STDIN_FILENO, &mut text);
+// Reads until the text is full or the input ends, and answers how many bytes there are.
+fn read_full(input: &mut impl Read, text: &mut [u8]) -> io::Result<usize>
+    ensures { IfOk result (λ n. n ≤ length text.new) }
+{
+    let mut size = 0;
+    while size < text.len() {
+        let more = input.read(&mut text[size..])?;
+        if more == 0 {
+            break;
+        }
+        size += more;
+    }
+    Ok(size)
+}
+
+fn main(rt: HostRuntime) -> io::Result<()> {
+    let mut text = [0u8; 65536];
+    let n = read_full(&mut rt.stdin(), &mut text)?;
     let mut at = 0usize;
     while at + 42 <= n {
-        try_line(&text[at..at + 42]);
+        try_line(&rt, &text[at..at + 42])?;
         at += 42;
     }
+    Ok(())
 }

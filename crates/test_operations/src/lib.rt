@@ -13,7 +13,7 @@ use chain_words::{STATE_WORDS, read_state, write_state};
 // ---- an answer as two numbers
 
 // Document 01's number of a refusal, or one of the three below, and how many samples or which place it names.
-#[derive(Drop)]
+#[derive(Clone, Copy)]
 pub struct Told {
     pub number: u64,
     pub value: u64,
@@ -76,7 +76,7 @@ pub fn told_hop(answer: HopSaid) -> Told {
 // ---- parts of stores
 
 // How much of each store is lent; all of it if there is less.
-#[derive(Drop)]
+#[derive(Clone, Copy)]
 pub struct Lent {
     pub spans: usize,
     pub repairs: usize,

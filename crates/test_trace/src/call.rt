@@ -4,6 +4,7 @@ use crate::chain::lent;
 use crate::words::{show_first, shown, word, write_front, write_words};
 use crate::{Head, REPAIR_WORDS, SLICE_WORDS, SPAN_WORDS};
 use chain_words::{CLAMPED, HELD, RECEIVED, RELEASED, RUN, SEEN, STATE_WORDS};
+use std::io;
 use test_operations::{Told, at_most, part};
 
 // How many places stand in front: as many as are held, where the word is all ones.
@@ -64,21 +65,29 @@ fn front(told: Told, state: &[u64; STATE_WORDS], n: usize, how: u64) -> [u64; 8]
 }
 
 // The slice, and behind it the count of clamped DC updates.
-fn write_call(told: Told, state: &[u64; STATE_WORDS], slice: &[u64], length: usize, how: u64) {
+fn write_call(
+    rt: &impl Print,
+    told: Told,
+    state: &[u64; STATE_WORDS],
+    slice: &[u64],
+    length: usize,
+    how: u64,
+) -> io::Result<()> {
     let n = part(slice, length);
-    write_front(front(told, state, n, how));
-    show_first(slice, n, how);
-    write_words(&[state[CLAMPED]]);
+    write_front(rt, front(told, state, n, how))?;
+    show_first(rt, slice, n, how)?;
+    write_words(rt, &[state[CLAMPED]])
 }
 
 // The state before stays where another one was handed over.
 pub fn call(
+    rt: &impl Print,
     state: &mut [u64; STATE_WORDS],
     head: Head,
     input: &[u64],
     spans: &mut [u64; SPAN_WORDS],
     repairs: &mut [u64; REPAIR_WORDS],
-) {
+) -> io::Result<()> {
     let mut handed = *state;
     let mut slice = [0u64; SLICE_WORDS];
     hand(&mut handed, head.d);
@@ -92,8 +101,9 @@ pub fn call(
         repairs,
         lent(head.a, head.b, 0),
     );
-    write_call(told, &handed, &slice, length, head.how);
+    write_call(rt, told, &handed, &slice, length, head.how)?;
     if head.d == 0 {
         *state = handed;
     }
+    Ok(())
 }

@@ -7,6 +7,7 @@ use chain_words::{STATE_WORDS, mode_at, mode_word};
 use impulse_pause::PauseEdition;
 use iq::{Calibration, IqCalibration};
 use stage_mode::StageMode;
+use std::io;
 use test_operations::{Lent, plain};
 
 // ---- a configuration of thirteen words
@@ -49,7 +50,7 @@ fn calibration_words(c: Calibration) -> [u64; 4] {
     ]
 }
 
-fn write_configuration(c: ConditioningConfig) {
+fn write_configuration(rt: &impl Print, c: ConditioningConfig) -> io::Result<()> {
     let impulse = c.impulse;
     let dc = c.dc;
     let iq = c.iq;
@@ -65,16 +66,16 @@ fn write_configuration(c: ConditioningConfig) {
     ];
     let middle = calibration_words(calibration);
     let back = [c.spans as u64, c.repairs as u64, edition.number()];
-    write_words(&front);
-    write_words(&middle);
-    write_words(&back);
+    write_words(rt, &front)?;
+    write_words(rt, &middle)?;
+    write_words(rt, &back)
 }
 
 // Whether all is off, and `observing`.
-pub fn config(input: &[u64]) {
+pub fn config(rt: &impl Print, input: &[u64]) -> io::Result<()> {
     let c = configuration(input);
-    write_front([2, c.is_off() as u64, 0, 0, 0, 0, 0, 13]);
-    write_configuration(c.observing());
+    write_front(rt, [2, c.is_off() as u64, 0, 0, 0, 0, 0, 13])?;
+    write_configuration(rt, c.observing())
 }
 
 // ---- making
@@ -90,13 +91,14 @@ pub fn lent(spans: u64, repairs: u64, monitor: u64) -> Lent {
 
 // The new chain, or the one before where none was made.
 pub fn make(
+    rt: &impl Print,
     state: &mut [u64; STATE_WORDS],
     head: Head,
     input: &[u64],
     spans: &mut [u64; SPAN_WORDS],
     repairs: &mut [u64; REPAIR_WORDS],
     monitor: &mut [f64; MONITOR_WORDS],
-) {
+) -> io::Result<()> {
     let number = test_operations::make(
         configuration(input),
         state,
@@ -105,7 +107,7 @@ pub fn make(
         monitor,
         lent(head.a, head.b, head.c),
     );
-    answer_plain(1, plain(number), 0, 0);
+    answer_plain(rt, 1, plain(number), 0, 0)
 }
 
 // The words of the chain before the first making.

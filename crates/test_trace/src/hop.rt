@@ -6,9 +6,10 @@ use crate::{Head, MONITOR_WORDS, SPAN_WORDS};
 use chain_hop::HopSaid;
 use chain_words::STATE_WORDS;
 use iq_monitor::Evidence;
+use std::io;
 use test_operations::told_hop;
 
-fn write_evidence(e: Evidence) {
+fn write_evidence(rt: &impl Print, e: Evidence) -> io::Result<()> {
     let words = [
         e.start,
         e.end,
@@ -18,30 +19,31 @@ fn write_evidence(e: Evidence) {
         ieee::to_bits64(e.strongest),
         ieee::to_bits64(e.mirror),
     ];
-    write_words(&words);
+    write_words(rt, &words)
 }
 
 // The evidence, or zeros.
-fn write_report(answer: HopSaid) {
+fn write_report(rt: &impl Print, answer: HopSaid) -> io::Result<()> {
     match answer {
-        HopSaid::Report(e) => write_evidence(e),
-        _ => write_words(&[0u64; 7]),
+        HopSaid::Report(e) => write_evidence(rt, e),
+        _ => write_words(rt, &[0u64; 7]),
     }
 }
 
-fn write_hop(answer: HopSaid) {
+fn write_hop(rt: &impl Print, answer: HopSaid) -> io::Result<()> {
     let t = told_hop(answer);
-    write_front([4, t.number, t.value, 0, 0, 0, 0, 7]);
-    write_report(answer);
+    write_front(rt, [4, t.number, t.value, 0, 0, 0, 0, 7])?;
+    write_report(rt, answer)
 }
 
 pub fn hop(
+    rt: &impl Print,
     state: &mut [u64; STATE_WORDS],
     head: Head,
     input: &[u64],
     spans: &mut [u64; SPAN_WORDS],
     monitor: &mut [f64; MONITOR_WORDS],
-) {
+) -> io::Result<()> {
     let answer = test_operations::hop(
         state,
         input,
@@ -51,5 +53,5 @@ pub fn hop(
         monitor,
         lent(head.b, 0, head.c),
     );
-    write_hop(answer);
+    write_hop(rt, answer)
 }

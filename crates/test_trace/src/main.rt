@@ -2,7 +2,7 @@
 // to standard output. Both are words; oracle/src/trace/mod.rs has their order.
 #![tactic(auto)]
 
-ghost use Rattle.std.specs.Prelude.{◌<◌};
+ghost use Rattle.std.specs.Prelude.{◌<◌, IfOk};
 
 mod call;
 mod chain;
@@ -12,6 +12,7 @@ mod undoing;
 mod words;
 
 use chain_words::STATE_WORDS;
+use std::io;
 use test_operations::{part, plain};
 use words::{answer_plain, read_words};
 
@@ -27,7 +28,7 @@ pub const REPAIR_WORDS: usize = 24580;
 pub const MONITOR_WORDS: usize = 8196;
 
 // The words in front of an operation.
-#[derive(Drop)]
+#[derive(Clone, Copy)]
 pub struct Head {
     pub there: bool,
     pub op: u64,
@@ -39,10 +40,10 @@ pub struct Head {
     pub len: u64,
 }
 
-fn read_head() -> Head {
+fn read_head(rt: &impl Input) -> io::Result<Head> {
     let mut w = [0u64; 8];
-    let there = read_words(&mut w);
-    Head {
+    let there = read_words(rt, &mut w)?;
+    Ok(Head {
         there,
         op: w[0],
         how: w[1],
@@ -51,7 +52,7 @@ fn read_head() -> Head {
         c: w[4],
         d: w[5],
         len: w[7],
-    }
+    })
 }
 
 // ---- a word of a store
@@ -70,92 +71,104 @@ fn put_float(words: &mut [f64], place: usize, w: u64) {
 
 // A word of a store.
 fn write(
+    rt: &impl Print,
     head: Head,
     spans: &mut [u64; SPAN_WORDS],
     repairs: &mut [u64; REPAIR_WORDS],
     monitor: &mut [f64; MONITOR_WORDS],
-) {
+) -> io::Result<()> {
     let store = head.a;
     let place = head.b as usize;
-    answer_plain(14, plain(0), 0, 0);
+    answer_plain(rt, 14, plain(0), 0, 0)?;
     match store {
         0 => put(spans, place, head.c),
         1 => put(repairs, place, head.c),
         2 => put_float(monitor, place, head.c),
         _ => {}
     }
+    Ok(())
 }
 
 // ---- all
 
 // Reads the words behind an operation's front; whether they were there.
-fn read_input(head: Head, input: &mut [u64]) -> bool {
+fn read_input(rt: &impl Input, head: Head, input: &mut [u64]) -> io::Result<bool> {
     if !head.there {
-        return false;
+        return Ok(false);
     }
     let n = part(input, head.len as usize);
     if (n as u64) < head.len {
-        return false;
+        return Ok(false);
     }
-    read_words(&mut input[..n])
+    read_words(rt, &mut input[..n])
 }
 
 fn answer(
+    rt: &impl Print,
     state: &mut [u64; STATE_WORDS],
     head: Head,
     input: &mut [u64],
     spans: &mut [u64; SPAN_WORDS],
     repairs: &mut [u64; REPAIR_WORDS],
     monitor: &mut [f64; MONITOR_WORDS],
-) {
+) -> io::Result<()> {
     let op = head.op;
     match op {
-        1 => chain::make(state, head, input, spans, repairs, monitor),
-        2 => chain::config(input),
-        3 => call::call(state, head, input, spans, repairs),
-        4 => hop::hop(state, head, input, spans, monitor),
-        5 => shown::log(state),
-        6 => shown::state(state),
-        7 => shown::stores(head, spans, repairs, monitor),
-        8 => shown::span(state, head, spans),
-        9 => undoing::repairs(state, head, input, repairs),
-        10 => undoing::level(head, input),
-        11 => undoing::correction(head, input),
-        12 => undoing::guard(head, input),
-        13 => undoing::validate(head),
-        14 => write(head, spans, repairs, monitor),
-        _ => {}
+        1 => chain::make(rt, state, head, input, spans, repairs, monitor),
+        2 => chain::config(rt, input),
+        3 => call::call(rt, state, head, input, spans, repairs),
+        4 => hop::hop(rt, state, head, input, spans, monitor),
+        5 => shown::log(rt, state),
+        6 => shown::state(rt, state),
+        7 => shown::stores(rt, head, spans, repairs, monitor),
+        8 => shown::span(rt, state, head, spans),
+        9 => undoing::repairs(rt, state, head, input, repairs),
+        10 => undoing::level(rt, head, input),
+        11 => undoing::correction(rt, head, input),
+        12 => undoing::guard(rt, head, input),
+        13 => undoing::validate(rt, head),
+        14 => write(rt, head, spans, repairs, monitor),
+        _ => Ok(()),
     }
 }
 
 // One operation, and how many more may follow: none at the end of the input.
 fn turn(
+    rt: &(impl Input + Print),
     left: u64,
     state: &mut [u64; STATE_WORDS],
     spans: &mut [u64; SPAN_WORDS],
     repairs: &mut [u64; REPAIR_WORDS],
     monitor: &mut [f64; MONITOR_WORDS],
-) -> u64
+) -> io::Result<u64>
     requires { 0 < left }
-    ensures { result < left }
+    ensures { IfOk result (λ r. r < left) }
 {
     let mut input = [0u64; INPUT_WORDS];
-    let head = read_head();
-    if !read_input(head, &mut input) {
-        return 0;
+    let head = read_head(rt)?;
+    if !read_input(rt, head, &mut input)? {
+        return Ok(0);
     }
     let n = part(&input, head.len as usize);
-    answer(state, head, &mut input[..n], spans, repairs, monitor);
-    left - 1
+    answer(rt, state, head, &mut input[..n], spans, repairs, monitor)?;
+    Ok(left - 1)
 }
 
-fn main() {
+fn main(rt: HostRuntime) -> io::Result<()> {
     let mut state = chain::first();
     let mut spans = [0u64; SPAN_WORDS];
     let mut repairs = [0u64; REPAIR_WORDS];
     let mut monitor = [0.0f64; MONITOR_WORDS];
     let mut left: u64 = 0xffff_ffff_ffff_ffff;
     while 0 < left {
-        left = turn(left, &mut state, &mut spans, &mut repairs, &mut monitor);
+        left = turn(
+            &rt,
+            left,
+            &mut state,
+            &mut spans,
+            &mut repairs,
+            &mut monitor,
+        )?;
     }
+    Ok(())
 }

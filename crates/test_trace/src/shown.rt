@@ -6,37 +6,39 @@ use chain_log::{ConditioningLog, DcLevel, SpanRead};
 use chain_words::{APPLY, COEFFICIENT, RINGS, SEEN, STATE_WORDS, WINDOW, iq_words};
 use complex::Complex64;
 use stage_log::{Mark, Ring, Stage};
+use std::io;
 use test_operations::{NOTHING, part, plain};
 
 // ---- the log
 
-fn write_ring(samples: u64, ring: Ring) {
+fn write_ring(rt: &impl Print, samples: u64, ring: Ring) -> io::Result<()> {
     let words = [samples, ring.head as u64, ring.count as u64, ring.dropped];
-    write_words(&words);
+    write_words(rt, &words)
 }
 
-fn write_rings(log: ConditioningLog) {
+fn write_rings(rt: &impl Print, log: &ConditioningLog) -> io::Result<()> {
     let marks = log.notes.log;
     for k in 0..12 {
         let samples = marks.counts[k];
         let ring = marks.rings[k];
-        write_ring(samples, ring);
+        write_ring(rt, samples, ring)?;
     }
+    Ok(())
 }
 
-fn write_complex(there: u64, z: Complex64) {
+fn write_complex(rt: &impl Print, there: u64, z: Complex64) -> io::Result<()> {
     let words = [there, ieee::to_bits64(z.re), ieee::to_bits64(z.im)];
-    write_words(&words);
+    write_words(rt, &words)
 }
 
-fn write_level(level: DcLevel) {
+fn write_level(rt: &impl Print, level: DcLevel) -> io::Result<()> {
     match level {
-        DcLevel::Level(dc) => write_complex(1, dc),
-        _ => write_complex(0, Complex64 { re: 0.0, im: 0.0 }),
+        DcLevel::Level(dc) => write_complex(rt, 1, dc),
+        _ => write_complex(rt, 0, Complex64 { re: 0.0, im: 0.0 }),
     }
 }
 
-fn write_counts(log: ConditioningLog) {
+fn write_counts(rt: &impl Print, log: &ConditioningLog) -> io::Result<()> {
     let notes = log.notes;
     let ring = notes.repairs;
     let words = [
@@ -46,35 +48,35 @@ fn write_counts(log: ConditioningLog) {
         ring.dropped,
         notes.longruns,
     ];
-    write_words(&words);
+    write_words(rt, &words)
 }
 
-fn write_log(log: ConditioningLog) {
+fn write_log(rt: &impl Print, log: ConditioningLog) -> io::Result<()> {
     let counts = log.counts;
     let samples = [counts.seen, counts.released, counts.held as u64];
+    write_words(rt, &samples)?;
+    write_rings(rt, &log)?;
+    write_counts(rt, &log)?;
     let level = log.dclevel;
     let iq = log.iq;
-    write_words(&samples);
-    write_rings(log);
-    write_counts(log);
-    write_level(level);
-    write_words(&[counts.clamped]);
-    write_words(&iq_words(iq));
+    write_level(rt, level)?;
+    write_words(rt, &[counts.clamped])?;
+    write_words(rt, &iq_words(iq))
 }
 
-pub fn log(state: &[u64; STATE_WORDS]) {
-    write_front([5, 0, 0, 0, 0, 0, 0, 63]);
-    write_log(chain_log::log(chain_words::read_state(state)));
+pub fn log(rt: &impl Print, state: &[u64; STATE_WORDS]) -> io::Result<()> {
+    write_front(rt, [5, 0, 0, 0, 0, 0, 0, 63])?;
+    write_log(rt, chain_log::log(chain_words::read_state(state)))
 }
 
 // ---- the state
 
 // The settings, but for the coefficient; the stages' numbers; the suppressor's arrays.
-pub fn state(state: &[u64; STATE_WORDS]) {
-    write_front([6, 0, 0, 0, 0, 0, 0, 114]);
-    write_between(state, 0, COEFFICIENT);
-    write_between(state, APPLY, SEEN);
-    write_between(state, WINDOW, RINGS);
+pub fn state(rt: &impl Print, state: &[u64; STATE_WORDS]) -> io::Result<()> {
+    write_front(rt, [6, 0, 0, 0, 0, 0, 0, 114])?;
+    write_between(rt, state, 0, COEFFICIENT)?;
+    write_between(rt, state, APPLY, SEEN)?;
+    write_between(rt, state, WINDOW, RINGS)
 }
 
 // ---- the stores
@@ -86,16 +88,22 @@ fn shown_in_all(a: usize, b: usize, c: usize, how: u64) -> u64 {
     }
 }
 
-pub fn stores(head: Head, spans: &[u64], repairs: &[u64], words: &[f64; MONITOR_WORDS]) {
+pub fn stores(
+    rt: &impl Print,
+    head: Head,
+    spans: &[u64],
+    repairs: &[u64],
+    words: &[f64; MONITOR_WORDS],
+) -> io::Result<()> {
     let a = part(spans, head.a as usize);
     let b = part(repairs, head.b as usize);
     let monitor = bits(words);
     let c = part(&monitor, head.c as usize);
     let shown = shown_in_all(a, b, c, head.how);
-    write_front([7, 0, 0, a as u64, b as u64, c as u64, 0, shown]);
-    show_first(spans, a, head.how);
-    show_first(repairs, b, head.how);
-    show_first(&monitor, c, head.how);
+    write_front(rt, [7, 0, 0, a as u64, b as u64, c as u64, 0, shown])?;
+    show_first(rt, spans, a, head.how)?;
+    show_first(rt, repairs, b, head.how)?;
+    show_first(rt, &monitor, c, head.how)
 }
 
 // ---- a span
@@ -117,14 +125,19 @@ fn kind(w: u64) -> Mark {
     }
 }
 
-fn write_span(read: SpanRead) {
+fn write_span(rt: &impl Print, read: SpanRead) -> io::Result<()> {
     match read {
-        SpanRead::Held(s) => answer_plain(8, plain(0), s.start, s.len),
-        _ => answer_plain(8, plain(NOTHING), 0, 0),
+        SpanRead::Held(s) => answer_plain(rt, 8, plain(0), s.start, s.len),
+        _ => answer_plain(rt, 8, plain(NOTHING), 0, 0),
     }
 }
 
-pub fn span(state: &[u64; STATE_WORDS], head: Head, spans: &[u64]) {
+pub fn span(
+    rt: &impl Print,
+    state: &[u64; STATE_WORDS],
+    head: Head,
+    spans: &[u64],
+) -> io::Result<()> {
     let a = part(spans, head.d as usize);
     let read = chain_log::span(
         chain_words::read_state(state),
@@ -133,5 +146,5 @@ pub fn span(state: &[u64; STATE_WORDS], head: Head, spans: &[u64]) {
         kind(head.b),
         head.c as usize,
     );
-    write_span(read);
+    write_span(rt, read)
 }

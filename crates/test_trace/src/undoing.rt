@@ -6,13 +6,20 @@ use crate::{Head, SLICE_WORDS};
 use chain_words::STATE_WORDS;
 use complex::Complex64;
 use iq::IqCalibration;
+use std::io;
 use test_operations::{Told, part, plain};
 
 // ---- repairs
 
-pub fn repairs(state: &[u64; STATE_WORDS], head: Head, input: &mut [u64], repairs: &[u64]) {
+pub fn repairs(
+    rt: &impl Print,
+    state: &[u64; STATE_WORDS],
+    head: Head,
+    input: &mut [u64],
+    repairs: &[u64],
+) -> io::Result<()> {
     let told = test_operations::undo_repairs(state, repairs, head.b as usize, input, head.a);
-    answer_slice(9, told, input, head.how);
+    answer_slice(rt, 9, told, input, head.how)
 }
 
 // ---- DC
@@ -28,16 +35,16 @@ fn told_dc(answer: dc::Reverted) -> Told {
     }
 }
 
-fn level_over(head: Head, input: &[u64], slice: &mut [u64]) {
+fn level_over(rt: &impl Print, head: Head, input: &[u64], slice: &mut [u64]) -> io::Result<()> {
     let answer = dc::revert_dc(input, ieee::from_bits64(head.a), slice);
-    answer_slice(10, told_dc(answer), slice, head.how);
+    answer_slice(rt, 10, told_dc(answer), slice, head.how)
 }
 
-pub fn level(head: Head, input: &[u64]) {
+pub fn level(rt: &impl Print, head: Head, input: &[u64]) -> io::Result<()> {
     let mut slice = [0u64; SLICE_WORDS];
     fill(&mut slice, SLICE_WORDS, input);
     let n = part(&slice, head.b as usize);
-    level_over(head, input, &mut slice[..n]);
+    level_over(rt, head, input, &mut slice[..n])
 }
 
 // ---- IQ
@@ -53,33 +60,33 @@ fn told_iq(answer: iq_correction::Reverted) -> Told {
     }
 }
 
-pub fn correction(head: Head, input: &mut [u64]) {
+pub fn correction(rt: &impl Print, head: Head, input: &mut [u64]) -> io::Result<()> {
     let rho = Complex64 {
         re: ieee::from_bits64(head.a),
         im: ieee::from_bits64(head.b),
     };
     let answer = iq_correction::revert_iq(input, rho);
-    answer_slice(11, told_iq(answer), input, head.how);
+    answer_slice(rt, 11, told_iq(answer), input, head.how)
 }
 
 // ---- the guard
 
-pub fn guard(head: Head, input: &mut [u64]) {
+pub fn guard(rt: &impl Print, head: Head, input: &mut [u64]) -> io::Result<()> {
     let replaced = sample_guard::replace_unusable(input);
     let told = Told {
         number: 0,
         value: replaced,
     };
-    answer_slice(12, told, input, head.how);
+    answer_slice(rt, 12, told, input, head.how)
 }
 
 // ---- a calibration
 
-pub fn validate(head: Head) {
+pub fn validate(rt: &impl Print, head: Head) -> io::Result<()> {
     let c = IqCalibration {
         gain: ieee::from_bits64(head.a),
         phase: ieee::from_bits64(head.b),
         centre: ieee::from_bits64(head.c),
     };
-    answer_plain(13, plain(iq::number(c.validate())), 0, 0);
+    answer_plain(rt, 13, plain(iq::number(c.validate())), 0, 0)
 }

@@ -3,7 +3,8 @@
 ghost use Rattle.std.specs.Prelude.{◌≡◌, ◌+◌, ◌<◌, ◌≤◌, length};
 
 use crate::MONITOR_WORDS;
-use libc::{STDIN_FILENO, STDOUT_FILENO};
+use std::io;
+use std::io::{ErrorKind, Read};
 use test_operations::{Told, at_most, part};
 
 // How many words go at once, of so many.
@@ -41,31 +42,37 @@ fn decode(bytes: &[u8; 4096], words: &mut [u64])
 }
 
 // Whether all of these words were there.
-fn read_part(words: &mut [u64]) -> bool
+fn read_part(rt: &impl Input, words: &mut [u64]) -> io::Result<bool>
     requires { length words.old ≤ 512 }
 {
-    let mut bytes = io::buffer();
+    let mut bytes = [0u8; 4096];
     let n = words.len() * 8;
-    let got = io::read_full(STDIN_FILENO, &mut bytes[..n]);
-    if got != n {
-        return false;
+    match rt.reader().read_exact(&mut bytes[..n]) {
+        Ok(()) => {
+            decode(&bytes, words);
+            Ok(true)
+        }
+        Err(e) => {
+            if e.kind() == ErrorKind::UnexpectedEof {
+                return Ok(false);
+            }
+            Err(e)
+        }
     }
-    decode(&bytes, words);
-    true
 }
 
 // Reads over the slice; whether all of its words were there.
-pub fn read_words(words: &mut [u64]) -> bool {
+pub fn read_words(rt: &impl Input, words: &mut [u64]) -> io::Result<bool> {
     let n = words.len();
     let mut k: usize = 0;
     while k < n {
         let e = k + at_once(n - k);
-        if !read_part(&mut words[k..e]) {
-            return false;
+        if !read_part(rt, &mut words[k..e])? {
+            return Ok(false);
         }
         k = e;
     }
-    true
+    Ok(true)
 }
 
 // ---- writing
@@ -98,36 +105,37 @@ fn encode(words: &[u64], bytes: &mut [u8; 4096])
     }
 }
 
-fn write_part(words: &[u64])
+fn write_part(rt: &impl Print, words: &[u64]) -> io::Result<()>
     requires { length words.now ≤ 512 }
 {
-    let mut bytes = io::buffer();
+    let mut bytes = [0u8; 4096];
     encode(words, &mut bytes);
     let n = words.len() * 8;
-    io::write_all(STDOUT_FILENO, &bytes[..n]);
+    rt.write_all(&bytes[..n])
 }
 
-pub fn write_words(words: &[u64]) {
+pub fn write_words(rt: &impl Print, words: &[u64]) -> io::Result<()> {
     let n = words.len();
     let mut k: usize = 0;
     while k < n {
         let e = k + at_once(n - k);
-        write_part(&words[k..e]);
+        write_part(rt, &words[k..e])?;
         k = e;
     }
+    Ok(())
 }
 
 // The words from one place to another, as far as there are any.
-pub fn write_between(words: &[u64], from: usize, to: usize) {
+pub fn write_between(rt: &impl Print, words: &[u64], from: usize, to: usize) -> io::Result<()> {
     let e = part(words, to);
     let k = at_most(from, e);
-    write_words(&words[k..e]);
+    write_words(rt, &words[k..e])
 }
 
 // The words in front of an answer: the operation, its number and value, four that belong to it, and how many
 // words follow.
-pub fn write_front(front: [u64; 8]) {
-    write_words(&front);
+pub fn write_front(rt: &impl Print, front: [u64; 8]) -> io::Result<()> {
+    write_words(rt, &front)
 }
 
 // ---- one word of many
@@ -150,24 +158,23 @@ fn digest(words: &[u64]) -> u64 {
     h
 }
 
-fn write_one(w: u64) {
+fn write_one(rt: &impl Print, w: u64) -> io::Result<()> {
     let words = [w];
-    write_words(&words);
+    write_words(rt, &words)
 }
 
 // The words, or their digest.
-pub fn show_words(words: &[u64], how: u64) {
+pub fn show_words(rt: &impl Print, words: &[u64], how: u64) -> io::Result<()> {
     if how == 1 {
-        write_one(digest(words));
-        return;
+        return write_one(rt, digest(words));
     }
-    write_words(words);
+    write_words(rt, words)
 }
 
 // The same of the first so many.
-pub fn show_first(words: &[u64], count: usize, how: u64) {
+pub fn show_first(rt: &impl Print, words: &[u64], count: usize, how: u64) -> io::Result<()> {
     let n = part(words, count);
-    show_words(&words[..n], how);
+    show_words(rt, &words[..n], how)
 }
 
 // The bits of the monitor's words.
@@ -188,22 +195,31 @@ pub fn shown(n: usize, how: u64) -> u64 {
 }
 
 // The answer to an operation, with the slice that it left.
-pub fn answer_slice(op: u64, told: Told, slice: &[u64], how: u64) {
+pub fn answer_slice(
+    rt: &impl Print,
+    op: u64,
+    told: Told,
+    slice: &[u64],
+    how: u64,
+) -> io::Result<()> {
     let n = slice.len();
-    write_front([
-        op,
-        told.number,
-        told.value,
-        0,
-        0,
-        0,
-        n as u64,
-        shown(n, how),
-    ]);
-    show_words(slice, how);
+    write_front(
+        rt,
+        [
+            op,
+            told.number,
+            told.value,
+            0,
+            0,
+            0,
+            n as u64,
+            shown(n, how),
+        ],
+    )?;
+    show_words(rt, slice, how)
 }
 
 // The answer to an operation, with two words.
-pub fn answer_plain(op: u64, told: Told, p: u64, q: u64) {
-    write_front([op, told.number, told.value, p, q, 0, 0, 0]);
+pub fn answer_plain(rt: &impl Print, op: u64, told: Told, p: u64, q: u64) -> io::Result<()> {
+    write_front(rt, [op, told.number, told.value, p, q, 0, 0, 0])
 }

@@ -8,9 +8,9 @@ use chain_state::InputConditioner;
 use complex::Complex32;
 use impulse_pause::PauseEdition;
 use iq::Calibration;
-use libc::STDOUT_FILENO;
 use stage_log::{Mark, Stage};
 use stage_mode::StageMode;
+use std::io;
 
 // The sample (re, 0), as a word.
 fn real(re: f32) -> u64 {
@@ -33,16 +33,12 @@ fn configuration() -> ConditioningConfig {
     }
 }
 
-fn print_line(words: &[u8], n: u64) {
-    io::write_all(STDOUT_FILENO, words);
-    io::print_decimal(STDOUT_FILENO, n);
-    io::write_all(STDOUT_FILENO, b"\n");
+fn print_line(rt: &impl Print, words: &str, n: u64) -> io::Result<()> {
+    println!(rt; "{words}{n}")
 }
 
-fn print_sample(words: &[u8], x: u64) {
-    io::write_all(STDOUT_FILENO, words);
-    io::print_hex(STDOUT_FILENO, x, 16);
-    io::write_all(STDOUT_FILENO, b"\n");
+fn print_sample(rt: &impl Print, words: &str, x: u64) -> io::Result<()> {
+    println!(rt; "{words}{x:016x}")
 }
 
 // How many samples a call released; a refused one releases none.
@@ -54,33 +50,34 @@ fn released(answer: Conditioned) -> u64 {
 }
 
 // What the log says: the samples seen, released and held, and where the click was.
-fn print_log(state: InputConditioner, spans: &[u64]) {
+fn print_log(rt: &impl Print, state: InputConditioner, spans: &[u64]) -> io::Result<()> {
     let log = chain_log::log(state);
     let counts = log.counts;
-    print_line(b"seen ", counts.seen);
-    print_line(b"released ", counts.released);
-    print_line(b"held ", counts.held as u64);
+    print_line(rt, "seen ", counts.seen)?;
+    print_line(rt, "released ", counts.released)?;
+    print_line(rt, "held ", counts.held as u64)?;
     let read = chain_log::span(state, spans, Stage::Impulse, Mark::Repaired, 0);
     let SpanRead::Held(span) = read else {
-        return;
+        return Ok(());
     };
-    print_line(b"mended at ", span.start);
+    print_line(rt, "mended at ", span.start)
 }
 
 // A call, which says how many samples are ready.
 fn call(
+    rt: &impl Print,
     state: InputConditioner,
     samples: &mut [u64],
     spans: &mut [u64],
     repairs: &mut [u64],
-) -> InputConditioner {
+) -> io::Result<InputConditioner> {
     let called = chain_call::condition(state, samples, spans, repairs);
     let answer = called.answer;
-    print_line(b"ready ", released(answer));
-    called.state
+    print_line(rt, "ready ", released(answer))?;
+    Ok(called.state)
 }
 
-fn main() {
+fn main(rt: HostRuntime) -> io::Result<()> {
     // the stores, which the caller owns and lends
     let mut spans = [0u64; 96];
     let mut repairs = [0u64; 24];
@@ -91,15 +88,15 @@ fn main() {
     // thirty samples, a click at 20: nine are released and 21 held
     let mut first = [real(1.0); 30];
     first[20] = real(100.0);
-    let state = call(fresh, &mut first, &mut spans, &mut repairs);
+    let state = call(&rt, fresh, &mut first, &mut spans, &mut repairs)?;
 
     // thirty more, behind the places of the held ones: samples 9 to 38 are released
     let mut second = [real(1.0); 51];
-    let last = call(state, &mut second, &mut spans, &mut repairs);
-    print_sample(b"sample 20 is ", second[11]);
-    print_log(last, &spans);
+    let last = call(&rt, state, &mut second, &mut spans, &mut repairs)?;
+    print_sample(&rt, "sample 20 is ", second[11])?;
+    print_log(&rt, last, &spans)?;
 
     // the repair lifted out again
     chain_undo::revert_repairs(last, &repairs, &mut second, 9);
-    print_sample(b"sample 20 was ", second[11]);
+    print_sample(&rt, "sample 20 was ", second[11])
 }
