@@ -2,10 +2,10 @@
 -- such input. Assumes nothing.
 --
 -- The contracts cite definitions of their own, and these give the rules by theorems, for any input:
--- of the whole chain `one_record`, crates/one_record/specs/laws/OneRecord.antt: its part `ruled` is `ByRules`, by `released`, `ring_of` and the others of
+-- of the whole chain `one_record`, crates/one_record/proofs/laws/OneRecord.antt: its part `ruled` is `ByRules`, by `released`, `ring_of` and the others of
 -- rules/Chain
---   impulse              `stage`, crates/impulse/specs/laws/Stage.antt: pushed one by one, samples give `handed_on` and `happened`
---   DC                   `any_cutting`, crates/dc/specs/laws/Cutting.antt: call by call, samples give `blocked_all` and `level_after`
+--   impulse              `stage`, crates/impulse/proofs/laws/Stage.antt: pushed one by one, samples give `handed_on` and `happened`
+--   DC                   `any_cutting`, crates/dc/proofs/laws/Cutting.antt: call by call, samples give `blocked_all` and `level_after`
 --   IQ                   none is needed: the contract of `settle`, crates/iq/src/lib.rt, cites `settled`
 use Rattle.std.specs.Prelude.{◌≡◌, refl, ◌≢◌, Bool, true, false, ◌&&◌, ◌||◌, List, [], ◌∷◌, ◌++◌, ℕ, ◌+◌, ◌-◌, leb, ltb, eqb, length, replicate, Float}
 use Rattle.std.proofs.Common.{ap, ◌∙◌, arith, lit≤, lit<}

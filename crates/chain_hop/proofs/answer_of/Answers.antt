@@ -1,7 +1,6 @@
 -- `chain_hop::answer_of`: case by case. Assumes nothing.
 use mathlib.Core.Path.{sym, ap}
 use Rattle.chain_hop.specs.Hops.{answer_of}
-use borrow.Author.Rules.{rules}
 use Rattle.chain_hop.proofs.answer_of.Goals as goal
 
 pub returns-in-Nothing : goal.returns-in-Nothing

@@ -3,13 +3,12 @@ use mathlib.Core.Path.{◌≡◌, refl, sym, ◌∙◌}
 use mathlib.Core.Bool.{true, false}
 use Prim.Native.Nat.{◌*◌}
 use native.Mathlib.Omega.{arith}
-use borrow.Author.Tests.{eq-eqb, ne_eqb, not-true, not-false}
+use borrow.Author.Tests.{eq-eqb, ne_eqb}
 use lib.ListN.{length}
 use Rattle.rules.specs.Log.{store_width}
 use Rattle.chain_state.specs.Fits.{state_fits}
 use Rattle.chain_state.proofs.laws.FitsLaws.{Fit, state_fit}
 use Rattle.chain_hop.proofs.laws.HopLaws.{refusal_by}
-use borrow.Author.Rules.{rules}
 use Rattle.chain_hop.proofs.hop_refusal.Goals as goal
 use Rattle.chain_hop.proofs.hop_refusal.Goals.{Else-not-fits}
 

@@ -3,7 +3,6 @@ use mathlib.Core.Path.{sym, ap}
 use Rattle.iq.specs.declared.Iq.{Iq}
 use Rattle.iq.specs.View.{settled_of}
 use Rattle.chain_hop.specs.Hops.{is_observing}
-use borrow.Author.Rules.{rules}
 use Rattle.chain_hop.proofs.is_observing.Goals as goal
 
 pub returns-in-Off : goal.returns-in-Off

@@ -8,7 +8,6 @@ use borrow.Author.Tests.{not-true, not-false}
 use Rattle.rules.specs.Log.{span_of}
 use Rattle.chain_hop.specs.Hops.{uncertain}
 use Rattle.chain_hop.proofs.laws.HopLaws.{mark_ready}
-use borrow.Author.Rules.{rules}
 use Rattle.chain_hop.proofs.mark_window.Goals as goal
 
 pub returns-then-not-evidence : goal.returns-then-not-evidence

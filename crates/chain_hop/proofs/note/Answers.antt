@@ -4,7 +4,6 @@ use mathlib.Core.Bool.{true}
 use Rattle.iq_monitor.specs.declared.HopAnswer.{HopAnswer}
 use Rattle.chain_hop.specs.Hops.{noted}
 use Rattle.chain_hop.specs.HopReady.{Told}
-use borrow.Author.Rules.{rules}
 use Rattle.chain_hop.proofs.note.Goals as goal
 
 pub mark_window-requires : goal.mark_window-requires

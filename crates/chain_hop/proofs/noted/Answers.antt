@@ -1,9 +1,7 @@
 -- `chain_hop::noted`: by whether IQ observes. Assumes nothing.
 use mathlib.Core.Path.{sym, ap, ◌∙◌}
 use mathlib.Core.Bool.{Bool}
-use borrow.Author.Tests.{not-true, not-false}
 use Rattle.chain_hop.specs.Hops.{noted}
-use borrow.Author.Rules.{rules}
 use Rattle.chain_hop.proofs.noted.Goals as goal
 
 pub returns-then-not-is_observing : goal.returns-then-not-is_observing

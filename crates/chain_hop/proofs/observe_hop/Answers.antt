@@ -3,7 +3,6 @@ use mathlib.Core.Path.{sym, ap, ◌∙◌}
 use Rattle.chain_hop.specs.declared.HopCalled.{HopCalled}
 use Rattle.chain_hop.specs.Hops.{fitness_number, said_hop, Hopped}
 use Rattle.chain_hop.proofs.laws.HopLaws.{hop_taken, told_taken, hop_bad_state, told_bad_state, hop_bad_length, told_bad_length}
-use borrow.Author.Rules.{rules}
 use Rattle.chain_hop.proofs.observe_hop.Goals as goal
 
 pub take_hop-requires : goal.take_hop-requires

@@ -8,7 +8,6 @@ use Rattle.chain_state.proofs.laws.FitsLaws.{Fit, state_fit}
 use Rattle.iq_monitor.specs.declared.Observed.{Observed}
 use Rattle.chain_hop.specs.HopReady.{Told}
 use Rattle.chain_hop.proofs.laws.HopLaws.{Ready, refusal_none, told_watched, taken_by, taken_words}
-use borrow.Author.Rules.{rules}
 use Rattle.chain_hop.proofs.take_hop.Goals as goal
 use Rattle.chain_hop.proofs.take_hop.Goals.{Start}
 

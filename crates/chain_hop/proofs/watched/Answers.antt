@@ -3,7 +3,6 @@ use mathlib.Core.Path.{sym, ap, ◌∙◌}
 use mathlib.Core.Bool.{true, false}
 use Rattle.iq_monitor.specs.Observe.{Seen}
 use Rattle.chain_hop.proofs.laws.HopLaws.{watched_by}
-use borrow.Author.Rules.{rules}
 use Rattle.chain_hop.proofs.watched.Goals as goal
 
 pub returns-then-is_off : goal.returns-then-is_off

@@ -1,6 +1,5 @@
 -- `chain_log::dc_level`: none where the stage is off. Assumes nothing.
 use mathlib.Core.Path.{sym, ap}
-use borrow.Author.Rules.{rules}
 use Rattle.complex.specs.View.{view64}
 use Rattle.stage_mode.specs.declared.StageMode.{StageMode}
 use Rattle.stage_mode.specs.View.{mode_of}

@@ -1,6 +1,5 @@
 -- `chain_log::log`: each field is the state's. Assumes nothing.
 use mathlib.Core.Path.{sym, ap, ◌∙◌}
-use borrow.Author.Rules.{rules}
 use Rattle.chain_log.specs.Reading.{level_from, log_of}
 use Rattle.chain_log.proofs.laws.ReadingLaws.{level_again}
 use Rattle.chain_log.proofs.log.Goals as goal

@@ -7,7 +7,6 @@ use Rattle.stage_log.specs.View.{marks_at}
 use Rattle.stage_log.specs.Check.{ring_of}
 use Rattle.stage_log.proofs.laws.LogLaws.{part_inside}
 use Rattle.chain_log.proofs.laws.ReadingLaws.{Store, store_is, has_is, read_sound}
-use borrow.Author.Rules.{rules}
 use Rattle.chain_log.proofs.read_span.Goals as goal
 use Rattle.chain_log.proofs.read_span.Goals.{Start}
 
@@ -50,7 +49,7 @@ span_at-requires c =
     record {
       sound =
           rw (add-sub_cancel_left (a.which * (a.capacity * 2)) (a.capacity * 2))
-              (read_sound a.capacity (record { log = a.log; spans = a.spans.now }) a.which c.requires.which_bound.1 h.0 c.requires.which_bound.0);
+          (read_sound a.capacity (record { log = a.log; spans = a.spans.now }) a.which c.requires.which_bound.1 h.0 c.requires.which_bound.0);
       i_lt_count = h.1;
     }
 

@@ -4,14 +4,12 @@ use mathlib.Core.Bool.{◌&&◌}
 use Prim.Native.Nat.{ℕ, ◌<◌}
 use native.Mathlib.Omega.{arith}
 use lib.Dec.{ltb}
-use borrow.Author.Tests.{not-true, not-false}
 use Rattle.rules.specs.Log.{ring_number}
 use Rattle.stage_log.specs.View.{stage_of, mark_of}
 use Rattle.stage_log.specs.Check.{ring_of}
 use Rattle.stage_log.proofs.laws.RingNumbers.{ring_few}
 use Rattle.chain_log.specs.Reading.{found, readable}
 use Rattle.chain_log.proofs.laws.ReadingLaws.{no_store, no_span_lem, one_span}
-use borrow.Author.Rules.{rules}
 use Rattle.chain_log.proofs.span.Goals as goal
 use Rattle.chain_log.proofs.span.Goals.{After-ring_number-which, After-has_span}
 
@@ -50,12 +48,11 @@ returns-then-not-has_span c =
 pub read_span-s-requires : goal.read_span-s-requires
 read_span-s-requires c =
     record {
-      which_bound =
-          (
-            few (goal.at.read_span-s-requires c).After-ring_number-which,
-            sym c.store_fits.ensures
-                ∙ c.if-not-store_fits.false,
-          );
+      which_bound = (
+        few (goal.at.read_span-s-requires c).After-ring_number-which,
+        sym c.store_fits.ensures
+            ∙ c.if-not-store_fits.false,
+      );
       which_value = sym c.has_span.ensures ∙ c.if-not-has_span.false;
     }
 

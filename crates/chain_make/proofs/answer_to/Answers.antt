@@ -1,7 +1,6 @@
 -- `chain_make::answer_to`: nothing where all is off, and else by the number. Assumes nothing.
 use mathlib.Core.Path.{sym, ap, ◌∙◌}
 use mathlib.Core.Bool.{true, false}
-use borrow.Author.Rules.{rules}
 use Rattle.chain_config.specs.Config.{config_of}
 use Rattle.chain_make.specs.Making.{numbered}
 use Rattle.chain_make.proofs.laws.MakingLaws.{said_by}

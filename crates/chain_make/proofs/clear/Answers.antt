@@ -1,9 +1,7 @@
 -- `chain_make::clear` fills the words with 0. Assumes nothing.
 use mathlib.Core.Path.{refl}
-use Prim.Native.Nat.{◌-◌}
 use native.Mathlib.Omega.{arith}
-use lib.ListN.{length}
-use Rattle.iq_monitor.proofs.Turns.{Cleared, cleared_next, cleared_all}
+use Rattle.iq_monitor.proofs.Turns.{cleared_next, cleared_all}
 use Rattle.chain_make.proofs.clear.Goals as goal
 
 pub loop-k-init : goal.loop-k-init

@@ -1,9 +1,7 @@
 -- `chain_make::clear` fills the words with 0. Assumes nothing.
-use mathlib.Core.Path.{refl}
 use Prim.Native.Nat.{◌-◌}
-use native.Mathlib.Omega.{arith}
 use lib.ListN.{length}
-use Rattle.iq_monitor.proofs.Turns.{Cleared, cleared_next, cleared_all}
+use Rattle.iq_monitor.proofs.Turns.{Cleared}
 use Rattle.chain_make.proofs.clear.Given as goal
 
 abbrev pub invariant-loop-k : goal.invariant-loop-k

@@ -1,6 +1,5 @@
 -- `chain_make::fresh_settings`: what is settled is that of the rules. Assumes nothing.
 use mathlib.Core.Path.{sym, ap, ◌∙◌}
-use borrow.Author.Rules.{rules}
 use Rattle.chain_make.specs.Making.{iq_of, fresh_settings}
 use Rattle.chain_make.proofs.laws.MakingLaws.{iq_again}
 use Rattle.chain_make.proofs.fresh_settings.Goals as goal

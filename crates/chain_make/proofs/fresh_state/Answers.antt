@@ -1,6 +1,5 @@
 -- `chain_make::fresh_state`: each part is fresh. Assumes nothing.
 use Rattle.chain_make.specs.Making.{fresh_state}
-use borrow.Author.Rules.{rules}
 use Rattle.chain_make.proofs.fresh_state.Goals as goal
 
 pub returns : goal.returns

@@ -1,6 +1,5 @@
 -- `chain_make::fresh_suppressor`: the setting is that of the configuration. Assumes nothing.
 use mathlib.Core.Path.{◌∙◌}
-use borrow.Author.Rules.{rules}
 use Rattle.rules.specs.Impulse.{standard, block_length}
 use Rattle.impulse.specs.Machine.{fresh}
 use Rattle.chain_make.proofs.fresh_suppressor.Goals as goal

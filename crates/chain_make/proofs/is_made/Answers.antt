@@ -2,7 +2,6 @@
 use mathlib.Core.Path.{sym, ap}
 use Rattle.chain_make.specs.declared.MakingAnswer.{MakingAnswer}
 use Rattle.chain_make.specs.Making.{said_making, is_made}
-use borrow.Author.Rules.{rules}
 use Rattle.chain_make.proofs.is_made.Goals as goal
 
 pub returns-in-Off : goal.returns-in-Off

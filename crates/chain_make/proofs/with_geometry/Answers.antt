@@ -2,12 +2,10 @@
 use mathlib.Core.Path.{◌≡◌, sym, ap, ◌∙◌}
 use mathlib.Core.Bool.{true, false}
 use lib.ListN.{length}
-use borrow.Author.Tests.{not-true, not-false}
 use Rattle.rules.specs.Constants.{zero_f}
 use Rattle.chain_config.specs.Config.{config_of}
 use Rattle.chain_make.specs.Making.{is_made, making_said}
 use Rattle.chain_make.proofs.laws.MakingLaws.{words_by}
-use borrow.Author.Rules.{rules}
 use Rattle.chain_make.proofs.with_geometry.Goals as goal
 
 pub returns-then-not-is_made : goal.returns-then-not-is_made

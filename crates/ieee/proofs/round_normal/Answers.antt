@@ -1,4 +1,4 @@
--- `ieee::round_normal` meets its contract: its bits are those of `cut` of `specs/laws/SingleLaws.antt`. Assumes nothing.
+-- `ieee::round_normal` meets its contract: its bits are those of `cut` of `proofs/laws/SingleLaws.antt`. Assumes nothing.
 use Rattle.std.proofs.Common.{◌≡◌, ℕ, ◌*◌, ◌^◌, ◌<◌, Bool, not, T, sym, ap, ◌∙◌, subst}
 use lib.Ieee.{Float, binary32, binary64, to_bits, of_bits, fits, is_nan}
 use lib.Ieee.Bits.{nan_bits_is}

@@ -1,11 +1,9 @@
 -- `sample_guard::first_unusable` meets its contract: the search from `place` on finds what the whole search does. Assumes nothing.
-use mathlib.Core.Path.{◌≡◌, refl, sym, ◌∙◌}
-use Prim.Native.Nat.{◌-◌, ◌≤◌}
+use mathlib.Core.Path.{refl, sym, ◌∙◌}
 use native.Mathlib.Omega.{arith}
 use borrow.Author.Rules.{rules}
-use borrow.Author.Tests.{lt-ltb, le-ltb, not-true, not-false}
-use lib.ListN.{length, drop}
-use Rattle.rules.specs.Guard.{first_unusable_from}
+use borrow.Author.Tests.{lt-ltb, le-ltb}
+use lib.ListN.{length}
 use Rattle.sample_guard.specs.Found.{found}
 use Rattle.sample_guard.proofs.laws.GuardLaws.{none_found, scan_next, scan_stop, scan_end}
 use Rattle.sample_guard.proofs.first_unusable.Goals as goal

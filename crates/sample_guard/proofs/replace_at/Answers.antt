@@ -1,6 +1,5 @@
 -- `sample_guard::replace_at` meets its contract. Assumes nothing.
 use mathlib.Core.Path.{sym, ◌∙◌}
-use borrow.Author.Rules.{rules}
 use lib.Seq.{set-get_or}
 use Rattle.sample_guard.specs.Found.{guarded_word}
 use Rattle.sample_guard.proofs.replace_at.Goals as goal

@@ -1,8 +1,6 @@
 -- `sample_guard::replace_unusable` meets its contract: the words before k are guarded, and those from k on are as they were. Assumes nothing.
-use Prim.Native.Nat.{◌+◌, ◌-◌}
+use Prim.Native.Nat.{◌+◌}
 use native.Mathlib.Omega.{arith}
-use borrow.Author.Rules.{rules}
-use lib.ListN.{length}
 use Rattle.sample_guard.proofs.laws.GuardLaws.{Guarding, guarding_start, guarding_next, guarding_end}
 use Rattle.sample_guard.proofs.replace_unusable.Goals as goal
 use Rattle.sample_guard.proofs.replace_unusable.Goals.{After-slice_known-in-loop-k-1}

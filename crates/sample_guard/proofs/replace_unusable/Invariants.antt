@@ -1,9 +1,7 @@
 -- `sample_guard::replace_unusable` meets its contract: the words before k are guarded, and those from k on are as they were. Assumes nothing.
-use Prim.Native.Nat.{◌+◌, ◌-◌}
-use native.Mathlib.Omega.{arith}
-use borrow.Author.Rules.{rules}
+use Prim.Native.Nat.{◌-◌}
 use lib.ListN.{length}
-use Rattle.sample_guard.proofs.laws.GuardLaws.{Guarding, guarding_start, guarding_next, guarding_end}
+use Rattle.sample_guard.proofs.laws.GuardLaws.{Guarding}
 use Rattle.sample_guard.proofs.replace_unusable.Given as goal
 
 abbrev pub invariant-loop-k : goal.invariant-loop-k
