@@ -1,0 +1,9 @@
+-- `vatgorge::stage_at`: by its tag. Assumes nothing.
+use borrow.Author.Tests.{ne_eqb}
+use Rattle.vatgorge.proofs.stage_at.Goals as goal
+
+pub returns-in-0 : goal.returns-in-0
+returns-in-0 c = rw c.in-0.is
+
+pub returns-in-1 : goal.returns-in-1
+returns-in-1 c = rw c.in-1.is

@@ -1,0 +1,15 @@
+-- `vatgorge::stages::vg_undo_iq`: `iq_correction::revert_iq`, its place and its number told. Assumes nothing.
+use mathlib.Core.Path.{ap, ◌∙◌}
+use borrow.Author.Rules.{rules}
+use Rattle.rules.specs.Answers.{number_in}
+use Rattle.vatgorge.specs.Stages.{place_after}
+use Rattle.vatgorge.proofs.stages.vg_undo_iq.Goals as goal
+
+pub returns : goal.returns
+returns c =
+    let e = c.revert_iq-answer.ensures in
+    record {
+      code = c.number.ensures ∙ ap number_in e.answer;
+      samples = e.written;
+      place = c.tell_iq.ensures ∙ ap (place_after _) e.answer;
+    }
