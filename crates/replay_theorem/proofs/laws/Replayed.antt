@@ -399,15 +399,15 @@ module _ (head : List ℕ) (bs : List Block) (most : length head ≤ header_size
     ruled k = text_unless k (played_text (config_in (head ++ joined bs)) (samples_in (head ++ joined bs)))
 
     -- making's answers
-    made_by : (all : Bool) (k : ℕ) → all_off (config_in head) ≡ all → refusal (config_in head) (length spans) (length repairs) (length words) ≡ k
+    made_by_lem : (all : Bool) (k : ℕ) → all_off (config_in head) ≡ all → refusal (config_in head) (length spans) (length repairs) (length words) ≡ k
         → let s = cond {A = making.Said} all nothing (numbered k) in
         answered_by s (played (machine_of (fresh_state (config_from (config_in head))) (made_words 0 s spans) (made_words 0 s repairs)) 0 bs)
         ≡ cond all off_text
         (text_unless k (text_unless (first_of (too_many 0 (length (words_in (joined bs))) ∷ [])) (report_text (report_by (config_in head) (words_in (joined bs))))))
     unfolding making_said made_chain
-    made_by true k p q = refl
-    made_by false (suc k) p q = refl
-    made_by false zero p q =
+    made_by_lem true k p q = refl
+    made_by_lem false (suc k) p q = refl
+    made_by_lem false zero p q =
         let c = config_again (config_in head) in
         let e : making_said (config_of g) (length spans) (length repairs) (length words) ≡ made =
         ap (λ (x : Config). making_said x (length spans) (length repairs) (length words)) c ∙ (λ i. cond (p i) nothing (numbered (q i))) in
@@ -422,7 +422,7 @@ module _ (head : List ℕ) (bs : List Block) (most : length head ≤ header_size
         let l = whole_header e in
         (λ i. let header = said_where head true e i in let s = made_by header (length spans) (length repairs) (length words) in
         answered_by s (played (machine_of (fresh_state (config_by header)) (made_words 0 s spans) (made_words 0 s repairs)) 0 bs))
-        ∙ made_by (all_off (config_in head)) (refusal (config_in head) (length spans) (length repairs) (length words)) refl refl
+        ∙ made_by_lem (all_off (config_in head)) (refusal (config_in head) (length spans) (length repairs) (length words)) refl refl
         ∙ (λ i. cond (all_off (config_in head)) off_text
         (text_unless (refusal (config_in head) (a i) (b i) (d i))
         (text_unless (first_of (too_many 0 (length (words_in (joined bs))) ∷ [])) (report_text (report_by (config_in head) (words_in (joined bs)))))))
