@@ -16,7 +16,7 @@ use Rattle.iq_monitor.specs.declared.HopAnswer.TheVariants as answer
 use Rattle.chain_state.specs.declared.InputConditioner.{InputConditioner}
 use Rattle.chain_state.specs.Fits.{state_fits}
 use Rattle.chain.specs.Stages.{new_part}
-use Rattle.chain.specs.Calls.{call_refusal, taken, called}
+use Rattle.chain.specs.Calls.{call_refusal}
 use Rattle.chain.proofs.laws.CallTests.{call_number, refusal_by}
 use Rattle.chain_hop.specs.Hops.{said_hop, answer_of, is_off_iq, watched, hop_refusal, hop_of, by_number, followed}
 use Rattle.chain_hop.specs.Hops as hops

@@ -1,5 +1,5 @@
 -- The chain after samples and hops is what the rules give for the whole input. Assumes nothing.
-use Rattle.std.specs.Prelude.{◌≡◌, Bool, ℕ, ◌-◌, ◌*◌, ◌≤◌, ◌<◌, length}
+use Rattle.std.specs.Prelude.{◌≡◌, Bool, ℕ, ◌*◌, ◌≤◌, ◌<◌, length}
 use Rattle.std.proofs.Math.Path.{refl, ap}
 use Rattle.std.proofs.Common.{sym, ◌∙◌, lit<, lit≤, ne_eqb}
 use Rattle.std.proofs.Math.Bool.{true, false, cond}

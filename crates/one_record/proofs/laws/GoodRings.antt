@@ -3,7 +3,7 @@ use Rattle.std.specs.Prelude.{◌≡◌, refl, Bool, true, false, cond, List, []
 use Rattle.std.proofs.Common.{ap, arith}
 use Rattle.rules.proofs.laws.ListLaws.{length-map}
 use Rattle.rules.specs.Pauses.{Edition}
-use Rattle.rules.specs.Impulse.{Setting, flagged, judged, start, events, paused_in, happened}
+use Rattle.rules.specs.Impulse.{Setting, flagged, judged, events, paused_in, happened}
 use Rattle.rules.specs.Dc.{corner, first_level, blocked_all}
 use Rattle.rules.specs.Iq.{Settled, Off, Observing, Withheld, Correcting, corrected_by}
 use Rattle.rules.specs.Monitor.{Hop, hop_end, reported, Answer, no_report, report, window_length, window_start, due, report_of, answer_to, next_window, answers}

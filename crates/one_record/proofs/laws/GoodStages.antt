@@ -11,7 +11,7 @@ use Rattle.rules.proofs.laws.ListLaws.{length_up_to}
 use Rattle.rules.specs.Guard.{magnitude, usable, Usable}
 use Rattle.rules.proofs.laws.SortLaws.{all_as, all_append, all_get_d}
 use Rattle.rules.specs.Pauses.{Edition}
-use Rattle.rules.specs.Impulse.{Setting, lookahead, block_length, flagged, judged, start, value, paused_in, handed_on}
+use Rattle.rules.specs.Impulse.{Setting, lookahead, block_length, flagged, judged, value, paused_in, handed_on}
 use Rattle.rules.specs.Dc.{Level, first_level, corner, level_after, clamped_steps}
 use Rattle.rules.specs.Iq.{Calibrated, none, with, Correcting, Withheld, ranged, coefficient, accepted, correctable, settled}
 use Rattle.rules.specs.Mode.{Mode, off, observe, apply, runs}

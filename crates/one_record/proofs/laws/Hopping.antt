@@ -1,5 +1,5 @@
 -- What hops move beside what calls move: the monitor, and while observing the ring of uncertain IQ spans. A call leaves it alone. Assumes nothing.
-use Rattle.std.specs.Prelude.{◌≡◌, Bool, true, false, ℕ, ◌<◌}
+use Rattle.std.specs.Prelude.{◌≡◌, Bool, true, false, ℕ}
 use Rattle.std.proofs.Math.Path.{refl, ap, sym, subst}
 use Rattle.std.proofs.Common.{◌∙◌, lit<, ne_eqb}
 use Rattle.std.proofs.lemmas.Bool.{false≢true}

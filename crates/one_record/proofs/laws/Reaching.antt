@@ -1,5 +1,5 @@
 -- The chain after samples and hops in closed form; each operation leads from one such chain to another, and so does a list. Assumes nothing.
-use Rattle.std.specs.Prelude.{◌≡◌, Bool, ℕ, ◌+◌, ◌-◌, ◌*◌, ◌^◌, ◌≤◌, ◌<◌, length, drop, Float}
+use Rattle.std.specs.Prelude.{◌≡◌, Bool, ℕ, ◌+◌, ◌-◌, ◌*◌, ◌≤◌, ◌<◌, length, drop, Float}
 use Rattle.std.proofs.Math.Path.{refl, ap, sym}
 use Rattle.std.proofs.Common.{◌∙◌, subst, take_at}
 use Rattle.std.proofs.Math.Bool.{true, false, cond}
@@ -9,7 +9,7 @@ use native.Mathlib.Omega.{arith}
 use borrow.Author.Tests.{ltb-false}
 use Rattle.std.proofs.Math.ListN.{replicate, length-append, length-drop}
 use Rattle.rules.specs.Constants.{zero_f, total_limit}
-use Rattle.rules.specs.Guard.{usable, Usable}
+use Rattle.rules.specs.Guard.{Usable}
 use Rattle.rules.specs.Log.{Span, repair_width, store_width}
 use Rattle.rules.specs.Monitor.{Hop, Answer, no_report, report, window_length, answers, open_window, monitor_words, next_window, answer_to, hop_end, suspected_span}
 use Rattle.rules.specs.Monitor.{suspected_spans, channel_width}

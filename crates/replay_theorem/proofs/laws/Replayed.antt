@@ -54,7 +54,7 @@ use Rattle.replay_feed.specs.Feeding.{held_in, new_many, new_words, slice, taken
 use Rattle.replay_feed.proofs.laws.FeedingLaws as feeding
 use Rattle.replay_feed.proofs.laws.FeedingLaws.{guarded_usable, slice_long, fed_said, fed_taken}
 use Rattle.replay_start.specs.Starting.{made_by, start_said, config_by, start_state}
-use Rattle.replay_report.specs.Report.{Ring, rings_of, ring_by, report_text, report_by, text_unless, played_text, printed}
+use Rattle.replay_report.specs.Report.{rings_of, ring_by, report_text, report_by, text_unless, played_text, printed}
 use Rattle.replay_text.specs.Notices.{refused_text, off_text}
 use Rattle.replay_report.specs.Shown.{shown_spans, shown_ring, report_in}
 use Rattle.replay_theorem.proofs.laws.BlockLaws.{words_append, no_words, same_fits, same_config, behind_header, guarded_append, guarded_count}

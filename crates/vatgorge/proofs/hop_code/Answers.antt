@@ -1,6 +1,5 @@
 -- `vatgorge::hop_code`: 'nothing' has a code of its own, and any other answer its number. Assumes nothing.
 use mathlib.Core.Path.{◌≡◌, refl, ◌∙◌}
-use borrow.Author.Rules.{rules}
 use Rattle.rules.specs.Answers.{number_of}
 use Rattle.chain_hop.specs.declared.HopSaid.{HopSaid}
 use Rattle.chain_hop.specs.declared.HopSaid.TheVariants as hop

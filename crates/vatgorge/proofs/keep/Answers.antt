@@ -1,6 +1,5 @@
 -- `vatgorge::keep`: written where the code is 0. Assumes nothing.
 use borrow.Author.Tests.{ne_eqb}
-use borrow.Author.Rules.{rules}
 use Rattle.vatgorge.proofs.keep.Goals as goal
 
 pub returns-then-code-eq0 : goal.returns-then-code-eq0

@@ -1,7 +1,6 @@
 -- `vatgorge::level_words`: by its variant. Assumes nothing.
 use mathlib.Core.List.{[], ◌∷◌}
 use mathlib.Core.Path.{sym, ap, ◌∙◌}
-use borrow.Author.Rules.{rules}
 use Rattle.vatgorge.specs.Log.{level_words}
 use Rattle.vatgorge.proofs.level_words.Goals as goal
 

@@ -1,5 +1,4 @@
 -- `vatgorge::log_numbers`: each word by its field. Assumes nothing.
-use borrow.Author.Rules.{rules}
 use Rattle.vatgorge.proofs.log_numbers.Goals as goal
 
 pub returns : goal.returns

@@ -1,5 +1,4 @@
 -- `vatgorge::report_words`: each word by its field. Assumes nothing.
-use borrow.Author.Rules.{rules}
 use Rattle.vatgorge.proofs.report_words.Goals as goal
 
 pub returns : goal.returns

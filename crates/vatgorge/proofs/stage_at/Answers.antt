@@ -1,5 +1,4 @@
 -- `vatgorge::stage_at`: by its tag. Assumes nothing.
-use borrow.Author.Tests.{ne_eqb}
 use Rattle.vatgorge.proofs.stage_at.Goals as goal
 
 pub returns-in-0 : goal.returns-in-0

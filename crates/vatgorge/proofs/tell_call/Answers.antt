@@ -1,6 +1,5 @@
 -- `vatgorge::tell_call`: by the answer. Assumes nothing.
 use mathlib.Core.Path.{sym, ap}
-use borrow.Author.Rules.{rules}
 use Rattle.chain_call.specs.Said.{said}
 use Rattle.chain_call.specs.declared.Conditioned.{Conditioned}
 use Rattle.vatgorge.specs.Condition.{out_after}

@@ -1,6 +1,5 @@
 -- `vatgorge::tell_hop`: by the answer. Assumes nothing.
 use mathlib.Core.Path.{sym, ap, ◌∙◌}
-use borrow.Author.Rules.{rules}
 use Rattle.chain_hop.specs.Hops.{said_hop}
 use Rattle.chain_hop.specs.declared.HopSaid.{HopSaid}
 use Rattle.vatgorge.specs.Hop.{out_after}

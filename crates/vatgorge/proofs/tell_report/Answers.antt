@@ -1,5 +1,4 @@
 -- `vatgorge::tell_report`: word by word. Assumes nothing.
-use borrow.Author.Rules.{rules}
 use Rattle.vatgorge.proofs.tell_report.Goals as goal
 
 pub returns : goal.returns

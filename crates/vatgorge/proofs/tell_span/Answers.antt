@@ -1,6 +1,5 @@
 -- `vatgorge::tell_span`: by what was read. Assumes nothing.
 use mathlib.Core.Path.{sym, ap}
-use borrow.Author.Rules.{rules}
 use Rattle.chain_log.specs.Reading.{said_span}
 use Rattle.chain_log.specs.declared.SpanRead.{SpanRead}
 use Rattle.vatgorge.specs.Span.{after_found}

@@ -2,7 +2,6 @@
 use mathlib.Core.Bool.{false}
 use mathlib.Core.Path.{◌≡◌, subst, ap, ◌∙◌}
 use lib.Dec.{eqb}
-use borrow.Author.Rules.{rules}
 use Rattle.chain_words.specs.States.{state_of}
 use Rattle.chain_hop.proofs.laws.HopKeeps.{hop_keeps}
 use Rattle.chain_hop.specs.Hops.{Hopped, said_hop, hop_of, hop_told}

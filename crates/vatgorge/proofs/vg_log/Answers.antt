@@ -5,7 +5,6 @@ use Prim.Native.Nat.{ℕ, ◌≤◌}
 use native.Mathlib.Omega.{arith}
 use lib.Seq.{take_all}
 use lib.ListN.{length}
-use borrow.Author.Rules.{rules}
 use Rattle.chain_words.proofs.Filling.{behind}
 use Rattle.chain_words.specs.Words as words
 use Rattle.chain_log.specs.Reading.{log_of}

@@ -1,6 +1,5 @@
 -- `vatgorge::vg_span`: a span of the state that the words say. Assumes nothing.
 use mathlib.Core.Path.{ap, ◌∙◌}
-use borrow.Author.Rules.{rules}
 use Rattle.chain_log.specs.Reading.{span_read}
 use Rattle.stage_log.specs.View.{stage_of, mark_of}
 use Rattle.rules.specs.Log.{ring_number}

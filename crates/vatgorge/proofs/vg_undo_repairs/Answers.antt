@@ -1,6 +1,5 @@
 -- `vatgorge::vg_undo_repairs`: repair undo on the state that the words say. Assumes nothing.
 use mathlib.Core.Path.{ap, ◌∙◌}
-use borrow.Author.Rules.{rules}
 use Rattle.chain_undo.specs.Undoing.{Outcome, undo_of}
 use Rattle.chain_state.specs.declared.InputConditioner.{InputConditioner}
 use Rattle.rules.specs.Answers.{number_of}

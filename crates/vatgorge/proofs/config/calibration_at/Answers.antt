@@ -1,6 +1,5 @@
 -- `vatgorge::config::calibration_at`: by its tag. Assumes nothing.
 use borrow.Author.Tests.{ne_eqb}
-use borrow.Author.Rules.{rules}
 use Rattle.vatgorge.proofs.config.calibration_at.Goals as goal
 
 pub returns-then-w-eq0 : goal.returns-then-w-eq0

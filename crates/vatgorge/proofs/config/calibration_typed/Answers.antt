@@ -1,7 +1,6 @@
 -- `vatgorge::config::calibration_typed`: by its variant. Assumes nothing.
 use mathlib.Core.Path.{sym, subst}
 use Rattle.vatgorge.specs.Config.{CalibrationTyped}
-use borrow.Author.Rules.{rules}
 use Rattle.vatgorge.proofs.config.calibration_typed.Goals as goal
 
 pub returns-in-Absent : goal.returns-in-Absent

@@ -2,7 +2,6 @@
 use mathlib.Core.Path.{sym, ap, ◌∙◌}
 use mathlib.Core.List.{[], ◌∷◌}
 use Rattle.vatgorge.specs.Config.{calibration_words}
-use borrow.Author.Rules.{rules}
 use Rattle.vatgorge.proofs.config.calibration_words.Goals as goal
 
 pub returns-in-Absent : goal.returns-in-Absent

@@ -1,6 +1,5 @@
 -- `vatgorge::config::config_words`: each word by its field. Assumes nothing.
 use Rattle.vatgorge.specs.Config.{config_words}
-use borrow.Author.Rules.{rules}
 use Rattle.vatgorge.proofs.config.config_words.Goals as goal
 
 pub returns : goal.returns

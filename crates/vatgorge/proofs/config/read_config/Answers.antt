@@ -1,6 +1,5 @@
 -- `vatgorge::config::read_config`: each field by its word. Assumes nothing.
 use Rattle.vatgorge.specs.Config.{config_in}
-use borrow.Author.Rules.{rules}
 use Rattle.vatgorge.proofs.config.read_config.Goals as goal
 
 pub returns : goal.returns

@@ -3,7 +3,6 @@ use mathlib.Core.Path.{ap, ◌∙◌}
 use Rattle.chain_config.specs.declared.ConditioningConfig.{ConditioningConfig}
 use Rattle.chain_config.specs.Config.{config_of, all_off}
 use Rattle.chain_words.specs.Words.{flag_word}
-use borrow.Author.Rules.{rules}
 use Rattle.vatgorge.proofs.config.vg_is_off.Goals as goal
 
 pub returns : goal.returns

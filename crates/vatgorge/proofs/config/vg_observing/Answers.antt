@@ -5,7 +5,6 @@ use Rattle.chain_config.specs.Config.{config_of, observed}
 use Rattle.replay_format.specs.Header.{config_from}
 use Rattle.replay_format.proofs.laws.HeaderLaws.{config_again}
 use Rattle.vatgorge.specs.Config.{config_words}
-use borrow.Author.Rules.{rules}
 use Rattle.vatgorge.proofs.config.vg_observing.Goals as goal
 
 pub returns : goal.returns

@@ -2,7 +2,6 @@
 use mathlib.Core.Path.{ap, ◌∙◌}
 use Rattle.vatgorge.proofs.laws.ConfigAgain.{config_again}
 use Rattle.vatgorge.specs.Config.{config_in}
-use borrow.Author.Rules.{rules}
 use Rattle.vatgorge.proofs.config.write_config.Goals as goal
 
 pub returns : goal.returns

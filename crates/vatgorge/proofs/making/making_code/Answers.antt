@@ -1,6 +1,5 @@
 -- `vatgorge::making::making_code`: 'nothing' has a code of its own, and any other answer its number. Assumes nothing.
 use mathlib.Core.Path.{◌≡◌, refl, ◌∙◌}
-use borrow.Author.Rules.{rules}
 use Rattle.chain_make.specs.declared.MakingAnswer.{MakingAnswer}
 use Rattle.chain_make.specs.declared.MakingAnswer.TheVariants as making
 use Rattle.chain_make.specs.Making.{said_making, making_number}

@@ -1,6 +1,5 @@
 -- `vatgorge::making::vg_make`: making, with the configuration that the words say. Assumes nothing.
 use mathlib.Core.Path.{ap, ◌∙◌}
-use borrow.Author.Rules.{rules}
 use Rattle.chain_make.specs.Making.{Said, fresh_state, made_words}
 use Rattle.chain_config.specs.declared.ConditioningConfig.{ConditioningConfig}
 use Rattle.rules.specs.Constants.{zero_f}

@@ -4,7 +4,6 @@ use Rattle.replay_format.specs.Header.{said_header}
 use Rattle.replay_format.proofs.laws.HeaderLaws.{config_again}
 use Rattle.vatgorge.specs.Config.{config_words}
 use Rattle.vatgorge.specs.Recording.{header_words, header_config}
-use borrow.Author.Rules.{rules}
 use Rattle.vatgorge.proofs.recording.tell_header.Goals as goal
 
 pub returns-in-Bad : goal.returns-in-Bad

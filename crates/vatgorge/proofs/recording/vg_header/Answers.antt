@@ -2,7 +2,6 @@
 use mathlib.Core.Path.{ap, ◌∙◌}
 use Rattle.replay_format.specs.Header.{header_number}
 use Rattle.vatgorge.specs.Recording.{header_words, header_config}
-use borrow.Author.Rules.{rules}
 use Rattle.vatgorge.proofs.recording.vg_header.Goals as goal
 
 pub returns : goal.returns

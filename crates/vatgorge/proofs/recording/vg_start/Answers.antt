@@ -2,7 +2,6 @@
 use mathlib.Core.Path.{ap, ◌∙◌}
 use Rattle.vatgorge.specs.Codes.{words_after, state_after}
 use Rattle.vatgorge.specs.Make.{code_of}
-use borrow.Author.Rules.{rules}
 use Rattle.vatgorge.proofs.recording.vg_start.Goals as goal
 
 pub returns : goal.returns

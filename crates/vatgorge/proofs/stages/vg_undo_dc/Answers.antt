@@ -1,6 +1,5 @@
 -- `vatgorge::stages::vg_undo_dc`: `dc::revert_dc`, its place and its number told. Assumes nothing.
 use mathlib.Core.Path.{ap, ◌∙◌}
-use borrow.Author.Rules.{rules}
 use Rattle.rules.specs.Answers.{number_in}
 use Rattle.vatgorge.specs.Stages.{place_after}
 use Rattle.vatgorge.proofs.stages.vg_undo_dc.Goals as goal
