@@ -4,7 +4,7 @@ fn main() {
     println!("cargo:rerun-if-env-changed=VATGORGE");
     let folder = std::env::var("VATGORGE").unwrap_or_else(|_| {
         let here = std::env::var("CARGO_MANIFEST_DIR").expect("cargo names it");
-        format!("{here}/../../target/staticlib")
+        format!("{here}/../../crates/vatgorge/out")
     });
     println!("cargo:rustc-link-search=native={folder}");
     println!("cargo:rustc-link-lib=static=vatgorge");
