@@ -1,10 +1,12 @@
 //! Prints closed cases of the rules, whose answers are what the original gives, or the second reading
-//! for flags and ring words, which the original does not show: `crates/rules/specs/laws/Cases.antt`, and
-//! with the word `impulse` the cases of the whole impulse stage, `crates/bench_marks/specs/laws/ImpulseCases.antt`,
+//! for flags and ring words, which the original does not show: `crates/rules/proofs/laws/Cases.antt`, and
+//! with the word `impulse` the cases of the whole impulse stage, `crates/bench_marks/proofs/laws/ImpulseCases.antt`,
 //! which take longer to compute.
 //!
-//!     cd oracle && cargo run --release --bin closed_cases > ../crates/rules/specs/laws/Cases.antt
-//!     cargo run --release --bin closed_cases impulse > ../crates/bench_marks/specs/laws/ImpulseCases.antt && (cd .. && rt fmt)
+//!     cd oracle && cargo run --release --bin closed_cases > ../crates/rules/proofs/laws/Cases.antt
+//!     cargo run --release --bin closed_cases impulse > ../crates/bench_marks/proofs/laws/ImpulseCases.antt
+//!
+//! The files have this text, with other line breaks.
 
 use oracle::condition::dc::{revert_dc, DcBlocker};
 use oracle::condition::iq::{revert_iq, ImageMonitor, ImageResult, IqCalibration, IqCorrector};
@@ -45,7 +47,7 @@ fn words(ws: &[u64]) -> String {
 }
 
 fn float(x: f64) -> String {
-    format!("ofBits binary64 {:#x}", x.to_bits())
+    format!("of_bits binary64 {:#x}", x.to_bits())
 }
 
 fn complex(z: Complex64) -> String {
@@ -72,7 +74,7 @@ fn marks(r: &SpanRing) -> String {
 
 fn evidence(r: &Option<ImageResult>) -> String {
     let Some(r) = r else {
-        return "noReport".to_string();
+        return "no_report".to_string();
     };
     format!(
         "report (record {{ start = {}; end = {}; suspected = {}; coherence = {}; floor = {}; strongest = {}; mirror = {} }})",
@@ -114,23 +116,23 @@ fn guard() {
     }
     let ws: Vec<u64> = samples.iter().map(|&x| word(x)).collect();
     let usable: Vec<bool> = samples.iter().map(|&x| is_usable(x)).collect();
-    define("guardInput", "List ℕ", &words(&ws));
+    define("guard_input", "List ℕ", &words(&ws));
     case(
-        "guard-usable",
-        &format!("map usable guardInput ≡ {}", list(&usable, bool::to_string)),
-        "floats guardRules",
+        "guard_usable",
+        &format!("map usable guard_input ≡ {}", list(&usable, bool::to_string)),
+        "floats guard_rules",
     );
     let count = replace_unusable(&mut samples);
     let out: Vec<u64> = samples.iter().map(|&x| word(x)).collect();
     case(
-        "guard-replaced",
-        &format!("guarded guardInput ≡ {}", words(&out)),
-        "floats guardRules",
+        "guard_replaced",
+        &format!("guarded guard_input ≡ {}", words(&out)),
+        "floats guard_rules",
     );
     case(
-        "guard-count",
-        &format!("unusable guardInput ≡ {count}"),
-        "floats guardRules",
+        "guard_count",
+        &format!("unusable guard_input ≡ {count}"),
+        "floats guard_rules",
     );
 }
 
@@ -179,64 +181,64 @@ fn stage(name: &str, fs: f64, samples: &[Complex32], spans: usize) {
     let block = impulse::block_length(fs);
 
     define(
-        &format!("{name}Setting"),
+        &format!("{name}_setting"),
         "Setting",
         &format!("standard {block} true"),
     );
-    define(&format!("{name}Input"), "List ℕ", &words(&ws));
+    define(&format!("{name}_input"), "List ℕ", &words(&ws));
     define(
-        &format!("{name}Flags"),
+        &format!("{name}_flags"),
         "List Bool",
         &list(&flags, bool::to_string),
     );
     define(
-        &format!("{name}Blocks"),
+        &format!("{name}_blocks"),
         "ℕ → Bool",
-        &format!("paused (always first) ({name}Setting .block) (look {name}Flags)"),
+        &format!("paused (always first) {name}_setting.block (look {name}_flags)"),
     );
     case(
-        &format!("{name}-flags"),
+        &format!("{name}_flags_lem"),
         &format!(
-            "flagsOf {name}Setting {name}Input ≡ from (look {name}Flags) {} 0",
+            "flags_of {name}_setting {name}_input ≡ from (look {name}_flags) {} 0",
             flags.len()
         ),
-        "floats impulseRules flagsOf from",
+        "floats impulse_rules flags_of from",
     );
-    let all = "floats impulseRules logRules";
+    let all = "floats impulse_rules log_rules";
     let given = format!(
-        "{name}Setting (look {name}Flags) {name}Blocks {name}Input {}",
+        "{name}_setting (look {name}_flags) {name}_blocks {name}_input {}",
         flags.len()
     );
     let known = |part: &str, text: &str, of: &str| {
         println!(
-            "{name}-{part}-known : {of} ≡ {text}\nunfolding {all}\n{name}-{part}-known = refl\n"
+            "{name}_{part}_known : {of} ≡ {text}\nunfolding {all}\n{name}_{part}_known = refl\n"
         );
     };
     // what is handed on
     known(
         "handed",
         &words(&released),
-        &format!("upTo (value {given}) {}", released.len()),
+        &format!("up_to (value {given}) {}", released.len()),
     );
     println!(
-        "pub {name}-handed : handedOn {name}Setting (always first) {name}Input ≡ {}",
+        "pub {name}_handed : handed_on {name}_setting (always first) {name}_input ≡ {}",
         words(&released)
     );
-    println!("{name}-handed = handed-by {name}Setting (always first) {name}Input (look {name}Flags) {name}-flags ∙ {name}-handed-known\n");
+    println!("{name}_handed = handed_by {name}_setting (always first) {name}_input (look {name}_flags) {name}_flags_lem ∙ {name}_handed_known\n");
     let told = |part: &str, text: &str, what: &str| {
         known(part, text, &format!("{what} (events {given})"));
-        println!("pub {name}-{part} : {what} (happened {name}Setting (always first) {name}Input) ≡ {text}");
-        println!("{name}-{part} = ap (λ (es : List Event). {what} es) (happened-by {name}Setting (always first) {name}Input (look {name}Flags) {name}-flags) ∙ {name}-{part}-known\n");
+        println!("pub {name}_{part} : {what} (happened {name}_setting (always first) {name}_input) ≡ {text}");
+        println!("{name}_{part} = ap (λ (es : List Event). {what} es) (happened_by {name}_setting (always first) {name}_input (look {name}_flags) {name}_flags_lem) ∙ {name}_{part}_known\n");
     };
     told(
         "repairs",
         &list(&repairs, |r| format!("({})", words(r))),
-        "repairsOf",
+        "repairs_of",
     );
     told(
         "long",
         &chain.log().impulse_long_runs().to_string(),
-        "longRuns",
+        "long_runs",
     );
     for (k, mark) in [(0, "Repaired"), (1, "Flagged"), (3, "Uncertain")] {
         let part = ["repaired", "flagged", "", "uncertain"][k];
@@ -244,21 +246,21 @@ fn stage(name: &str, fs: f64, samples: &[Complex32], spans: usize) {
         known(
             part,
             &text,
-            &format!("marked {spans} (marksOf {mark} (events {given}))"),
+            &format!("marked {spans} (marks_of {mark} (events {given}))"),
         );
-        println!("pub {name}-{part} : marked {spans} (marksOf {mark} (happened {name}Setting (always first) {name}Input)) ≡ {text}");
-        println!("{name}-{part} = ap (λ (es : List Event). marked {spans} (marksOf {mark} es)) (happened-by {name}Setting (always first) {name}Input (look {name}Flags) {name}-flags) ∙ {name}-{part}-known\n");
+        println!("pub {name}_{part} : marked {spans} (marks_of {mark} (happened {name}_setting (always first) {name}_input)) ≡ {text}");
+        println!("{name}_{part} = ap (λ (es : List Event). marked {spans} (marks_of {mark} es)) (happened_by {name}_setting (always first) {name}_input (look {name}_flags) {name}_flags_lem) ∙ {name}_{part}_known\n");
     }
     let text = ring(&record.repairs);
     known(
         "ring",
         &text,
-        &format!("repaired 3 (repairsOf (events {given}))"),
+        &format!("repaired 3 (repairs_of (events {given}))"),
     );
     println!(
-        "pub {name}-ring : repaired 3 (repairsOf (happened {name}Setting (always first) {name}Input)) ≡ {text}"
+        "pub {name}_ring : repaired 3 (repairs_of (happened {name}_setting (always first) {name}_input)) ≡ {text}"
     );
-    println!("{name}-ring = ap (λ (es : List Event). repaired 3 (repairsOf es)) (happened-by {name}Setting (always first) {name}Input (look {name}Flags) {name}-flags) ∙ {name}-ring-known\n");
+    println!("{name}_ring = ap (λ (es : List Event). repaired 3 (repairs_of es)) (happened_by {name}_setting (always first) {name}_input (look {name}_flags) {name}_flags_lem) ∙ {name}_ring_known\n");
 }
 
 fn stages() {
@@ -292,17 +294,17 @@ fn beside() {
     let samples: Vec<Sample> = xs.iter().map(|x| Sample::new(x.re, x.im)).collect();
     let flags = impulse::flags(&samples);
     let (_, released) = mended(48000.0, &xs);
-    define("besideInput", "List ℕ", &words(&ws));
-    define("besideFlags", "List Bool", &list(&flags, bool::to_string));
+    define("beside_input", "List ℕ", &words(&ws));
+    define("beside_flags", "List Bool", &list(&flags, bool::to_string));
     case(
-        "beside-handed",
+        "beside_handed",
         &format!(
-            "upTo (value (standard 48000 true) (look besideFlags) (λ b. false) besideInput {}) {} ≡ {}",
+            "up_to (value (standard 48000 true) (look beside_flags) (λ b. false) beside_input {}) {} ≡ {}",
             flags.len(),
             released.len(),
             words(&released)
         ),
-        "floats impulseRules",
+        "floats impulse_rules",
     );
 }
 
@@ -325,14 +327,14 @@ fn order() {
     xs.extend([Complex32::new(2f32.powi(-26), 0.0); 16]);
     let samples: Vec<Sample> = xs.iter().map(|x| Sample::new(x.re, x.im)).collect();
     let ws: Vec<u64> = xs.iter().map(|&x| word(x)).collect();
-    define("orderInput", "List ℕ", &words(&ws));
+    define("order_input", "List ℕ", &words(&ws));
     case(
-        "order-flag",
+        "order_flag",
         &format!(
-            "flagged (standard 48000 true) orderInput 16 ≡ {}",
+            "flagged (standard 48000 true) order_input 16 ≡ {}",
             impulse::flagged(&samples, 16)
         ),
-        "floats impulseRules",
+        "floats impulse_rules",
     );
 }
 
@@ -343,13 +345,13 @@ fn clamped(name: &str, fs: f64, samples: &[Complex32], text: &str) {
         b.process_sample(x);
     }
     case(
-        &format!("{name}-clamped"),
+        &format!("{name}_clamped"),
         &format!(
-            "clampedSteps (corner ({})) firstLevel {text} ≡ {}",
+            "clamped_steps (corner ({})) first_level {text} ≡ {}",
             float(fs),
             b.clamped
         ),
-        "floats dcRules",
+        "floats dc_rules",
     );
 }
 
@@ -361,22 +363,22 @@ fn dc() {
         b.process_sample(x);
     }
     case(
-        "zero-counts",
+        "zero_counts",
         &format!(
-            "levelAfter (corner ({})) firstLevel ({}) .level ≡ {}",
+            "(level_after (corner ({})) first_level ({})).level ≡ {}",
             float(48000.0),
             words(&xs.map(word)),
             complex(b.level())
         ),
-        "floats dcRules",
+        "floats dc_rules",
     );
     // the limit acts by the norm, not by the power, and on what is left of a sample, not on the sample
     let fine = 2f32.powi(-26);
     let pairs = [
-        ("norm-one", [(0.0, 0.0), (1.0, fine)]),
-        ("above-one", [(0.0, 0.0), (1.0, 2.0 * fine)]),
-        ("loud-sample", [(0.75, 0.0), (1.5, 0.0)]),
-        ("loud-difference", [(0.75, 0.0), (-0.75, 0.0)]),
+        ("norm_one", [(0.0, 0.0), (1.0, fine)]),
+        ("above_one", [(0.0, 0.0), (1.0, 2.0 * fine)]),
+        ("loud_sample", [(0.75, 0.0), (1.5, 0.0)]),
+        ("loud_difference", [(0.75, 0.0), (-0.75, 0.0)]),
     ];
     for (name, pair) in pairs {
         let xs = pair.map(|(re, im)| Complex32::new(re, im));
@@ -393,44 +395,44 @@ fn dc() {
     for (name, fs) in [("slow", 1.0), ("usual", 44100.5)] {
         let mut b = DcBlocker::new(fs);
         let ws: Vec<u64> = samples.iter().map(|&x| word(x)).collect();
-        define(&format!("{name}Input"), "List ℕ", &words(&ws));
+        define(&format!("{name}_input"), "List ℕ", &words(&ws));
         let mut ys = Vec::new();
         for (k, &x) in samples.iter().enumerate() {
             ys.push(b.process_sample(x));
             if k % 3 != 1 {
                 case(
-                    &format!("{name}-level-{}", k + 1),
+                    &format!("{name}_level_{}", k + 1),
                     &format!(
-                        "levelAfter (corner ({})) firstLevel (take {} {name}Input) .level ≡ {}",
+                        "(level_after (corner ({})) first_level (take {} {name}_input)).level ≡ {}",
                         float(fs),
                         k + 1,
                         complex(b.level())
                     ),
-                    "floats dcRules",
+                    "floats dc_rules",
                 );
             }
         }
         let out: Vec<u64> = ys.iter().map(|&y| word(y)).collect();
         case(
-            &format!("{name}-blocked"),
+            &format!("{name}_blocked"),
             &format!(
-                "blockedAll (corner ({})) firstLevel {name}Input ≡ {}",
+                "blocked_all (corner ({})) first_level {name}_input ≡ {}",
                 float(fs),
                 words(&out)
             ),
-            "floats dcRules",
+            "floats dc_rules",
         );
-        clamped(name, fs, &samples, &format!("{name}Input"));
+        clamped(name, fs, &samples, &format!("{name}_input"));
         let back: Vec<u64> = revert_dc(&ys, fs).into_iter().map(word).collect();
         case(
-            &format!("{name}-restored"),
+            &format!("{name}_restored"),
             &format!(
-                "restoredAll (corner ({})) firstLevel ({}) ≡ {}",
+                "restored_all (corner ({})) first_level ({}) ≡ {}",
                 float(fs),
                 words(&out),
                 words(&back)
             ),
-            "floats dcRules",
+            "floats dc_rules",
         );
     }
 }
@@ -459,11 +461,11 @@ fn iq() {
             float(phase),
             float(1.0e7)
         );
-        define(&format!("{name}Calibration"), "Calibration", &text);
+        define(&format!("{name}_calibration"), "Calibration", &text);
         case(
-            &format!("{name}-coefficient"),
-            &format!("coefficient {name}Calibration ≡ {}", complex(rho)),
-            "floats iqRules",
+            &format!("{name}_coefficient"),
+            &format!("coefficient {name}_calibration ≡ {}", complex(rho)),
+            "floats iq_rules",
         );
         let corrector = IqCorrector::new(rho).unwrap();
         let mut ys: Vec<Complex32> = samples
@@ -473,26 +475,26 @@ fn iq() {
         let ws: Vec<u64> = samples.iter().map(|&x| word(x)).collect();
         let out: Vec<u64> = ys.iter().map(|&y| word(y)).collect();
         case(
-            &format!("{name}-corrected"),
+            &format!("{name}_corrected"),
             &format!(
                 "map (corrected ({})) ({}) ≡ {}",
                 complex(rho),
                 words(&ws),
                 words(&out)
             ),
-            "floats iqRules",
+            "floats iq_rules",
         );
         revert_iq(&mut ys, rho).unwrap();
         let back: Vec<u64> = ys.iter().map(|&y| word(y)).collect();
         case(
-            &format!("{name}-uncorrected"),
+            &format!("{name}_uncorrected"),
             &format!(
                 "map (uncorrected ({})) ({}) ≡ {}",
                 complex(rho),
                 words(&out),
                 words(&back)
             ),
-            "floats iqRules",
+            "floats iq_rules",
         );
     }
 }
@@ -527,31 +529,31 @@ fn monitor() {
             answers.push(m.observe(&channels, start));
         }
         define(
-            &format!("{name}Hops"),
+            &format!("{name}_hops"),
             "List Hop",
             &list(&hops, String::clone),
         );
         case(
-            &format!("{name}-evidence"),
+            &format!("{name}_evidence"),
             &format!(
-                "answers {n} (windowLength ({})) [] {name}Hops ≡ {}",
+                "answers {n} (window_length ({})) [] {name}_hops ≡ {}",
                 float(1.0),
                 list(&answers, |a| format!("({})", evidence(a)))
             ),
-            "floats monitorRules",
+            "floats monitor_rules",
         );
         let mut last: Vec<f64> = m.power.clone();
         last.extend(m.cross.iter().map(|c| c.re));
         last.extend(m.cross.iter().map(|c| c.im));
         last.extend(vec![0.0; n]);
         case(
-            &format!("{name}-words"),
+            &format!("{name}_words"),
             &format!(
-                "monitorWords {n} (openWindow {n} (windowLength ({})) [] {name}Hops) ≡ {}",
+                "monitor_words {n} (open_window {n} (window_length ({})) [] {name}_hops) ≡ {}",
                 float(1.0),
                 list(&last, |&x| format!("({})", float(x)))
             ),
-            "floats monitorRules",
+            "floats monitor_rules",
         );
     }
 }
@@ -578,32 +580,28 @@ fn main() {
 
 const HEADER: &str = "-- Closed cases of the rules, computed. The answers are those of the Rust original, and of the second reading for flags.
 -- Made by `cd oracle && cargo run --release --bin closed_cases`. Assumes nothing.
-use mathlib.Core.Path.{_≡_, refl}
-use mathlib.Core.Bool.{Bool, true, false}
-use mathlib.Core.List.{List, [], _∷_, map}
-use Prim.Native.Nat.{ℕ}
-use lib.ListN.{take}
-use lib.Ieee.{binary64, ofBits}
-use Rattle·rules·specs.specs.Lists.{upTo}
-use Rattle·rules·specs.specs.Guard.{usable, guarded, unusable}
-use Rattle·rules·specs.specs.Impulse.{standard, flagged, value}
-use Rattle·rules·specs.specs.Dc.{corner, firstLevel, levelAfter, blockedAll, clampedSteps, restoredAll}
-use Rattle·rules·specs.specs.Iq.{Calibration, coefficient, corrected, uncorrected}
-use Rattle·rules·specs.specs.Monitor.{Hop, noReport, report, windowLength, answers, openWindow, monitorWords}
-use Rattle·rules·specs.specs.laws.ByFlags.{look}
-use Rattle·rules·specs.specs.laws.Computing.{floats, guardRules, impulseRules, dcRules, iqRules, monitorRules}
+use Rattle.std.specs.Prelude.{◌≡◌, refl, Bool, true, false, List, [], ◌∷◌, map, ℕ, take}
+use Rattle.std.specs.Float.{binary64}
+use Rattle.std.specs.Float.Ieee.{of_bits}
+use Rattle.rules.specs.Lists.{up_to}
+use Rattle.rules.specs.Guard.{usable, guarded, unusable}
+use Rattle.rules.specs.Impulse.{standard, flagged, value}
+use Rattle.rules.specs.Dc.{corner, first_level, level_after, blocked_all, clamped_steps, restored_all}
+use Rattle.rules.specs.Iq.{Calibration, coefficient, corrected, uncorrected}
+use Rattle.rules.specs.Monitor.{Hop, no_report, report, window_length, answers, open_window, monitor_words}
+use Rattle.rules.proofs.laws.ByFlags.{look}
+use Rattle.rules.proofs.laws.Computing.{floats, guard_rules, impulse_rules, dc_rules, iq_rules, monitor_rules}
 ";
 
 const IMPULSE_HEADER: &str = "-- Closed cases of the impulse stage's rules, computed: flags, and by the flags what is handed on, repairs, rings of spans and of repairs,
 -- long runs. The answers are those of the Rust original, and of the second reading for flags and ring words.
 -- Made by `cd oracle && cargo run --release --bin closed_cases impulse`. Assumes nothing.
-use mathlib.Core.Path.{_≡_, refl, ap, _∙_}
-use mathlib.Core.Bool.{Bool, true, false}
-use mathlib.Core.List.{List, [], _∷_}
-use Prim.Native.Nat.{ℕ}
-use Rattle·rules.specs.Lists.{upTo}
-use Rattle·rules.specs.Impulse.{Setting, standard, Event, value, events, happened, handedOn}
-use Rattle·rules.specs.Log.{marked, repaired, Repaired, Flagged, Uncertain, marksOf, repairsOf, longRuns}
-use Rattle·rules.specs.laws.ByFlags.{from, flagsOf, look, happened-by, handed-by}
-use Rattle·rules.specs.laws.Computing.{floats, impulseRules, logRules}
+use Rattle.std.specs.Prelude.{◌≡◌, refl, Bool, true, false, List, [], ◌∷◌, ℕ}
+use Rattle.std.proofs.Common.{ap, ◌∙◌}
+use Rattle.rules.specs.Lists.{up_to}
+use Rattle.rules.specs.Pauses.{first, always, paused}
+use Rattle.rules.specs.Impulse.{Setting, standard, Event, value, events, happened, handed_on}
+use Rattle.rules.specs.Log.{marked, repaired, Repaired, Flagged, Uncertain, marks_of, repairs_of, long_runs}
+use Rattle.rules.proofs.laws.ByFlags.{from, flags_of, look, happened_by, handed_by}
+use Rattle.rules.proofs.laws.Computing.{floats, impulse_rules, log_rules}
 ";
