@@ -173,7 +173,7 @@ fn the_limits_are_not_rounded() {
     });
 }
 
-/// The closed cases of crates/rules/specs/laws/EditionCases.antt, where a list goes one block further.
+/// The closed cases of crates/rules/proofs/laws/EditionCases.antt, where a list goes one block further.
 #[test]
 fn the_cases_that_are_proved() {
     let second = |block, counts: &[usize]| paused(Edition::Second, block, counts);

@@ -116,7 +116,7 @@ impl Closeness {
         Ok(zs)
     }
 
-    /// The closed case of crates/dc_bounds/specs/laws/Cases.antt.
+    /// The closed case of crates/dc_bounds/proofs/laws/Cases.antt.
     fn closed_case(&mut self) -> Result<(), String> {
         let input = [0x3f80_0000, 0xbf00_0001].map(Sample::of_word);
         match &self.signal(48000.0, &input)?[..] {
