@@ -1,6 +1,6 @@
 // A call: places in front, then new samples.
 
-use crate::chain::lent;
+use crate::making::lent;
 use crate::words::{show_first, shown, word, write_front, write_words};
 use crate::{Head, REPAIR_WORDS, SLICE_WORDS, SPAN_WORDS};
 use chain_words::{CLAMPED, HELD, RECEIVED, RELEASED, RUN, SEEN, STATE_WORDS};

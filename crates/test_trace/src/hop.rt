@@ -1,6 +1,6 @@
 // A hop.
 
-use crate::chain::lent;
+use crate::making::lent;
 use crate::words::{write_front, write_words};
 use crate::{Head, MONITOR_WORDS, SPAN_WORDS};
 use chain_hop::HopSaid;

@@ -5,8 +5,8 @@
 ghost use Rattle.std.specs.Prelude.{◌<◌, IfOk};
 
 mod call;
-mod chain;
 mod hop;
+mod making;
 mod shown;
 mod undoing;
 mod words;
@@ -114,8 +114,8 @@ fn answer(
 ) -> io::Result<()> {
     let op = head.op;
     match op {
-        1 => chain::make(rt, state, head, input, spans, repairs, monitor),
-        2 => chain::config(rt, input),
+        1 => making::make(rt, state, head, input, spans, repairs, monitor),
+        2 => making::config(rt, input),
         3 => call::call(rt, state, head, input, spans, repairs),
         4 => hop::hop(rt, state, head, input, spans, monitor),
         5 => shown::log(rt, state),
@@ -155,7 +155,7 @@ fn turn(
 }
 
 fn main(rt: HostRuntime) -> io::Result<()> {
-    let mut state = chain::first();
+    let mut state = making::first();
     let mut spans = [0u64; SPAN_WORDS];
     let mut repairs = [0u64; REPAIR_WORDS];
     let mut monitor = [0.0f64; MONITOR_WORDS];
