@@ -27,11 +27,11 @@ use Rattle.impulse.specs.Circle.{circle}
 
 module _ (s : Setting) (F P : ℕ → Bool) where
   -- the run right before j
-  abbrev pub runBefore : ℕ → Run
-  runBefore j = record { start = start F j; len = before F j; paused = touches s P (start F j) (before F j) }
+  abbrev pub run_before : ℕ → Run
+  run_before j = record { start = start F j; len = before F j; paused = touches s P (start F j) (before F j) }
 
   unfoldable pub open_at : ℕ → Open
-  open_at j = cond (ltb 0 (before F j)) (Running (runBefore j)) Closed
+  open_at j = cond (ltb 0 (before F j)) (Running (run_before j)) Closed
 
 -- the last sample that is not flagged stands right before the run
 unfoldable pub left_at : (ℕ → Bool) → List ℕ → ℕ → Left

@@ -114,12 +114,12 @@ iq_undo_refusal r ys = first_of (unfit_coefficient r ∷ any_beyond ys ∷ [])
 
 -- making: '1, 2, 3, 4'
 unfoldable pub making_refusal : Float → ℕ → ℕ → ℕ → ℕ → ℕ → ℕ → ℕ
-making_refusal fs n spans repairs lentSpans lentRepairs lentWords =
+making_refusal fs n spans repairs lent_spans lent_repairs lent_words =
     first_of
     (bad_rate fs
     ∷ bad_size n
     ∷ bad_capacity spans repairs
-    ∷ bad_length (repair_width * repairs) lentRepairs
-    ∷ bad_length (store_width * spans) lentSpans
-    ∷ bad_length (channel_width * n) lentWords
+    ∷ bad_length (repair_width * repairs) lent_repairs
+    ∷ bad_length (store_width * spans) lent_spans
+    ∷ bad_length (channel_width * n) lent_words
     ∷ [])

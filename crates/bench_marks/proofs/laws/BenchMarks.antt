@@ -19,7 +19,7 @@ use Rattle.rules.specs.Impulse.{Setting, standard, window, reference, flagged, k
 use Rattle.rules.specs.Dc.{corner, first_level, level_after, blocked_all}
 use Rattle.rules.specs.Iq.{Calibration, with, Withheld, Correcting, coefficient, settled}
 use Rattle.rules.specs.Mode.{apply}
-use Rattle.rules.proofs.laws.ByFlags.{from, flags_of, quickFlags, quick_flags, happened_by, handed_by}
+use Rattle.rules.proofs.laws.ByFlags.{from, flags_of, quick_flags, quick_flags_lem, happened_by, handed_by}
 use Rattle.rules.proofs.laws.Computing.{floats, impulse_rules, dc_rules, iq_rules}
 use Rattle.bench_marks.proofs.laws.Lone.{lone_unflagged}
 
@@ -157,12 +157,12 @@ one_at j = eqb j 500 || eqb j 1100
 abbrev two_at : ℕ → Bool
 two_at j = eqb j 300 || (eqb j 500 || eqb j 1100)
 
-one_quick : quickFlags by_thousand one_flagged ≡ from one_at 1106 0
-unfolding floats impulse_rules quickFlags from
+one_quick : quick_flags by_thousand one_flagged ≡ from one_at 1106 0
+unfolding floats impulse_rules quick_flags from
 one_quick = refl
 
-two_quick : quickFlags by_thousand two_flagged ≡ from two_at 1106 0
-unfolding floats impulse_rules quickFlags from
+two_quick : quick_flags by_thousand two_flagged ≡ from two_at 1106 0
+unfolding floats impulse_rules quick_flags from
 two_quick = refl
 
 -- ---- what follows from them
@@ -258,8 +258,8 @@ bench_marks =
       nine_reference = is_nine_reference;
       first = handed_by usual first_edition (n100 ∷ times 22 n1) (in_run 0 1) first_flags ∙ first_values;
       bridge = handed_by usual first_edition (among (times 3 n100 ++ times 1 n5)) (in_run 20 3) bridge_flags ∙ bridge_values;
-      goes_on = happened_by by_thousand first_edition one_flagged one_at (quick_flags by_thousand one_flagged (lit≤ tt) ∙ one_quick) ∙ one_events;
-      pauses = happened_by by_thousand first_edition two_flagged two_at (quick_flags by_thousand two_flagged (lit≤ tt) ∙ two_quick) ∙ two_events;
+      goes_on = happened_by by_thousand first_edition one_flagged one_at (quick_flags_lem by_thousand one_flagged (lit≤ tt) ∙ one_quick) ∙ one_events;
+      pauses = happened_by by_thousand first_edition two_flagged two_at (quick_flags_lem by_thousand two_flagged (lit≤ tt) ∙ two_quick) ∙ two_events;
       sixteen = none_judged;
       dc_two = is_dc_two;
       dc_half = is_dc_half;

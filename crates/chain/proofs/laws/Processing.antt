@@ -51,20 +51,20 @@ module _ (c : InputConditioner) (samples spans repairs : List ℕ) (a : Acceptab
   ready_inside ready e = omega (arith, out_most c (new_part c samples), new_length c samples spans repairs a)
 
   -- the notes of the impulse stage
-  abbrev notesFrom : List Event → Noted
-  notesFrom es = note_all c.settings.spans c.settings.repairs (notes_in (machine_of c spans repairs)) es
+  abbrev notes_from : List Event → Noted
+  notes_from es = note_all c.settings.spans c.settings.repairs (notes_in (machine_of c spans repairs)) es
 
   -- they leave room for the marks of the other stages
-  notes_roomy : Roomy c.settings.spans c.settings.repairs (2 ^ 53) (notesFrom (impulse_told c (new_part c samples)))
+  notes_roomy : Roomy c.settings.spans c.settings.repairs (2 ^ 53) (notes_from (impulse_told c (new_part c samples)))
   notes_roomy = go c.settings.impulse refl
     where
-      go : (b : Bool) → c.settings.impulse ≡ b → Roomy c.settings.spans c.settings.repairs (2 ^ 53) (notesFrom (impulse_told c (new_part c samples)))
+      go : (b : Bool) → c.settings.impulse ≡ b → Roomy c.settings.spans c.settings.repairs (2 ^ 53) (notes_from (impulse_told c (new_part c samples)))
       go true on =
-          subst (λ (es : List Event). Roomy c.settings.spans c.settings.repairs (2 ^ 53) (notesFrom es)) (on_told c samples spans repairs a on)
+          subst (λ (es : List Event). Roomy c.settings.spans c.settings.repairs (2 ^ 53) (notes_from es)) (on_told c samples spans repairs a on)
           (roomy_run c.settings.spans c.settings.repairs (notes_in (machine_of c spans repairs)) (setting_in c) c.suppressor c.counts.held samples
           (call_room c samples spans repairs a on) (call_roomy c samples spans repairs a))
       go false off =
-          subst (λ (es : List Event). Roomy c.settings.spans c.settings.repairs (2 ^ 53) (notesFrom es)) (off_told c samples spans repairs a off)
+          subst (λ (es : List Event). Roomy c.settings.spans c.settings.repairs (2 ^ 53) (notes_from es)) (off_told c samples spans repairs a off)
           (subst (Roomy c.settings.spans c.settings.repairs (2 ^ 53))
           (sym (note_none c.settings.spans c.settings.repairs (notes_in (machine_of c spans repairs))))
           (roomy_up c.settings.spans c.settings.repairs (2 ^ 52) (2 ^ 53) (notes_in (machine_of c spans repairs)) (omega arith)
@@ -73,7 +73,7 @@ module _ (c : InputConditioner) (samples spans repairs : List ℕ) (a : Acceptab
   -- ---- the impulse stage has run
 
   module _ (ran : Ran) (samples₁ spans₁ repairs₁ : List ℕ)
-      (noted : noted_of ran.notes spans₁ repairs₁ ≡ notesFrom (impulse_told c (new_part c samples)))
+      (noted : noted_of ran.notes spans₁ repairs₁ ≡ notes_from (impulse_told c (new_part c samples)))
       (count : ran.ready ≡ length (impulse_out c (new_part c samples)))
       (written : samples₁ ≡ over (impulse_out c (new_part c samples)) samples) where
     pub ran_bounded : Bounded c.settings.spans (2 ^ 54) (record { log = ran.notes.log; spans = spans₁ })
@@ -125,8 +125,8 @@ module _ (c : InputConditioner) (samples spans repairs : List ℕ) (a : Acceptab
         omega (arith, k, dc_few (mode_of c.settings.dc) c.blocker out, ready_few (length out) refl)
 
     -- the counts by the length of the slice, how many of it are released, and on how many of these the DC limit acted
-    abbrev countsBy : ℕ → ℕ → ℕ → Counts
-    countsBy len ready clamped =
+    abbrev counts_by : ℕ → ℕ → ℕ → Counts
+    counts_by len ready clamped =
         record {
           seen = c.counts.seen + (len - c.counts.held);
           released = c.counts.released + ready;
@@ -141,7 +141,7 @@ module _ (c : InputConditioner) (samples spans repairs : List ℕ) (a : Acceptab
         (noted_iq c.settings.spans (settled_of c.settings.iq)
         (noted_dc c.settings.spans (mode_of c.settings.dc) (record { log = ran.notes.log; spans = spans₁ }) (span_of c.counts.released ran.ready))
         (span_of c.counts.released ran.ready))
-        → machine_of (after_call c (countsBy (length samples) ran.ready dc.clamped) suppressor dc.blocker (with_log ran.notes log)) spans₂ repairs₁
+        → machine_of (after_call c (counts_by (length samples) ran.ready dc.clamped) suppressor dc.blocker (with_log ran.notes log)) spans₂ repairs₁
         ≡ process (machine_of c spans repairs) (new_part c samples)
     unfolding process notes_after logged_after
     processed_chain suppressor after dc level log spans₂ logged =
@@ -154,7 +154,7 @@ module _ (c : InputConditioner) (samples spans repairs : List ℕ) (a : Acceptab
         let d = level ∙ ap (dc_after (mode_of c.settings.dc) c.blocker) front in
         let l = logged ∙ (λ i. marks (noted i).logged (span_of c.counts.released (count i))) in
         let out = impulse_out c (new_part c samples) in
-        let counts : countsBy (length samples) ran.ready dc.clamped
+        let counts : counts_by (length samples) ran.ready dc.clamped
         ≡ counts_after c (length (new_part c samples)) (length out) (dc_after (mode_of c.settings.dc) c.blocker out).clamped
         = λ i.
         record { seen = c.counts.seen + sym n i; released = c.counts.released + count i; held = kept i; clamped = c.counts.clamped + (d i).clamped } in

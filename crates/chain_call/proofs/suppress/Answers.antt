@@ -39,7 +39,7 @@ run-requires c =
 pub returns : goal.returns
 returns c =
     let a = c.args in
-    let on = not-false _ c.if-not-set.false in
+    let runs = not-false _ c.if-not-set.false in
     let r = c.run.ensures in
     let set = setting_in a.state in
     let new = new_part a.state a.samples.now in
@@ -47,14 +47,14 @@ returns c =
     -- the lent arrays are the suppressor's
     let lent = c.requires.pending_value in
     let out = ap (λ (m : ImpulseSuppressor). handed set m new) lent
-    ∙ on_out a.state a.samples.now a.spans.now a.repairs.now c.requires.acceptable on in
+    ∙ on_out a.state a.samples.now a.spans.now a.repairs.now c.requires.acceptable runs in
     record {
       suppressor =
           r.suppressor ∙ ap (λ (m : ImpulseSuppressor). state_after set m new) lent
-          ∙ on_after a.state a.samples.now a.spans.now a.repairs.now c.requires.acceptable on;
+          ∙ on_after a.state a.samples.now a.spans.now a.repairs.now c.requires.acceptable runs;
       noted =
           r.noted ∙ ap note
-          (ap (λ (m : ImpulseSuppressor). told set m new) lent ∙ on_told a.state a.samples.now a.spans.now a.repairs.now c.requires.acceptable on);
+          (ap (λ (m : ImpulseSuppressor). told set m new) lent ∙ on_told a.state a.samples.now a.spans.now a.repairs.now c.requires.acceptable runs);
       ready = r.ready ∙ ap length out;
       written = r.written ∙ ap (λ (l : List ℕ). over l a.samples.now) out;
     }

@@ -16,20 +16,20 @@ by_three rate size capacity other = cond (not rate) 1 (cond size 2 (cond capacit
 
 -- the settings' number by the answers of their tests
 abbrev pub setting_number : Bool → Bool → Bool → Bool → Bool → Bool → ℕ
-setting_number rate size noSpans manySpans noRepairs manyRepairs = by_three rate size (noSpans || manySpans || noRepairs || manyRepairs) 0
+setting_number rate size no_spans many_spans no_repairs many_repairs = by_three rate size (no_spans || many_spans || no_repairs || many_repairs) 0
 
-pub setting_by : (fs : Float) (n spans repairs : ℕ) (rate size noSpans manySpans noRepairs manyRepairs : Bool) → ranged one rate_limit fs ≡ rate
-    → ltb 2048 n ≡ size → eqb spans 0 ≡ noSpans → ltb 256 spans ≡ manySpans → eqb repairs 0 ≡ noRepairs → ltb 4096 repairs ≡ manyRepairs
-    → setting_number rate size noSpans manySpans noRepairs manyRepairs ≡ setting_refusal fs n spans repairs
+pub setting_by : (fs : Float) (n spans repairs : ℕ) (rate size no_spans many_spans no_repairs many_repairs : Bool) → ranged one rate_limit fs ≡ rate
+    → ltb 2048 n ≡ size → eqb spans 0 ≡ no_spans → ltb 256 spans ≡ many_spans → eqb repairs 0 ≡ no_repairs → ltb 4096 repairs ≡ many_repairs
+    → setting_number rate size no_spans many_spans no_repairs many_repairs ≡ setting_refusal fs n spans repairs
 unfolding setting_refusal first_of
-setting_by fs n spans repairs rate size noSpans manySpans noRepairs manyRepairs h1 h2 h3 h4 h5 h6 =
+setting_by fs n spans repairs rate size no_spans many_spans no_repairs many_repairs h1 h2 h3 h4 h5 h6 =
     sym
     (ap (λ (t : Bool). setting_number t (ltb 2048 n) (eqb spans 0) (ltb 256 spans) (eqb repairs 0) (ltb 4096 repairs)) h1
     ∙ ap (λ (t : Bool). setting_number rate t (eqb spans 0) (ltb 256 spans) (eqb repairs 0) (ltb 4096 repairs)) h2
     ∙ ap (λ (t : Bool). setting_number rate size t (ltb 256 spans) (eqb repairs 0) (ltb 4096 repairs)) h3
-    ∙ ap (λ (t : Bool). setting_number rate size noSpans t (eqb repairs 0) (ltb 4096 repairs)) h4
-    ∙ ap (λ (t : Bool). setting_number rate size noSpans manySpans t (ltb 4096 repairs)) h5
-    ∙ ap (λ (t : Bool). setting_number rate size noSpans manySpans noRepairs t) h6)
+    ∙ ap (λ (t : Bool). setting_number rate size no_spans t (eqb repairs 0) (ltb 4096 repairs)) h4
+    ∙ ap (λ (t : Bool). setting_number rate size no_spans many_spans t (ltb 4096 repairs)) h5
+    ∙ ap (λ (t : Bool). setting_number rate size no_spans many_spans no_repairs t) h6)
 
 -- the lengths' number by the answers of their tests
 abbrev pub length_number : Bool → Bool → Bool → ℕ
@@ -86,9 +86,9 @@ not_zero : (k : ℕ) → eqb k 0 ≡ false → 0 < k
 not_zero zero e = absurd (false≢true (sym e))
 not_zero (suc k) e = omega arith
 
-by_tests : (fs : Float) (n spans repairs : ℕ) (rate size noSpans manySpans noRepairs manyRepairs : Bool) → ranged one rate_limit fs ≡ rate → ltb 2048 n ≡ size
-    → eqb spans 0 ≡ noSpans → ltb 256 spans ≡ manySpans → eqb repairs 0 ≡ noRepairs → ltb 4096 repairs ≡ manyRepairs
-    → eqb (setting_number rate size noSpans manySpans noRepairs manyRepairs) 0 ≡ true → Limits fs n spans repairs
+by_tests : (fs : Float) (n spans repairs : ℕ) (rate size no_spans many_spans no_repairs many_repairs : Bool) → ranged one rate_limit fs ≡ rate → ltb 2048 n ≡ size
+    → eqb spans 0 ≡ no_spans → ltb 256 spans ≡ many_spans → eqb repairs 0 ≡ no_repairs → ltb 4096 repairs ≡ many_repairs
+    → eqb (setting_number rate size no_spans many_spans no_repairs many_repairs) 0 ≡ true → Limits fs n spans repairs
 by_tests fs n spans repairs true false false false false false a b c d f g e =
     record {
       rate = a;

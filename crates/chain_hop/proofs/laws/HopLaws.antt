@@ -49,30 +49,30 @@ pub record Ready (c : InputConditioner) (store : List ℕ) (ws : List Float) : T
   pub fit : words_fit c.settings.n ws ≡ true
 
 module _ (c : InputConditioner) (spans : List ℕ) (ws : List Float) where
-  abbrev spansRight : Bool
-  spansRight = eqb (length spans) (store_width * c.settings.spans)
+  abbrev spans_right : Bool
+  spans_right = eqb (length spans) (store_width * c.settings.spans)
 
-  abbrev wordsRight : Bool
-  wordsRight = eqb (length ws) (channel_width * c.settings.n)
+  abbrev words_right : Bool
+  words_right = eqb (length ws) (channel_width * c.settings.n)
 
-  abbrev endsRight : Bool
-  endsRight = ends_fit c.settings.spans (record { log = c.notes.log; spans = spans })
+  abbrev ends_right : Bool
+  ends_right = ends_fit c.settings.spans (record { log = c.notes.log; spans = spans })
 
-  abbrev fitRight : Bool
-  fitRight = words_fit c.settings.n ws
+  abbrev fit_right : Bool
+  fit_right = words_fit c.settings.n ws
 
-  pub refusal_by : (s a b e f : Bool) → state_fits c ≡ s → spansRight ≡ a → wordsRight ≡ b → endsRight ≡ e → fitRight ≡ f
+  pub refusal_by : (s a b e f : Bool) → state_fits c ≡ s → spans_right ≡ a → words_right ≡ b → ends_right ≡ e → fit_right ≡ f
       → hop_number s a b e f ≡ hop_refusal c spans ws
   unfolding hop_refusal first_of
   refusal_by s a b e f h1 h2 h3 h4 h5 =
       sym
-      (ap (λ (t : Bool). hop_number t spansRight wordsRight endsRight fitRight) h1
-      ∙ ap (λ (t : Bool). hop_number s t wordsRight endsRight fitRight) h2
-      ∙ ap (λ (t : Bool). hop_number s a t endsRight fitRight) h3
-      ∙ ap (λ (t : Bool). hop_number s a b t fitRight) h4
+      (ap (λ (t : Bool). hop_number t spans_right words_right ends_right fit_right) h1
+      ∙ ap (λ (t : Bool). hop_number s t words_right ends_right fit_right) h2
+      ∙ ap (λ (t : Bool). hop_number s a t ends_right fit_right) h3
+      ∙ ap (λ (t : Bool). hop_number s a b t fit_right) h4
       ∙ ap (λ (t : Bool). hop_number s a b e t) h5)
 
-  by_tests : (s a b e f : Bool) → state_fits c ≡ s → spansRight ≡ a → wordsRight ≡ b → endsRight ≡ e → fitRight ≡ f → eqb (hop_number s a b e f) 0 ≡ true
+  by_tests : (s a b e f : Bool) → state_fits c ≡ s → spans_right ≡ a → words_right ≡ b → ends_right ≡ e → fit_right ≡ f → eqb (hop_number s a b e f) 0 ≡ true
       → Ready c spans ws
   by_tests true true true true true h1 h2 h3 h4 h5 z = record { state = h1; spans = eqb-true _ _ h2; words = eqb-true _ _ h3; ends = h4; fit = h5 }
   by_tests true true true true false h1 h2 h3 h4 h5 z = absurd (false≢true z)

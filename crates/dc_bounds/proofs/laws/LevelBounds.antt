@@ -11,7 +11,7 @@ use Rattle.std.specs.Float.Ieee.Scale.{finite}
 use Rattle.ieee.specs.Bound.{Within, Beyond}
 use Rattle.ieee.specs.Narrow.{narrowed}
 use Rattle.ieee.proofs.laws.NarrowLaws.{narrowed_fits}
-use Rattle.ieee.proofs.laws.Bounds.{or_le, within_mono, add_within, sub_within, mul-within, div_within, narrowed_within, whole_value, scaled_value}
+use Rattle.ieee.proofs.laws.Bounds.{or_le, within_mono, add_within, sub_within, mul_within, div_within, narrowed_within, whole_value, scaled_value}
 use Rattle.ieee.proofs.laws.LowerBounds.{fine, round_beyond, scale_value}
 use Rattle.complex.specs.Complex as complex
 use Rattle.complex.specs.Complex.{Complex, scaled, narrowed_parts, difference, word_of, sample_of, PartsWithin, WordWithin}
@@ -56,7 +56,7 @@ unfolding corner of_bits
 corner_within fs t =
     div_within binary64 (mul binary64 tau five) fs 32 1 1 1 32 1 (lit< tt) (lit< tt) (lit< tt) (whole_value binary64 32 (lit< tt)) (lit≤ tt)
     (within_mono (mul binary64 tau five) (32 * 2 ^ 47) (2 ^ 47 * 1) 32 1 (lit< tt) (lit≤ tt)
-    (mul-within binary64 tau five 884279719003555 (2 ^ 47) 5 1 (32 * 2 ^ 47) (lit< tt) (lit< tt)
+    (mul_within binary64 tau five 884279719003555 (2 ^ 47) 5 1 (32 * 2 ^ 47) (lit< tt) (lit< tt)
     (scale_value binary64 32 1 (2 ^ 47) (whole_value binary64 32 (lit< tt))) (lit≤ tt) (lit≤ tt) (lit≤ tt)))
     (rate_beyond fs t)
 
@@ -110,7 +110,7 @@ grown : (l v g : Float) (n : ℕ) → n < 2 ^ 48 → Within l (n * 2 ^ 6) 1 → 
 grown l v g n h a b c =
     add_within binary64 l (mul binary64 v g) (n * 2 ^ 6) 64 (suc n * 2 ^ 6) 1 (lit< tt) (scaled_value binary64 (suc n) 6 (omega arith) (lit≤ tt))
     (omega arith) a
-    (mul-within binary64 v g 2 1 32 1 64 (lit< tt) (lit< tt) (whole_value binary64 64 (lit< tt)) (lit≤ tt) b c)
+    (mul_within binary64 v g 2 1 32 1 64 (lit< tt) (lit< tt) (whole_value binary64 64 (lit< tt)) (lit≤ tt) b c)
 
 -- a step is at most one update
 pub record Stepped (n : ℕ) (l : Level) : Type 0 where

@@ -14,7 +14,7 @@ use Rattle.std.specs.Float.Ieee.Positive.{num, den, den_pos}
 use Rattle.ieee.specs.Bound.{Within, Beyond, Value}
 use Rattle.ieee.specs.Root.{rooted}
 use Rattle.ieee.proofs.laws.Numbers.{pow_le_back, size_gt}
-use Rattle.ieee.proofs.laws.Bounds.{within_mono, mul-within, div_within, round_within, whole_value, scaled_value, part_value}
+use Rattle.ieee.proofs.laws.Bounds.{within_mono, mul_within, div_within, round_within, whole_value, scaled_value, part_value}
 use Rattle.ieee.proofs.laws.RoundingError.{round_value}
 use Rattle.ieee.proofs.laws.Signed.{add_value}
 use Rattle.ieee.proofs.laws.LowerBounds.{within_finite, own_within, under, fine, round_beyond, rooted_beyond, rooted_bound, rooted_plain, fits_value, squares}
@@ -203,7 +203,7 @@ part_within m y r c F b w v = go (lt one m) (λ t. t) (λ t. t)
         let two : 2 ^ suc e ≡ 2 * 2 ^ e = pow-succ' 2 e in
         let val : Value binary64 (2 * 2 ^ e) (1 * 2 ^ e) = scale_value binary64 2 1 (2 ^ e) (whole_value binary64 2 (lit< tt)) in
         within_mono (mul binary64 y (div binary64 one m)) (2 * 2 ^ e) (1 * 2 ^ e) 2 1 (mul-pos (lit< tt) (pow_pos e)) (le_of_eq (again (2 ^ e)))
-        (mul-within binary64 y (div binary64 one m) (2 ^ suc e) 1 1 (2 ^ e) (2 * 2 ^ e) (lit< tt) (pow_pos e) val
+        (mul_within binary64 y (div binary64 one m) (2 ^ suc e) 1 1 (2 ^ e) (2 * 2 ^ e) (lit< tt) (pow_pos e) val
         (le_of_eq (mul-one (2 ^ suc e) ∙ two)) part inverse)
       where
         plain : (k : ℕ) → 1 * 1 * k ≡ 1 * (1 * k)

@@ -111,14 +111,14 @@ unfolding sub
 sub_within f x y a b t c C v l h k = add_within f x (neg y) a b t c C v l h (neg_within y b c k)
 
 -- ---- products
-pub mul-within : (f : Format) (x y : Float) (a c b d t : ℕ) → 0 < c → 0 < d → Value f t (c * d) → a * b ≤ t → Within x a c → Within y b d
+pub mul_within : (f : Format) (x y : Float) (a c b d t : ℕ) → 0 < c → 0 < d → Value f t (c * d) → a * b ≤ t → Within x a c → Within y b d
     → Within (mul f x y) t (c * d)
 unfolding mul
-mul-within f nan y a c b d t C D v l h k = h
-mul-within f (inf s) y a c b d t C D v l h k = absurd h
-mul-within f (fin s m e) nan a c b d t C D v l h k = k
-mul-within f (fin s m e) (inf u) a c b d t C D v l h k = absurd k
-mul-within f (fin s m e) (fin u n g) a c b d t C D v l h k =
+mul_within f nan y a c b d t C D v l h k = h
+mul_within f (inf s) y a c b d t C D v l h k = absurd h
+mul_within f (fin s m e) nan a c b d t C D v l h k = k
+mul_within f (fin s m e) (inf u) a c b d t C D v l h k = absurd k
+mul_within f (fin s m e) (fin u n g) a c b d t C D v l h k =
     round_within f (unlike s u) (m * up e * (n * up g)) (down e * down g) t (c * d) (mul-pos (down_pos e) (down_pos g)) (mul-pos C D) v
     (le_trans (le_of_eq (mul-mul-mul_comm (m * up e) (n * up g) c d))
     (le_trans (mul-le-mul h k)

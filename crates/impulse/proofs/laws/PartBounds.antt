@@ -6,7 +6,7 @@ use Rattle.std.specs.Float.{nan, inf, fin, binary32}
 use Rattle.std.specs.Float.Ieee.{add, sub, mul, le, of_int, of_bits, is_nan}
 use Rattle.std.specs.Float.Ieee.Fits.{and_l, and_r, add-fits}
 use Rattle.ieee.specs.Bound.{Within, Beyond, Value}
-use Rattle.ieee.proofs.laws.Bounds.{within_mono, add_within, sub_within, mul-within, div_within, of_int_within, whole_value, scaled_value}
+use Rattle.ieee.proofs.laws.Bounds.{within_mono, add_within, sub_within, mul_within, div_within, of_int_within, whole_value, scaled_value}
 use Rattle.ieee.proofs.laws.LowerBounds.{fine, round_beyond}
 use Rattle.complex.specs.Complex.{Complex, sum, difference, scaled, power, word_of, sample_of, NoNan, PartsWithin, WordWithin}
 use Rattle.complex.proofs.laws.Words.{Parts32, sample_of_word}
@@ -69,7 +69,7 @@ part_mended l r q wl wr wq =
     let wd : Within (sub binary32 r l) (2 ^ 58) 1 =
     sub_within binary32 r l (2 ^ 57) (2 ^ 57) (2 ^ 58) 1 (lit< tt) (scaled_value binary32 1 58 (lit< tt) (lit≤ tt)) (lit≤ tt) wr wl in
     let wp : Within (mul binary32 (sub binary32 r l) q) (2 ^ 58) 1 =
-    mul-within binary32 (sub binary32 r l) q (2 ^ 58) 1 1 1 (2 ^ 58) (lit< tt) (lit< tt) (scaled_value binary32 1 58 (lit< tt) (lit≤ tt)) (lit≤ tt) wd wq in
+    mul_within binary32 (sub binary32 r l) q (2 ^ 58) 1 1 1 (2 ^ 58) (lit< tt) (lit< tt) (scaled_value binary32 1 58 (lit< tt) (lit≤ tt)) (lit≤ tt) wd wq in
     add_within binary32 l (mul binary32 (sub binary32 r l) q) (2 ^ 57) (2 ^ 58) (2 ^ 59) 1 (lit< tt) (scaled_value binary32 1 59 (lit< tt) (lit≤ tt))
     (lit≤ tt) wl wp
 
@@ -103,7 +103,7 @@ power_within w h =
   where
     square : (x : Float) → Within x (2 ^ 57) 1 → Within (mul binary32 x x) (2 ^ 114) 1
     square x v =
-        mul-within binary32 x x (2 ^ 57) 1 (2 ^ 57) 1 (2 ^ 114) (lit< tt) (lit< tt) (scaled_value binary32 (2 ^ 10) 104 (lit< tt) (lit≤ tt)) (lit≤ tt) v v
+        mul_within binary32 x x (2 ^ 57) 1 (2 ^ 57) 1 (2 ^ 114) (lit< tt) (lit< tt) (scaled_value binary32 (2 ^ 10) 104 (lit< tt) (lit≤ tt)) (lit≤ tt) v v
 
 pub power_sound : (w : ℕ) → WordWithin (2 ^ 57) w → PowerWithin (power_of w)
 power_sound w h = (power_within w h, power_plain w (within_clean (2 ^ 57) w h))

@@ -72,10 +72,10 @@ covered_right k (e ∷ es) fs c = inr (covered_right k es fs c)
 
 module _ (s : Setting) (F P : ℕ → Bool) (xs : List ℕ) where
   -- the record of the run that ends at j
-  abbrev recordAt : ℕ → List ℕ
-  recordAt j = repair_words (start F j) (before F j) (take (before F j) (drop (start F j) xs))
+  abbrev record_at : ℕ → List ℕ
+  record_at j = repair_words (start F j) (before F j) (take (before F j) (drop (start F j) xs))
 
-  repairs_at : (j : ℕ) → repairs_of (events_at s F P xs j) ≡ cond (mends s F P j) (recordAt j ∷ []) []
+  repairs_at : (j : ℕ) → repairs_of (events_at s F P xs j) ≡ cond (mends s F P j) (record_at j ∷ []) []
   unfolding events_at repairs_of mends
   repairs_at j = go (P (block_of s j)) (closes F j) (mendable s (touches s P (start F j) (before F j)) (before F j))
     where
@@ -86,7 +86,7 @@ module _ (s : Setting) (F P : ℕ → Bool) (xs : List ℕ) where
           → repairs_of
           (cond p (uncertain j ∷ []) []
           ++ cond c (cond m (mended (start F j) (before F j) originals) (kept (start F j) (before F j) (ltb s.run (before F j))) ∷ []) [])
-          ≡ cond (c && m) (recordAt j ∷ []) []
+          ≡ cond (c && m) (record_at j ∷ []) []
       go true true true = refl
       go true true false = refl
       go true false m = refl
@@ -94,7 +94,7 @@ module _ (s : Setting) (F P : ℕ → Bool) (xs : List ℕ) where
       go false true false = refl
       go false false m = refl
 
-  repairs_next : (j : ℕ) → repairs_of (events s F P xs (suc j)) ≡ repairs_of (events s F P xs j) ++ cond (mends s F P j) (recordAt j ∷ []) []
+  repairs_next : (j : ℕ) → repairs_of (events s F P xs (suc j)) ≡ repairs_of (events s F P xs j) ++ cond (mends s F P j) (record_at j ∷ []) []
   unfolding events
   repairs_next j = repairs_append (events s F P xs j) (events_at s F P xs j) ∙ ap (λ (t : List (List ℕ)). repairs_of (events s F P xs j) ++ t) (repairs_at j)
 
@@ -132,17 +132,17 @@ module _ (s : Setting) (F P : ℕ → Bool) (xs : List ℕ) where
   all_original r zero h = tt
   all_original r (suc j) h =
       rw (repairs_next j)
-      (all_append (Original xs) (repairs_of (events s F P xs j)) (cond (mends s F P j) (recordAt j ∷ []) []) (all_original r j (omega arith))
+      (all_append (Original xs) (repairs_of (events s F P xs j)) (cond (mends s F P j) (record_at j ∷ []) []) (all_original r j (omega arith))
       (go (mends s F P j) refl))
     where
-      go : (b : Bool) → mends s F P j ≡ b → All (Original xs) (cond b (recordAt j ∷ []) [])
+      go : (b : Bool) → mends s F P j ≡ b → All (Original xs) (cond b (record_at j ∷ []) [])
       go true e =
           let m = mends_says j e in
           let b = before_le F j in
           (run_original xs (start F j) (before F j) m.some (omega (arith, m.short)) (omega arith), tt)
       go false e = tt
 
-  in_record : (j k : ℕ) → start F j ≤ k → k < j → In k (recordAt j)
+  in_record : (j k : ℕ) → start F j ≤ k → k < j → In k (record_at j)
   unfolding repair_words
   in_record j k a b = let w = before_le F j in (a, omega arith)
 
@@ -153,12 +153,12 @@ module _ (s : Setting) (F P : ℕ → Bool) (xs : List ℕ) where
   raw_or_recorded (suc j) k = rw (repairs_next j) (go (mends s F P j) (covers F j k) refl refl (raw_or_recorded j k))
     where
       go : (m c : Bool) → mends s F P j ≡ m → covers F j k ≡ c → (value s F P xs j k ≡ at xs k) ⊎ Covered k (repairs_of (events s F P xs j))
-          → (value s F P xs (suc j) k ≡ at xs k) ⊎ Covered k (repairs_of (events s F P xs j) ++ cond m (recordAt j ∷ []) [])
+          → (value s F P xs (suc j) k ≡ at xs k) ⊎ Covered k (repairs_of (events s F P xs j) ++ cond m (record_at j ∷ []) [])
       go true true e f r =
           let t = hit_says s F P xs j k (rw e f) in
-          inr (covered_right k (repairs_of (events s F P xs j)) (recordAt j ∷ []) (inl (in_record j k t.from t.upto)))
+          inr (covered_right k (repairs_of (events s F P xs j)) (record_at j ∷ []) (inl (in_record j k t.from t.upto)))
       go true false e f (inl q) = inl (rw (e, f) q)
-      go true false e f (inr q) = inr (covered_left k (repairs_of (events s F P xs j)) (recordAt j ∷ []) q)
+      go true false e f (inr q) = inr (covered_left k (repairs_of (events s F P xs j)) (record_at j ∷ []) q)
       go false c e f (inl q) = inl (rw e q)
       go false c e f (inr q) = inr (covered_left k (repairs_of (events s F P xs j)) [] q)
 

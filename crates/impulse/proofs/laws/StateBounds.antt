@@ -28,7 +28,7 @@ use Rattle.impulse.specs.declared.Left.{Left}
 use Rattle.impulse.specs.declared.Left.TheVariants.{Neighbour, Missing}
 use Rattle.impulse.specs.Circle.{circle}
 use Rattle.impulse.proofs.laws.CircleLaws.{circle_length, circle_read_any, circle_blank, around}
-use Rattle.impulse.specs.State.{runBefore, open_at, left_at, newest_powers, padded, paused_by, state_at}
+use Rattle.impulse.specs.State.{run_before, open_at, left_at, newest_powers, padded, paused_by, state_at}
 use Rattle.impulse.proofs.laws.Step.{Fine, newest_length, window_grows, window_moves}
 use Rattle.impulse.proofs.laws.Theorem.{Clean, fine_all}
 use Rattle.impulse.specs.Sound.{PowerWithin, Sound}
@@ -90,11 +90,11 @@ module _ {A : Type 0} {lt : A → A → Bool} {good : A → Type 0} (o : Ordered
       ∙ sym (sort_in l i p g q h)
 
 module _ (good : Float → Type 0) (o : Ordered lt good) (zero-good : good zero_f) (s : Setting) (xs : List ℕ) (fine : All (Fine good) xs) where
-  abbrev powersAt : ℕ → List Float
-  powersAt n = circle zero_f (width s) n (λ k. power_of (at xs k))
+  abbrev powers_at : ℕ → List Float
+  powers_at n = circle zero_f (width s) n (λ k. power_of (at xs k))
 
   -- the two lists of powers have the same sort
-  window_sorted : (n : ℕ) → n ≤ length xs → sort lt (take (min n (width s)) (powersAt n)) ≡ sort lt (newest_powers s xs n)
+  window_sorted : (n : ℕ) → n ≤ length xs → sort lt (take (min n (width s)) (powers_at n)) ≡ sort lt (newest_powers s xs n)
   unfolding circle
   window_sorted zero h =
       let w : 0 - width s ≡ 0 = omega arith in
@@ -105,24 +105,24 @@ module _ (good : Float → Type 0) (o : Ordered lt good) (zero-good : good zero_
       p : Float
       p = power_of (at xs n)
 
-      len : length (powersAt n) ≡ width s
+      len : length (powers_at n) ≡ width s
       len = circle_length zero_f (width s) n (λ k. power_of (at xs k))
 
       each : (k : ℕ) → k < length xs → good (power_of (at xs k))
       each k q = all_get_d (Fine good) xs k 0 fine q
 
-      goods : All good (powersAt n)
+      goods : All good (powers_at n)
       goods = all_circle good zero_f (width s) n (λ k. power_of (at xs k)) zero-good (λ k q. each k (omega arith))
 
-      go : (b : Bool) → ltb n (width s) ≡ b → sort lt (take (min n (width s)) (powersAt n)) ≡ sort lt (newest_powers s xs n)
-          → sort lt (take (min (suc n) (width s)) (set (powersAt n) (n % width s) (power_of (at xs n)))) ≡ sort lt (newest_powers s xs (suc n))
+      go : (b : Bool) → ltb n (width s) ≡ b → sort lt (take (min n (width s)) (powers_at n)) ≡ sort lt (newest_powers s xs n)
+          → sort lt (take (min (suc n) (width s)) (set (powers_at n) (n % width s) (power_of (at xs n)))) ≡ sort lt (newest_powers s xs (suc n))
       go true e r =
           let w = ltb-true n (width s) e in
           let m : min n (width s) ≡ n = omega arith in
           let m' : min (suc n) (width s) ≡ suc n = omega arith in
           let i : n % width s ≡ n = mod-eq_of_lt w in
           let k = len in
-          let C = powersAt n in
+          let C = powers_at n in
           ap (λ (q : ℕ). sort lt (take q (set C (n % width s) p))) m'
           ∙ ap (λ (q : ℕ). sort lt (take (suc n) (set C q p))) i
           ∙ ap (sort lt) (take-suc-set C n p (omega arith))
@@ -136,7 +136,7 @@ module _ (good : Float → Type 0) (o : Ordered lt good) (zero-good : good zero_
           let z : 0 < width s = omega arith in
           let i = mod-lt n z in
           let k = len in
-          let C = powersAt n in
+          let C = powers_at n in
           let all : take (width s) C ≡ C = take_all (width s) C (omega arith) in
           let kept = length-set C (n % width s) p in
           let all' : take (width s) (set C (n % width s) p) ≡ set C (n % width s) p = take_all (width s) (set C (n % width s) p) (omega arith) in
@@ -160,11 +160,11 @@ open_ends s F P j r = go (ltb 0 (before F j)) refl
     out Closed = r
     out (Running q) = q
 
-    go : (b : Bool) → ltb 0 (before F j) ≡ b → cond b (Running (runBefore s F P j)) Closed ≡ Running r → (0 < r.len) × (r.start + r.len ≡ j)
+    go : (b : Bool) → ltb 0 (before F j) ≡ b → cond b (Running (run_before s F P j)) Closed ≡ Running r → (0 < r.len) × (r.start + r.len ≡ j)
     go true t e =
         let h = ltb-true 0 (before F j) t in
         let b = before_le F j in
-        let same : runBefore s F P j ≡ r = ap out e in
+        let same : run_before s F P j ≡ r = ap out e in
         subst (λ (q : Run). (0 < q.len) × (q.start + q.len ≡ j)) same (h, omega arith)
     go false t e = let z : ◌≡◌ {A = ℕ} 0 1 = cc in absurd (omega arith)
 

@@ -38,7 +38,7 @@ use Rattle.impulse.specs.Machine.{window_with, sorted_with, pending_with, verdic
 use Rattle.impulse.specs.Circle.{circle}
 use Rattle.impulse.proofs.laws.CircleLaws.{circle_push, circle_length, circle_read, circle_read_any, circle_blank, circle_is, circle_same, around, apart}
 use Rattle.impulse.proofs.laws.RunLaws.{read_run_lem, write_length, write_other, write_in}
-use Rattle.impulse.specs.State.{runBefore, open_at, left_at, block_at, gate_in, gate_at, ending_at, newest_powers, padded, paused_by, state_at}
+use Rattle.impulse.specs.State.{run_before, open_at, left_at, block_at, gate_in, gate_at, ending_at, newest_powers, padded, paused_by, state_at}
 use Rattle.impulse.specs.State.{answer_at, outcome_at}
 
 -- ---- the window
@@ -176,7 +176,7 @@ flag_is s xs n j e h =
 -- ---- the run and its left neighbour, for any flags and any paused blocks
 
 module _ (s : Setting) (F P : ℕ → Bool) (xs : List ℕ) where
-  open_some : (j : ℕ) → 0 < before F j → open_at s F P j ≡ Running (runBefore s F P j)
+  open_some : (j : ℕ) → 0 < before F j → open_at s F P j ≡ Running (run_before s F P j)
   unfolding open_at
   open_some j h = rw (lt-ltb 0 (before F j) h)
 
@@ -184,12 +184,12 @@ module _ (s : Setting) (F P : ℕ → Bool) (xs : List ℕ) where
   unfolding open_at
   open_none j e = rw (le-ltb 0 (before F j) (omega arith))
 
-  grown_is : (j : ℕ) → F j ≡ true → grown (open_at s F P j) j (P (block_of s j)) ≡ runBefore s F P (suc j)
+  grown_is : (j : ℕ) → F j ≡ true → grown (open_at s F P j) j (P (block_of s j)) ≡ run_before s F P (suc j)
   unfolding open_at touches
   grown_is j e = go (before_on F j e) (start_on F j e) (touches_more s F P j e) (ltb 0 (before F j)) refl
     where
       Target : Bool → Type 0
-      Target t = grown (cond t (Running (runBefore s F P j)) Closed) j (P (block_of s j)) ≡ runBefore s F P (suc j)
+      Target t = grown (cond t (Running (run_before s F P j)) Closed) j (P (block_of s j)) ≡ run_before s F P (suc j)
 
       go : before F (suc j) ≡ suc (before F j) → start F (suc j) ≡ start F j
           → touches s P (start F (suc j)) (before F (suc j)) ≡ touches s P (start F j) (before F j) || P (block_of s j)
@@ -319,7 +319,7 @@ module _ (s : Setting) (ed : PauseEdition) (F P : ℕ → Bool) (xs : List ℕ) 
     abbrev able : Bool
     able = mendable s (touches s P (start F j) (before F j)) (before F j)
 
-    closing_is : F j ≡ false → ltb 0 (before F j) ≡ true → closing s (runBefore s F P j) (pend n j) ≡ ending_at s F P xs j
+    closing_is : F j ≡ false → ltb 0 (before F j) ≡ true → closing s (run_before s F P j) (pend n j) ≡ ending_at s F P xs j
     unfolding closing ending_at
     closing_is e t = rw (e, t) (go able refl)
       where
@@ -331,7 +331,7 @@ module _ (s : Setting) (ed : PauseEdition) (F P : ℕ → Bool) (xs : List ℕ) 
         go true m = ap (mended_run (start F j) (before F j)) (pend_run (mendable_short s (touches s P (start F j) (before F j)) (before F j) m))
         go false m = refl
 
-    closing_pending_lem : F j ≡ false → ltb 0 (before F j) ≡ true → closing_pending s (runBefore s F P j) (left_at F xs j) (at xs j) (pend n j) ≡ pend n (suc j)
+    closing_pending_lem : F j ≡ false → ltb 0 (before F j) ≡ true → closing_pending s (run_before s F P j) (left_at F xs j) (at xs j) (pend n j) ≡ pend n (suc j)
     unfolding closing_pending mends
     closing_pending_lem e t = go able refl
       where
@@ -351,7 +351,7 @@ module _ (s : Setting) (ed : PauseEdition) (F P : ℕ → Bool) (xs : List ℕ) 
     unfolding open_at ending_at
     ending_is e = go (ltb 0 (before F j)) refl
       where
-        go : (b : Bool) → ltb 0 (before F j) ≡ b → ending s (cond b (Running (runBefore s F P j)) Closed) (pend n j) ≡ ending_at s F P xs j
+        go : (b : Bool) → ltb 0 (before F j) ≡ b → ending s (cond b (Running (run_before s F P j)) Closed) (pend n j) ≡ ending_at s F P xs j
         go true t = closing_is e t
         go false t = rw (e, t)
 
@@ -360,13 +360,13 @@ module _ (s : Setting) (ed : PauseEdition) (F P : ℕ → Bool) (xs : List ℕ) 
     ending_pending_lem e = go (ltb 0 (before F j)) refl
       where
         go : (b : Bool) → ltb 0 (before F j) ≡ b
-            → ending_pending s (cond b (Running (runBefore s F P j)) Closed) (left_at F xs j) (at xs j) (pend n j) ≡ pend n (suc j)
+            → ending_pending s (cond b (Running (run_before s F P j)) Closed) (left_at F xs j) (at xs j) (pend n j) ≡ pend n (suc j)
         go true t = closing_pending_lem e t
         go false t = let m : mends s F P j ≡ false = rw (e, t) in pend_same n j m
 
     -- what the rules say of the judging of j
-    abbrev judgementAt : Judgement
-    judgementAt =
+    abbrev judgement_at : Judgement
+    judgement_at =
         record { gate = gate_at s ed F P xs (suc n) (suc j); uncertain = P (block_of s j); ended = ending_at s F P xs j; pending = pend n (suc j) }
 
     -- the gate in the block of j
@@ -381,7 +381,7 @@ module _ (s : Setting) (ed : PauseEdition) (F P : ℕ → Bool) (xs : List ℕ) 
         let t = count ∙ ap (λ (c : Bool). indicator c + flags_in s F (block_of s j) j) (sym e) ∙ sym (tally_flags s F j) in
         ap (with_flagged entering.block) t ∙ ap (λ (i : ℕ). block_at s F P (suc j) (block_of s i)) k
 
-    pub decided_is : (flag : Bool) → F j ≡ flag → decided s entering j (pend n j) flag ≡ judgementAt
+    pub decided_is : (flag : Bool) → F j ≡ flag → decided s entering j (pend n j) flag ≡ judgement_at
     unfolding mends ending_at
     decided_is true e =
         let m : mends s F P j ≡ false = rw e in
@@ -496,8 +496,8 @@ module _ (good : Float → Type 0) (o : Ordered lt good) (s : Setting) (ed : Pau
       ∙ ap (decided s (gate_in s ed F P xs (suc n) j (block_of s j)) j pending) (flag_is s xs n j here inside)
       ∙ decided_is s ed F P xs n j here inside (F j) refl
 
-  abbrev verdictAt : Bool → Judgement
-  verdictAt b =
+  abbrev verdict_at : Bool → Judgement
+  verdict_at b =
       record {
         gate = gate_at s ed F P xs (suc n) (judged s (suc n));
         uncertain = cond b false (P (block_of s (n - s.half)));
@@ -514,7 +514,7 @@ module _ (good : Float → Type 0) (o : Ordered lt good) (s : Setting) (ed : Pau
   -- of the gate and the arrays with sample n in them
   verdict_is : verdict s (gate_at s ed F P xs (suc n) (judged s n)) n (circle zero_f (width s) (suc n) power_at)
       (padded (width s) (sort lt (newest_powers s xs (suc n)))) (circle 0 (lookahead s) (suc n) (value s F P xs (judged s n)))
-      ≡ verdictAt (ltb n s.half)
+      ≡ verdict_at (ltb n s.half)
   unfolding verdict
   verdict_is = go (ltb n s.half) refl
     where
@@ -528,7 +528,7 @@ module _ (good : Float → Type 0) (o : Ordered lt good) (s : Setting) (ed : Pau
           → cond b (record { gate = gate_at s ed F P xs (suc n) (judged s n); uncertain = false; ended = going; pending = pending (judged s n) })
           (judge s (gate_at s ed F P xs (suc n) (judged s n)) (n - s.half) (get_or (circle zero_f (width s) (suc n) power_at) ((n - s.half) % width s) nan) sorted
           (pending (judged s n)))
-          ≡ verdictAt b
+          ≡ verdict_at b
       go true e =
           let h = ltb-true n s.half e in
           let same : n - s.half ≡ suc n - s.half = omega arith in

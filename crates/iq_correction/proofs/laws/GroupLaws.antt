@@ -10,7 +10,7 @@ use Rattle.std.specs.Float.Ieee.Fits.{and_i, and_l, and_r, sub-fits}
 use Rattle.std.specs.Float.Ieee.Positive.{num, den}
 use Rattle.std.specs.Float.Ieee.Scale.{finite}
 use Rattle.ieee.specs.Bound.{Within, Value}
-use Rattle.ieee.proofs.laws.Bounds.{add_within, sub_within, mul-within, neg_within, scaled_value, between_within}
+use Rattle.ieee.proofs.laws.Bounds.{add_within, sub_within, mul_within, neg_within, scaled_value, between_within}
 use Rattle.ieee.proofs.laws.LowerBounds.{within_own, fits_value}
 use Rattle.ieee.proofs.laws.Nan.{no_nan_bits}
 use Rattle.ieee.specs.Narrow.{normal_in, cut_of}
@@ -72,7 +72,7 @@ power_of_two : (i : ℕ) → 53 + i ≤ 1024 → Value binary64 (1 * 2 ^ i) 1
 power_of_two i h = scaled_value binary64 1 i (lit< tt) h
 
 product_within : (x y : Float) → Within x 2 1 → Within y (2 ^ 128) 1 → Within (mul binary64 x y) (2 ^ 129) 1
-product_within x y h k = mul-within binary64 x y 2 1 (2 ^ 128) 1 (2 ^ 129) (lit< tt) (lit< tt) (power_of_two 129 (lit≤ tt)) (lit≤ tt) h k
+product_within x y h k = mul_within binary64 x y 2 1 (2 ^ 128) 1 (2 ^ 129) (lit< tt) (lit< tt) (power_of_two 129 (lit≤ tt)) (lit≤ tt) h k
 
 number : (x : Float) (a c : ℕ) → Within x a c → T (not (is_nan x))
 unfolding is_nan

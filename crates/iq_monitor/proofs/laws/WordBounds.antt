@@ -7,7 +7,7 @@ use Rattle.std.specs.Float.Ieee.Fits.{and_l, and_r}
 use Rattle.std.specs.Float.{nan, inf, fin, binary64}
 use Rattle.std.specs.Float.Ieee.{add, sub, mul, le, of_bits, is_nan}
 use Rattle.ieee.specs.Bound.{Within}
-use Rattle.ieee.proofs.laws.Bounds.{within_mono, add_within, sub_within, mul-within, scaled_value}
+use Rattle.ieee.proofs.laws.Bounds.{within_mono, add_within, sub_within, mul_within, scaled_value}
 use Rattle.ieee.proofs.laws.Order.{square_clear, add_clear}
 use Rattle.ieee.specs.Plain.{sign_clear}
 use Rattle.complex.specs.Complex.{Complex, power, product, sample_of, PartsWithin, WordWithin}
@@ -39,7 +39,7 @@ given w e =
     (part_within (sample_of w).re (and_l a b t), part_within (sample_of w).im (and_r a b t))
 
 times : (x y : Float) → Within x (2 ^ 60) 1 → Within y (2 ^ 60) 1 → Within (mul binary64 x y) (2 ^ 120) 1
-times x y h k = mul-within binary64 x y (2 ^ 60) 1 (2 ^ 60) 1 (2 ^ 120) (lit< tt) (lit< tt) (scaled_value binary64 1 120 (lit< tt) (lit≤ tt)) (lit≤ tt) h k
+times x y h k = mul_within binary64 x y (2 ^ 60) 1 (2 ^ 60) 1 (2 ^ 120) (lit< tt) (lit< tt) (scaled_value binary64 1 120 (lit< tt) (lit≤ tt)) (lit≤ tt) h k
 
 plus : (x y : Float) → Within x (2 ^ 120) 1 → Within y (2 ^ 120) 1 → Within (add binary64 x y) (2 ^ 121) 1
 plus x y h k = add_within binary64 x y (2 ^ 120) (2 ^ 120) (2 ^ 121) 1 (lit< tt) (scaled_value binary64 1 121 (lit< tt) (lit≤ tt)) (lit≤ tt) h k

@@ -44,7 +44,7 @@ use Rattle.rules.specs.Undo.{undone_all}
 use Rattle.rules.specs.Constants.{total_limit}
 use Rattle.rules.specs.Impulse.{lookahead_size}
 use Rattle.chain_hop.specs.Hops.{is_off_iq, said_hop, Hopped, hop_of, hop_refusal}
-use Rattle.chain_hop.proofs.laws.HopLaws as hopLaws
+use Rattle.chain_hop.proofs.laws.HopLaws as hop_laws
 use Rattle.chain_undo.specs.Undoing as undo
 use Rattle.chain_undo.specs.Undoing.{undo_of, undo_refusal}
 use Rattle.chain_undo.proofs.laws.UndoLaws.{chain_made, made_length, chain_accepted, chain_returns}
@@ -134,7 +134,7 @@ module _ (g : ConditioningConfig) (f : Fit g) (xs : List ℕ) (hs : List Hop) (r
   hop_number_lem : hop_refusal (chain_at g xs hs).machine.state (chain_at g xs hs).machine.spans (chain_at g xs hs).words ≡ 0
   hop_number_lem =
       sym
-      (hopLaws.refusal_by chain.machine.state chain.machine.spans chain.words true true true true true (state_good g f xs hs r)
+      (hop_laws.refusal_by chain.machine.state chain.machine.spans chain.words true true true true true (state_good g f xs hs r)
       (eq-eqb _ _ spans_long) (eq-eqb _ _ words_long)
       (spans_good g f xs hs r) (words_fit_lem g f xs hs r))
 
@@ -236,7 +236,7 @@ module _ (g : ConditioningConfig) (f : Fit g) (xs : List ℕ) (hs : List Hop) (r
       let c = chain.machine.state in
       monitor_number (hop.watched c h.channels h.start chain.words).seen.answer
       (ap (λ (o : Hopped). number_of (said_hop o.called.answer))
-      (sym (hopLaws.hop_taken c h.channels h.start chain.machine.spans chain.words hop_number_lem)) ∙ e)
+      (sym (hop_laws.hop_taken c h.channels h.start chain.machine.spans chain.words hop_number_lem)) ∙ e)
 
   -- a row for each act
   no_five_act : (a : Act) → (on (chain_at g xs hs) (ownly a)).said ≡ refused (5 ∷ []) → ⊥

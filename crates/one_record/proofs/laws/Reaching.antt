@@ -287,17 +287,17 @@ module _ (g : ConditioningConfig) (some : 0 < g.spans) where
   -- ---- a hop
 
   -- the window that is open after hops, and where the last ended
-  abbrev windowAt : List Hop → List Hop
-  windowAt hs = open_window g.n (window_length g.fs) [] hs
+  abbrev window_at : List Hop → List Hop
+  window_at hs = open_window g.n (window_length g.fs) [] hs
 
   abbrev end_at : List Hop → ℕ
   end_at hs = last_end g.n 0 hs
 
   module _ (hs : List Hop) (h : Hop) where
     abbrev answer_at : Answer
-    answer_at = answer_to g.n (window_length g.fs) (windowAt hs) h
+    answer_at = answer_to g.n (window_length g.fs) (window_at hs) h
 
-    window_next : windowAt (hs ++ (h ∷ [])) ≡ next_window g.n (window_length g.fs) (windowAt hs) h
+    window_next : window_at (hs ++ (h ∷ [])) ≡ next_window g.n (window_length g.fs) (window_at hs) h
     unfolding open_window
     window_next = window_append g.n (window_length g.fs) [] hs (h ∷ [])
 
@@ -328,14 +328,14 @@ module _ (g : ConditioningConfig) (some : 0 < g.spans) where
 
       -- what the monitor makes of it
       seen_is : hops.watched (chain_at g xs hs).machine.state h.channels h.start (chain_at g xs hs).words
-          ≡ stepped g.n (window_length g.fs) (windowAt hs) h
+          ≡ stepped g.n (window_length g.fs) (window_at hs) h
       unfolding chain_at with_hops core process fresh_state fresh_settings
       seen_is =
           watched_by (chain_at g xs hs).machine.state h.channels h.start (chain_at g xs hs).words false (ap is_off_iq settled_at ∙ on)
-          ∙ one_hop g.fs g.n (windowAt hs) (end_at hs) h a
+          ∙ one_hop g.fs g.n (window_at hs) (end_at hs) h a
 
       -- the chain's machine after it
-      machine_hop : hops.followed (chain_at g xs hs).machine.state (chain_at g xs hs).machine.spans (stepped g.n (window_length g.fs) (windowAt hs) h)
+      machine_hop : hops.followed (chain_at g xs hs).machine.state (chain_at g xs hs).machine.spans (stepped g.n (window_length g.fs) (window_at hs) h)
           ≡ record {
             called = record { state = (chain_at g xs (hs ++ (h ∷ []))).machine.state; answer = hops.answer_of (answer_of answer_at) };
             spans = (chain_at g xs (hs ++ (h ∷ []))).machine.spans;
@@ -352,7 +352,7 @@ module _ (g : ConditioningConfig) (some : 0 < g.spans) where
           ∙ ap (λ (l : List Span). foldl (uncertain cap) base (hop_marks g hs ++ cond observes l [])) (suspected_is answer_at)
           ∙ ap (λ (b : Bool). foldl (uncertain cap) base (hop_marks g hs ++ cond b (suspected_span answer_at) [])) (ap is_observing settled_at)
           ∙ ap (foldl (uncertain cap) base) (sym marks_next) in
-          let w : next_window g.n (window_length g.fs) (windowAt hs) h ≡ windowAt (hs ++ (h ∷ [])) = sym window_next in
+          let w : next_window g.n (window_length g.fs) (window_at hs) h ≡ window_at (hs ++ (h ∷ [])) = sym window_next in
           let e : hop_end g.n h ≡ end_at (hs ++ (h ∷ [])) = sym end_next in
           λ i.
           record {
@@ -367,7 +367,7 @@ module _ (g : ConditioningConfig) (some : 0 < g.spans) where
 
   pub monitor_end : (xs : List ℕ) (hs : List Hop) → (chain_at g xs hs).machine.state.monitor.end ≡ end_at hs
   unfolding chain_at with_hops
-  monitor_end xs hs = end_of (windowAt hs) (end_at hs)
+  monitor_end xs hs = end_of (window_at hs) (end_at hs)
 
   size_at : (xs : List ℕ) (hs : List Hop) → (chain_at g xs hs).machine.state.settings ≡ fresh_settings g
   unfolding chain_at with_hops

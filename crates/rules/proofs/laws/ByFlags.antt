@@ -179,13 +179,13 @@ module _ (s : Setting) where
       ∙ ap (λ (b : Bool). b ∷ from (flagged s xs) n (suc (h + i))) f
 
   -- the first half window one by one, and the rest by sliding
-  unfoldable pub quickFlags : List ℕ → List Bool
+  unfoldable pub quick_flags : List ℕ → List Bool
   unfolding slide again answer same_all from
-  quickFlags xs = from (flagged s xs) s.half 0 ++ slide (length xs - (s.half + s.half)) xs [] 0 (answer s [] 0)
+  quick_flags xs = from (flagged s xs) s.half 0 ++ slide (length xs - (s.half + s.half)) xs [] 0 (answer s [] 0)
 
-  pub quick_flags : (xs : List ℕ) → s.half + s.half ≤ length xs → flags_of s xs ≡ quickFlags xs
-  unfolding flags_of quickFlags
-  quick_flags xs g =
+  pub quick_flags_lem : (xs : List ℕ) → s.half + s.half ≤ length xs → flags_of s xs ≡ quick_flags xs
+  unfolding flags_of quick_flags
+  quick_flags_lem xs g =
       let h = s.half in
       let m = length xs - (h + h) in
       let e : length xs - h ≡ h + m = omega arith in
