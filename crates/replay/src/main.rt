@@ -13,11 +13,14 @@ ghost use Rattle.chain_make.specs.Making.{said_making};
 ghost use Rattle.replay_text.specs.Text.{put};
 ghost use Rattle.replay.specs.Printing.{is_nothing, begun, text_of};
 
+use arrayvec::ArrayString;
 use chain_make::MakingAnswer;
 use chain_state::InputConditioner;
 use impulse::ImpulseSuppressor;
 use iq_monitor::ImageMonitor;
 use replay_start::StartAnswer;
+use std::fmt::Write;
+use std::io;
 use std::io::Read;
 
 // Blocks to read at most, 2^64 - 1 of 65,536 bytes: more than any recording has.
@@ -84,6 +87,24 @@ fn text_store() -> [u8; 262144]
     [0u8; 262144]
 }
 
+// ---- complaining
+
+// The words of an I/O error, without the number that std writes behind them.
+fn without_number(text: &str) -> &str {
+    match text.split_once(" (os error ") {
+        Some((words, _)) => words,
+        None => text,
+    }
+}
+
+// A line on standard error: what could not be done, and why.
+fn complain(rt: &impl Eprint, undone: &str, error: &io::Error) {
+    let mut why = ArrayString::<256>::new();
+    let _ = write!(why, "{error}");
+    let words = without_number(why.as_str());
+    let _ = eprintln!(rt; "replay: {undone}: {words}");
+}
+
 // ---- reading
 
 // One read into a part of a block. One that brings nothing is at the recording's end, or failed and has
@@ -97,7 +118,7 @@ fn read_some(rt: &(impl Input + Eprint), part: &mut [u8]) -> Block
             failed: false,
         },
         Err(e) => {
-            let _ = eprintln!(rt; "replay: the recording could not be read: {e}");
+            complain(rt, "the recording could not be read", &e);
             Block {
                 size: 0,
                 failed: true,
@@ -335,7 +356,7 @@ fn print(rt: &(impl Print + Eprint), text: &[u8], size: usize)
     requires { size ≤ length text.now }
 {
     if let Err(e) = rt.write_all(&text[..size]) {
-        let _ = eprintln!(rt; "replay: the report could not be written: {e}");
+        complain(rt, "the report could not be written", &e);
     }
 }
 
