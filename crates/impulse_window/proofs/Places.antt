@@ -2,10 +2,10 @@
 use mathlib.Core.Path.{◌≡◌, refl, ap, sym, ◌∙◌}
 use mathlib.Core.Bool.{Bool, true, false, cond}
 use mathlib.Core.List.{List, [], ◌∷◌, ◌++◌, append_assoc}
-use Prim.Native.Nat.{ℕ, zero, suc, ◌+◌, ◌≤◌, ◌<◌}
+use Prim.Native.Nat.{ℕ, zero, suc, ◌+◌, ◌-◌, ◌≤◌, ◌<◌}
 use native.Mathlib.Omega.{arith}
 use lib.ListN.{length, get_or, set, take, drop, length-take}
-use lib.Seq.{take_all, take_at, take-append-le, drop-append-le, length-take-le}
+use lib.Seq.{paste, take_all, take_at, take-append-le, drop-append-le, length-take-le}
 use Rattle.rules.specs.Sort.{insert, remove}
 use Rattle.impulse_window.specs.Ordering.{rank, without, put_in}
 
@@ -40,27 +40,42 @@ module _ {A : Type 0} where
   without_behind (c ∷ l) (suc i) zero d h = absurd (omega arith)
   without_behind (c ∷ l) (suc i) (suc k) d h = without_behind l i k d (omega arith)
 
-  -- the gap moves down by one, and up by one
-  pub gap_down : (l : List A) (k : ℕ) (d : A) → suc k < length l → without (set l (suc k) (get_or l k d)) k ≡ without l (suc k)
+  -- p at place i, below the gap: what stands from there to the gap moves up by one
+  below_gap : (l : List A) (i g n : ℕ) (p : A) → g ≡ i + n → g < length l
+      → set (take (suc i) l ++ take n (drop i l) ++ drop (suc g) l) i p ≡ put_in (without l g) i p
   unfolding without
-  gap_down [] k d h = absurd (omega arith)
-  gap_down (c ∷ []) k d h = absurd (omega arith)
-  gap_down (c ∷ e ∷ l) zero d h = refl
-  gap_down (c ∷ e ∷ l) (suc k) d h = ap (λ (t : List A). c ∷ t) (gap_down (e ∷ l) k d (omega arith))
+  below_gap [] i g n p e h = absurd (omega arith)
+  below_gap (c ∷ l) zero g n p e h =
+      let f : n ≡ g = omega arith in rw f (ap (λ (t : List A). p ∷ t) (sym (without_split (c ∷ l) g)))
+  below_gap (c ∷ l) (suc i) zero n p e h = absurd (omega arith)
+  below_gap (c ∷ l) (suc i) (suc g) n p e h = ap (λ (t : List A). c ∷ t) (below_gap l i g n p (omega arith) (omega arith))
 
-  pub gap_up : (l : List A) (k : ℕ) (d : A) → suc k < length l → without (set l k (get_or l (suc k) d)) (suc k) ≡ without l k
-  unfolding without
-  gap_up [] k d h = absurd (omega arith)
-  gap_up (c ∷ []) k d h = absurd (omega arith)
-  gap_up (c ∷ e ∷ l) zero d h = refl
-  gap_up (c ∷ e ∷ l) (suc k) d h = ap (λ (t : List A). c ∷ t) (gap_up (e ∷ l) k d (omega arith))
+  pub put_below : (l : List A) (g i : ℕ) (p : A) → i < g → g < length l → set (paste l (i + 1) (drop i l) (g - i)) i p ≡ put_in (without l g) i p
+  put_below l g i p h w =
+      let e : i + 1 + (g - i) ≡ suc g = omega arith in
+      let f : i + 1 ≡ suc i = omega arith in
+      rw (e, f) (below_gap l i g (g - i) p (omega arith) w)
 
-  -- the gap filled
-  pub gap_filled : (l : List A) (i : ℕ) (p : A) → i < length l → set l i p ≡ put_in (without l i) i p
+  -- and above it: what stands behind the gap as far as there moves down
+  no_gap : (c : A) (l : List A) (i : ℕ) (p : A) → i ≤ length l → set (take i l ++ drop i (c ∷ l)) i p ≡ put_in l i p
+  no_gap c l zero p h = refl
+  no_gap c [] (suc i) p h = absurd (omega arith)
+  no_gap c (d ∷ l) (suc i) p h = ap (λ (t : List A). d ∷ t) (no_gap d l i p (omega arith))
+
+  above_gap : (l : List A) (g i n : ℕ) (p : A) → i ≡ g + n → i < length l
+      → set (take g l ++ take n (drop (suc g) l) ++ drop i l) i p ≡ put_in (without l g) i p
   unfolding without
-  gap_filled [] i p h = absurd (omega arith)
-  gap_filled (c ∷ l) zero p h = refl
-  gap_filled (c ∷ l) (suc i) p h = ap (λ (t : List A). c ∷ t) (gap_filled l i p (omega arith))
+  above_gap [] g i n p e h = absurd (omega arith)
+  above_gap (c ∷ l) zero i n p e h = let f : n ≡ i = omega arith in rw f (no_gap c l i p (omega arith))
+  above_gap (c ∷ l) (suc g) zero n p e h = absurd (omega arith)
+  above_gap (c ∷ l) (suc g) (suc i) n p e h = ap (λ (t : List A). c ∷ t) (above_gap l g i n p (omega arith) (omega arith))
+
+  pub put_above : (l : List A) (g i : ℕ) (p : A) → g ≤ i → i < length l
+      → set (paste l g (drop (g + 1) l) (i + 1 - (g + 1))) i p ≡ put_in (without l g) i p
+  put_above l g i p h w =
+      let e : g + (i + 1 - (g + 1)) ≡ i = omega arith in
+      let f : g + 1 ≡ suc g = omega arith in
+      rw (e, f) (above_gap l g i (i + 1 - suc g) p (omega arith) w)
 
 -- ---- where a power goes
 

@@ -28,7 +28,7 @@ const IMPULSE_RATIO: f64 = 144.0;
 
 // Place k of the array with the gap left out.
 fn beside(sorted: &[f32; WINDOW], gap: usize, k: usize) -> f32
-    requires { (gap < window_size) × (k < window_size - 1) × (length sorted.now ≡ window_size) }
+    requires { (gap < window_size) × (k < window_size - 1) }
     ensures { result ≡ get_or (without sorted.now gap) k nan }
 {
     if k < gap {
@@ -39,60 +39,33 @@ fn beside(sorted: &[f32; WINDOW], gap: usize, k: usize) -> f32
 
 // Where p goes among the first n powers, the gap left out: before the first that is not below it.
 fn rank(sorted: &[f32; WINDOW], n: usize, gap: usize, p: f32) -> usize
-    requires { (n < window_size) × (gap < window_size) × (length sorted.now ≡ window_size) }
+    requires { (n < window_size) × (gap < window_size) }
     ensures { result ≡ rank lt p (take n (without sorted.now gap)) }
 {
-    let mut k: usize = 0;
-    while k < n {
+    for k in 0..n {
         if !(beside(sorted, gap, k) < p) {
             return k;
         }
-        k = k + 1;
     }
-    k
-}
-
-// Moves the powers from `at` to the gap up by one, and puts p at `at`.
-fn raise(sorted: &mut [f32; WINDOW], gap: usize, at: usize, p: f32)
-    requires { (at ≤ gap) × (gap < window_size) × (length sorted.old ≡ window_size) }
-    ensures { sorted.new ≡ put_in (without sorted.old gap) at p }
-{
-    let mut k = gap;
-    while at < k {
-        sorted[k] = sorted[k - 1];
-        k = k - 1;
-    }
-    sorted[k] = p;
-}
-
-// Moves the powers from the gap to `at` down by one, and puts p at `at`.
-fn lower(sorted: &mut [f32; WINDOW], gap: usize, at: usize, p: f32)
-    requires { (gap ≤ at) × (at < window_size) × (length sorted.old ≡ window_size) }
-    ensures { sorted.new ≡ put_in (without sorted.old gap) at p }
-{
-    let mut k = gap;
-    while k < at {
-        sorted[k] = sorted[k + 1];
-        k = k + 1;
-    }
-    sorted[k] = p;
+    n
 }
 
 // The gap closed, and p put in at place `at` of the powers that are left.
 fn put(sorted: &mut [f32; WINDOW], gap: usize, at: usize, p: f32)
-    requires { (gap < window_size) × (at < window_size) × (length sorted.old ≡ window_size) }
+    requires { (gap < window_size) × (at < window_size) }
     ensures { sorted.new ≡ put_in (without sorted.old gap) at p }
 {
     if at < gap {
-        raise(sorted, gap, at, p);
-        return;
+        sorted.copy_within(at..gap, at + 1);
+    } else {
+        sorted.copy_within(gap + 1..at + 1, gap);
     }
-    lower(sorted, gap, at, p);
+    sorted[at] = p;
 }
 
 // The i-th power, p, goes in: the window is not full yet.
 fn grow(sorted: &mut [f32; WINDOW], i: u64, p: f32)
-    requires { (i < window_size) × (length sorted.old ≡ window_size) }
+    requires { i < window_size }
     ensures { sorted.new ≡ insert lt p (take i sorted.old) ++ drop (i + 1) sorted.old }
 {
     let n = i as usize;
@@ -102,7 +75,6 @@ fn grow(sorted: &mut [f32; WINDOW], i: u64, p: f32)
 
 // The old power goes out and p goes in, whatever the order of the others.
 fn exchange(sorted: &mut [f32; WINDOW], old: f32, p: f32)
-    requires { length sorted.old ≡ window_size }
     ensures { sorted.new ≡ insert lt p (take (window_size - 1) (remove lt old sorted.old)) }
 {
     let gap = rank(sorted, LAST, LAST, old);
@@ -121,15 +93,12 @@ fn at_most(a: f32, b: f32) -> bool
 
 // Whether they do. None is a NaN then.
 fn ascends(sorted: &[f32; WINDOW]) -> bool
-    requires { length sorted.now ≡ window_size }
     ensures result { result ≡ climbs le zero_f sorted.now }
     ensures values { All Held sorted.now }
 {
     let mut rising = at_most(0.0, sorted[0]);
-    let mut k: usize = 0;
-    while k < LAST {
+    for k in 0..LAST {
         rising = rising & at_most(sorted[k], sorted[k + 1]);
-        k = k + 1;
     }
     rising
 }
@@ -171,15 +140,12 @@ fn between(old: f32, p: f32, a: f32, b: f32, c: f32) -> f32
 
 // The powers without the old one and with p.
 fn blended(sorted: &[f32; WINDOW], old: f32, p: f32) -> [f32; WINDOW]
-    requires { length sorted.now ≡ window_size }
     ensures { result ≡ blended old p sorted.now }
 {
     let mut out = [0.0f32; WINDOW];
     out[0] = least(moved(old, sorted[0], sorted[1]), p);
-    let mut k: usize = 0;
-    while k < LAST_BUT_ONE {
+    for k in 0..LAST_BUT_ONE {
         out[k + 1] = between(old, p, sorted[k], sorted[k + 1], sorted[k + 2]);
-        k = k + 1;
     }
     out[LAST] = most(moved(old, sorted[LAST_BUT_ONE], sorted[LAST]), p);
     out
@@ -187,13 +153,11 @@ fn blended(sorted: &[f32; WINDOW], old: f32, p: f32) -> [f32; WINDOW]
 
 // The old power goes out and p goes in.
 fn replace(sorted: &mut [f32; WINDOW], old: f32, p: f32)
-    requires sorted_len { length sorted.old ≡ window_size }
-    requires rising_2 { Rising 0 sorted.old }
+    requires { Rising 0 sorted.old }
     ensures result { sorted.new ≡ insert lt p (take (window_size - 1) (remove lt old sorted.old)) }
     ensures rising { le zero_f p ≡ true → Rising 0 sorted.new }
 {
-    let out = blended(sorted, old, p);
-    *sorted = out;
+    *sorted = blended(sorted, old, p);
 }
 
 // ---- the window
@@ -201,7 +165,6 @@ fn replace(sorted: &mut [f32; WINDOW], old: f32, p: f32)
 // The i-th power, p, goes in, and once the window is full the oldest goes out. The answer is true only
 // if the powers ascend from 0 on.
 fn order(sorted: &mut [f32; WINDOW], i: u64, old: f32, p: f32) -> bool
-    requires { length sorted.old ≡ window_size }
     ensures result { sorted.new ≡ ordered window_size i old p sorted.old }
     ensures rising { result ≡ true → Rising 0 sorted.new }
 {
@@ -220,7 +183,6 @@ fn order(sorted: &mut [f32; WINDOW], i: u64, old: f32, p: f32) -> bool
 // Sample i comes: its power takes its place in the window and goes among the ordered ones. The answer
 // is true only if these ascend from 0 on.
 pub fn take_in(window: &mut [f32; WINDOW], sorted: &mut [f32; WINDOW], i: u64, x: u64) -> bool
-    requires { length sorted.old ≡ window_size }
     ensures powers { window.new ≡ set window.old (i % window_size) (power_of x) }
     ensures ascending { sorted.new ≡ ordered window_size i (get_or window.old (i % window_size) nan) (power_of x) sorted.old }
     ensures rising { result ≡ true → Rising 0 sorted.new }
@@ -236,21 +198,19 @@ pub fn take_in(window: &mut [f32; WINDOW], sorted: &mut [f32; WINDOW], i: u64, x
 
 // The sum of the first n powers, in their order.
 fn sum(sorted: &[f32; WINDOW], n: usize) -> f64
-    requires { (n ≤ window_size) × (length sorted.now ≡ window_size) }
+    requires { n ≤ window_size }
     ensures { result ≡ foldl (add binary64) zero_f (take n sorted.now) }
 {
     let mut s = 0.0;
-    let mut k: usize = 0;
-    while k < n {
-        s = s + ieee::widen(sorted[k]);
-        k = k + 1;
+    for p in &sorted[..n] {
+        s = s + ieee::widen(*p);
     }
     s
 }
 
 // Their mean.
 fn reference(sorted: &[f32; WINDOW], n: usize) -> f64
-    requires { (n ≤ window_size) × (length sorted.now ≡ window_size) }
+    requires { n ≤ window_size }
     ensures { result ≡ mean (take n sorted.now) }
 {
     sum(sorted, n) / (n as f64)
@@ -275,7 +235,7 @@ fn is_near(x: f32, p: f32) -> bool
 
 // Whether it is known without the mean of the first k powers that a sample of power p is not flagged.
 fn is_quiet(sorted: &[f32; WINDOW], k: usize, rising: bool, p: f32) -> bool
-    requires k_lt_window_size { (k < window_size) × (length sorted.now ≡ window_size) }
+    requires kept { k < window_size }
     requires rising { rising ≡ true → Rising 0 sorted.now }
     ensures { result ≡ true → stands_out (mean (take k sorted.now)) p ≡ false }
 {
@@ -291,7 +251,7 @@ fn is_quiet(sorted: &[f32; WINDOW], k: usize, rising: bool, p: f32) -> bool
 // A sample of power p stands out from the mean of the first k powers. `rising`: it is known that the
 // powers ascend from 0 on.
 pub fn is_flagged(sorted: &[f32; WINDOW], k: usize, p: f32, rising: bool) -> bool
-    requires k_lt_window_size { (k < window_size) × (length sorted.now ≡ window_size) }
+    requires kept { k < window_size }
     requires rising { rising ≡ true → Rising 0 sorted.now }
     ensures { result ≡ stands_out (mean (take k sorted.now)) p }
 {

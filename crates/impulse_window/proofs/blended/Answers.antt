@@ -43,7 +43,7 @@ loop-k-init c =
     let n = blended_length a.old a.p a.sorted.now in
     let first = c.least.ensures ∙ ap (λ (x : Float). cond (lt x a.p) x a.p) c.moved.ensures
     ∙ sym (blended_first a.old a.p a.sorted.now nan (omega arith)) in
-    (omega arith, refl, filled (c.least.result ∷ []) m 0 c.least.result nan (omega arith) (omega arith) refl first)
+    (refl, filled (c.least.result ∷ []) m 0 c.least.result nan (omega arith) (omega arith) refl first)
 
 pub loop-k-preserved : goal.loop-k-preserved
 loop-k-preserved c =
@@ -52,10 +52,9 @@ loop-k-preserved c =
     let m = blended a.old a.p a.sorted.now in
     let n = blended_length a.old a.p a.sorted.now in
     let s = length-set i.out (i.k + 1) c.between.result in
-    let t = i.invariant.1 in (
+    let t = i.invariant.0 in (
       omega arith,
-      omega arith,
-      next a.old a.p a.sorted.now i.out i.k c.between.result (omega arith) (omega arith) i.invariant.2 c.between.ensures,
+      next a.old a.p a.sorted.now i.out i.k c.between.result (omega arith) (omega arith) i.invariant.1 c.between.ensures,
     )
 
 pub returns : goal.returns
@@ -64,4 +63,4 @@ returns c =
     let i = c.loop-k in
     let e : i.k ≡ window_size - 2 = omega arith in
     let v = c.most.ensures ∙ ap (λ (x : Float). cond (lt x a.p) a.p x) c.moved-2.ensures in
-    whole a.old a.p a.sorted.now i.out c.most.result (search rules) i.invariant.1 (rw e at i.invariant.2) v
+    whole a.old a.p a.sorted.now i.out c.most.result (search rules) i.invariant.0 (rw e at i.invariant.1) v

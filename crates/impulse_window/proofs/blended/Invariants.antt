@@ -1,6 +1,6 @@
 -- `impulse_window::blended` meets its contract: the places passed are those of the blend. Assumes nothing.
 use mathlib.Core.Path.{◌≡◌}
-use Prim.Native.Nat.{suc, ◌+◌, ◌-◌, ◌<◌}
+use Prim.Native.Nat.{suc}
 use lib.ListN.{length, take}
 use Rattle.rules.specs.Impulse.{window_size}
 use Rattle.impulse_window.specs.Rising.{blended}
@@ -8,7 +8,4 @@ use Rattle.impulse_window.proofs.blended.Given as goal
 
 abbrev pub invariant-loop-k : goal.invariant-loop-k
 invariant-loop-k l =
-    (l.k + 1 < window_size) × (length l.out ≡ window_size) × (take (suc l.k) l.out ≡ take (suc l.k) (blended l.old l.p l.sorted))
-
-abbrev pub decreases-loop-k : goal.decreases-loop-k
-decreases-loop-k l = window_size - l.k
+    (length l.out ≡ window_size) × (take (suc l.k) l.out ≡ take (suc l.k) (blended l.old l.p l.sorted))

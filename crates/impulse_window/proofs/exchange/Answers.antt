@@ -11,7 +11,7 @@ use Rattle.impulse_window.proofs.exchange.Goals as goal
 
 pub rank-at-requires : goal.rank-at-requires
 rank-at-requires c = let a = c.args in
-    (search rules, omega (arith, c.rank-gap.ensures, rank_take lt a.old (window_size - 1) (without a.sorted.now (window_size - 1))), search rules)
+    (search rules, omega (arith, c.rank-gap.ensures, rank_take lt a.old (window_size - 1) (without a.sorted.now (window_size - 1))))
 
 pub put-requires : goal.put-requires
 put-requires c =
@@ -19,7 +19,6 @@ put-requires c =
     let g = c.rank-gap in (
       omega (arith, g.ensures, rank_take lt a.old (window_size - 1) (without a.sorted.now (window_size - 1))),
       omega (arith, c.rank-at.ensures, rank_take lt a.p (window_size - 1) (without a.sorted.now g.result)),
-      search rules,
     )
 
 pub returns : goal.returns

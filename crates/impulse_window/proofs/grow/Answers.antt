@@ -10,7 +10,7 @@ use Rattle.impulse_window.proofs.grow.Goals as goal
 
 pub put-requires : goal.put-requires
 put-requires c = let a = c.args in
-    (search rules, omega (arith, c.rank-at.ensures, rank_take lt a.p a.i (without a.sorted.now a.i)), search rules)
+    (search rules, omega (arith, c.rank-at.ensures, rank_take lt a.p a.i (without a.sorted.now a.i)))
 
 pub returns : goal.returns
 returns c =

@@ -3,7 +3,6 @@ use mathlib.Core.Path.{sym, ◌∙◌, subst}
 use lib.Dec.{T}
 use lib.Ieee.{of_bits}
 use borrow.Author.Tests.{lt-ltb, le-ltb}
-use borrow.Author.Rules.{rules}
 use Rattle.rules.specs.Impulse.{window_size}
 use Rattle.impulse_window.specs.Ordered.{ordered}
 use Rattle.impulse_window.proofs.Blends.{rises}
@@ -22,10 +21,7 @@ pub replace-requires : goal.replace-requires
 replace-requires c =
     let a = c.args in
     let e = c.ascends.ensures in
-    record {
-      sorted_len = search rules;
-      rising_2 = rises a.sorted.now e.values (sym e.result ∙ c.if-ascends.true);
-    }
+    rises a.sorted.now e.values (sym e.result ∙ c.if-ascends.true)
 
 pub returns-then-ascends : goal.returns-then-ascends
 unfolding ordered of_bits

@@ -1,5 +1,5 @@
 -- `impulse_window::rank` meets its contract: the powers passed are all below p. Assumes nothing.
-use mathlib.Core.Path.{◌≡◌, sym, ap, ◌∙◌}
+use mathlib.Core.Path.{◌≡◌, sym, ap, ◌∙◌, subst}
 use mathlib.Core.List.{List}
 use Prim.Native.Nat.{ℕ, ◌-◌, ◌<◌}
 use native.Mathlib.Omega.{arith}
@@ -16,7 +16,7 @@ rest : (l : List Float) (gap : ℕ) → gap < window_size → length l ≡ windo
 rest l gap h e = let n = without_length l gap (omega arith) in omega arith
 
 pub loop-k-init : goal.loop-k-init
-loop-k-init c = (omega arith, rank_none lt c.args.p)
+loop-k-init c = rank_none lt c.args.p
 
 pub returns-then-not-beside-p : goal.returns-then-not-beside-p
 returns-then-not-beside-p c =
@@ -24,7 +24,7 @@ returns-then-not-beside-p c =
     let i = c.loop-k in
     let n = rest a.sorted.now a.gap (omega arith) (omega arith) in
     let t = sym (ap (λ (x : Float). lt x a.p) c.beside.ensures) ∙ c.if-not-beside-p.true in
-    sym (rank_stops lt a.p (without a.sorted.now a.gap) i.k a.n nan (omega arith) (omega arith) i.invariant.1 t)
+    sym (rank_stops lt a.p (without a.sorted.now a.gap) i.k a.n nan (omega arith) (omega arith) i.invariant t)
 
 pub loop-k-preserved : goal.loop-k-preserved
 loop-k-preserved c =
@@ -32,11 +32,11 @@ loop-k-preserved c =
     let i = c.loop-k in
     let n = rest a.sorted.now a.gap (omega arith) (omega arith) in
     let t = sym (ap (λ (x : Float). lt x a.p) c.beside.ensures) ∙ c.if-not-beside-p.false in
-    (omega arith, rw add-one (rank_more lt a.p (without a.sorted.now a.gap) i.k nan (omega arith) i.invariant.1 t))
+    rw add-one (rank_more lt a.p (without a.sorted.now a.gap) i.k nan (omega arith) i.invariant t)
 
 pub returns : goal.returns
 returns c =
+    let a = c.args in
     let i = c.loop-k in
-    let e : c.args.n ≡ i.k = omega (arith, i.invariant.0) in
-    sym (ap (λ (k : ℕ). rank lt c.args.p (take k (without c.args.sorted.now c.args.gap))) e
-    ∙ i.invariant.1)
+    let e : i.k ≡ a.n = omega arith in
+    sym (subst (λ (k : ℕ). rank lt a.p (take k (without a.sorted.now a.gap)) ≡ k) e i.invariant)
