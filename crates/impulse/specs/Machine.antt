@@ -1,5 +1,5 @@
 -- The impulse stage as a machine that takes one sample after the other, for any setting: what the code's contracts say of each function. Definitions only.
-use Rattle.std.specs.Prelude.{Bool, true, false, cond, ◌||◌, List, [], ◌∷◌, ◌++◌, ℕ, zero, suc, ◌+◌, ◌-◌, ◌/◌, ◌%◌, min, ltb, eqb, get_or, set, take, replicate, Float}
+use Rattle.std.specs.Prelude.{Bool, true, false, cond, ◌||◌, List, [], ◌∷◌, ◌++◌, ℕ, zero, suc, ◌+◌, ◌-◌, ◌/◌, ◌%◌, min, ltb, eqb, get_or, set, take, replicate, Float, Option, Some, None, unwrap_or}
 use Rattle.std.specs.Float.{nan}
 use Rattle.complex.specs.Complex.{word_of, sample_of}
 use Rattle.rules.specs.Constants.{zero_f}
@@ -9,17 +9,11 @@ use Rattle.impulse_pause.specs.declared.PauseEdition.{PauseEdition}
 use Rattle.impulse_pause.specs.View.{edition_of}
 use Rattle.impulse_window.specs.Ordered.{ordered, mean}
 use Rattle.impulse.specs.declared.Run.{Run}
-use Rattle.impulse.specs.declared.Open.{Open}
-use Rattle.impulse.specs.declared.Open.TheVariants.{Running, Closed}
-use Rattle.impulse.specs.declared.Left.{Left}
-use Rattle.impulse.specs.declared.Left.TheVariants.{Neighbour, Missing}
 use Rattle.impulse.specs.declared.GateSettings.{GateSettings}
 use Rattle.impulse.specs.declared.Mending.{Mending}
 use Rattle.impulse.specs.declared.Block.{Block}
 use Rattle.impulse.specs.declared.Gate.{Gate}
 use Rattle.impulse.specs.declared.ImpulseSuppressor.{ImpulseSuppressor}
-use Rattle.impulse.specs.declared.Answer.{Answer}
-use Rattle.impulse.specs.declared.Answer.TheVariants.{Released, Nothing}
 
 -- the setting that the code has: the standard one, with the gate's block length and mode
 abbrev pub setting_of : Gate → Setting
@@ -32,7 +26,7 @@ gate_settings s e = record { apply = s.apply; edition = e; blocklen = s.block }
 -- ---- the beginning
 
 abbrev pub no_run : Mending
-no_run = record { run = Closed; left = Missing }
+no_run = record { run = None; left = None }
 
 abbrev pub first_block : Block
 first_block = record { number = 0; flagged = 0; paused = false }
@@ -71,9 +65,9 @@ entered g j =
     cond (eqb number g.block.number) g (with_block g (next_block g number))
 
 -- a flagged sample j opens a run or lengthens it
-abbrev pub grown : Open → ℕ → Bool → Run
-grown Closed j paused = record { start = j; len = 1; paused = paused }
-grown (Running r) j paused = record { start = r.start; len = r.len + 1; paused = r.paused || paused }
+abbrev pub grown : Option Run → ℕ → Bool → Run
+grown None j paused = record { start = j; len = 1; paused = paused }
+grown (Some r) j paused = record { start = r.start; len = r.len + 1; paused = r.paused || paused }
 
 -- with so many of its samples flagged
 abbrev pub with_flagged : Block → ℕ → Block
@@ -81,11 +75,11 @@ with_flagged b n = record { number = b.number; flagged = n; paused = b.paused }
 
 -- after a flagged sample
 abbrev pub with_run : Gate → Run → Gate
-with_run g r = with_block (with_mending g (record { run = Running r; left = g.mending.left })) (with_flagged g.block (g.block.flagged + 1))
+with_run g r = with_block (with_mending g (record { run = Some r; left = g.mending.left })) (with_flagged g.block (g.block.flagged + 1))
 
 -- after a sample x that is not flagged
 abbrev pub with_neighbour : Gate → ℕ → Gate
-with_neighbour g x = with_mending g (record { run = Closed; left = Neighbour x })
+with_neighbour g x = with_mending g (record { run = None; left = Some x })
 
 -- ---- a run in the circular array of pending samples
 
@@ -103,10 +97,6 @@ unfoldable pub write_run : ℕ → List ℕ → ℕ → ℕ → ℕ → ℕ → 
 write_run size l left right a n zero = l
 write_run size l left right a n (suc t) = set (write_run size l left right a n t) ((a + t) % size) (mended_word left right t n)
 
-abbrev pub neighbour_or : Left → ℕ → ℕ
-neighbour_or Missing right = right
-neighbour_or (Neighbour x) right = x
-
 -- ---- judging
 
 -- what becomes of a run when a sample that is not flagged is judged
@@ -120,17 +110,17 @@ closing s r l =
     cond (mendable s r.paused r.len) (mended_run r.start r.len (read_run (lookahead s) l r.start r.len))
     (kept_run r.start r.len (ltb s.run r.len))
 
-unfoldable pub closing_pending : Setting → Run → Left → ℕ → List ℕ → List ℕ
+unfoldable pub closing_pending : Setting → Run → Option ℕ → ℕ → List ℕ → List ℕ
 closing_pending s r left right l =
-    cond (mendable s r.paused r.len) (write_run (lookahead s) l (neighbour_or left right) right r.start r.len r.len) l
+    cond (mendable s r.paused r.len) (write_run (lookahead s) l (unwrap_or left right) right r.start r.len r.len) l
 
-abbrev pub ending : Setting → Open → List ℕ → Ending
-ending s Closed l = going
-ending s (Running r) l = closing s r l
+abbrev pub ending : Setting → Option Run → List ℕ → Ending
+ending s None l = going
+ending s (Some r) l = closing s r l
 
-abbrev pub ending_pending : Setting → Open → Left → ℕ → List ℕ → List ℕ
-ending_pending s Closed left right l = l
-ending_pending s (Running r) left right l = closing_pending s r left right l
+abbrev pub ending_pending : Setting → Option Run → Option ℕ → ℕ → List ℕ → List ℕ
+ending_pending s None left right l = l
+ending_pending s (Some r) left right l = closing_pending s r left right l
 
 pub record Judgement : Type 0 where
   pub gate : Gate
@@ -167,8 +157,8 @@ verdict s g i window sorted l =
 -- ---- pushing
 
 -- 'If applying, sample k is released when k+21 arrives, otherwise with its own call': x is the i-th sample, and `out` stands in its place
-unfoldable pub released : ℕ → Bool → ℕ → ℕ → ℕ → Answer
-released size apply i out x = cond apply (cond (ltb i size) Nothing (Released out)) (Released x)
+unfoldable pub released : ℕ → Bool → ℕ → ℕ → ℕ → Option ℕ
+released size apply i out x = cond apply (cond (ltb i size) None (Some out)) (Some x)
 
 -- the arrays with sample x in them
 abbrev pub window_with : Setting → ImpulseSuppressor → ℕ → List Float
@@ -182,7 +172,7 @@ pending_with s m x = set m.pending (m.gate.received % lookahead s) x
 
 pub record Outcome : Type 0 where
   pub state : ImpulseSuppressor
-  pub answer : Answer
+  pub answer : Option ℕ
   pub uncertain : Bool
   pub ended : Ending
 

@@ -1,5 +1,5 @@
 -- What number 5 tests of the stage's state, as bounds that every state reached from usable samples keeps. Definitions only.
-use Rattle.std.specs.Prelude.{◌≡◌, ℕ, ◌+◌, ◌^◌, ◌≤◌, ◌<◌, min, Float, length, get_or, take}
+use Rattle.std.specs.Prelude.{◌≡◌, ℕ, ◌+◌, ◌^◌, ◌≤◌, ◌<◌, min, Float, length, get_or, take, Some}
 use Rattle.std.specs.Float.{binary32}
 use Rattle.std.specs.Float.Ieee.{lt}
 use Rattle.ieee.specs.Bound.{Within}
@@ -10,8 +10,6 @@ use Rattle.rules.specs.Sort.{sort}
 use Rattle.rules.specs.Lists.{All}
 use Rattle.rules.specs.Impulse.{Setting, width, lookahead, judged}
 use Rattle.impulse.specs.declared.Run.{Run}
-use Rattle.impulse.specs.declared.Open.TheVariants.{Running}
-use Rattle.impulse.specs.declared.Left.TheVariants.{Neighbour}
 use Rattle.impulse.specs.declared.ImpulseSuppressor.{ImpulseSuppressor}
 use Rattle.impulse.specs.State.{padded}
 
@@ -28,9 +26,9 @@ pub record Sound (s : Setting) (n : ℕ) (m : ImpulseSuppressor) : Type 0 where
   pub block : m.gate.block.number ≤ n
   pub flags : m.gate.block.flagged ≤ n
   -- an open run is not empty, and ends at the next sample to be judged
-  pub run : (r : Run) → m.gate.mending.run ≡ Running r → (0 < r.len) × (r.start + r.len ≡ judged s n)
+  pub run : (r : Run) → m.gate.mending.run ≡ Some r → (0 < r.len) × (r.start + r.len ≡ judged s n)
   -- the parts, within 1e18; the powers, within 1e36, with no sign bit
-  pub left : (x : ℕ) → m.gate.mending.left ≡ Neighbour x → WordWithin (2 ^ 59) x
+  pub left : (x : ℕ) → m.gate.mending.left ≡ Some x → WordWithin (2 ^ 59) x
   pub pending : All (WordWithin (2 ^ 59)) m.pending
   pub powers : All PowerWithin m.window
   -- the sorted list is that window sorted

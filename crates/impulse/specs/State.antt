@@ -1,5 +1,5 @@
 -- What stands when the first n samples of an input have come, given by the rules for the whole input; and what the n-th push says. Definitions only.
-use Rattle.std.specs.Prelude.{Bool, false, cond, List, ◌++◌, map, ℕ, suc, ◌-◌, ltb, eqb, length, take, drop, replicate, Float}
+use Rattle.std.specs.Prelude.{Bool, false, cond, List, ◌++◌, map, ℕ, suc, ◌-◌, ltb, eqb, length, take, drop, replicate, Float, Option, Some, None}
 use Rattle.std.specs.Float.Ieee.{lt}
 use Rattle.rules.specs.Constants.{zero_f}
 use Rattle.rules.specs.Lists.{at}
@@ -10,16 +10,10 @@ use Rattle.rules.specs.Impulse.{newest_block, flags_in, paused_in}
 use Rattle.impulse_pause.specs.declared.PauseEdition.{PauseEdition}
 use Rattle.impulse_pause.specs.View.{edition_of}
 use Rattle.impulse.specs.declared.Run.{Run}
-use Rattle.impulse.specs.declared.Open.{Open}
-use Rattle.impulse.specs.declared.Open.TheVariants.{Running, Closed}
-use Rattle.impulse.specs.declared.Left.{Left}
-use Rattle.impulse.specs.declared.Left.TheVariants.{Neighbour, Missing}
 use Rattle.impulse.specs.declared.Mending.{Mending}
 use Rattle.impulse.specs.declared.Block.{Block}
 use Rattle.impulse.specs.declared.Gate.{Gate}
 use Rattle.impulse.specs.declared.ImpulseSuppressor.{ImpulseSuppressor}
-use Rattle.impulse.specs.declared.Answer.{Answer}
-use Rattle.impulse.specs.declared.Answer.TheVariants.{Released, Nothing}
 use Rattle.impulse.specs.Machine.{gate_settings, Ending, going, kept_run, mended_run, Outcome}
 use Rattle.impulse.specs.Circle.{circle}
 
@@ -30,12 +24,12 @@ module _ (s : Setting) (F P : ℕ → Bool) where
   abbrev pub run_before : ℕ → Run
   run_before j = record { start = start F j; len = before F j; paused = touches s P (start F j) (before F j) }
 
-  unfoldable pub open_at : ℕ → Open
-  open_at j = cond (ltb 0 (before F j)) (Running (run_before j)) Closed
+  unfoldable pub open_at : ℕ → Option Run
+  open_at j = cond (ltb 0 (before F j)) (Some (run_before j)) None
 
 -- the last sample that is not flagged stands right before the run
-unfoldable pub left_at : (ℕ → Bool) → List ℕ → ℕ → Left
-left_at F xs j = cond (eqb (start F j) 0) Missing (Neighbour (at xs (start F j - 1)))
+unfoldable pub left_at : (ℕ → Bool) → List ℕ → ℕ → Option ℕ
+left_at F xs j = cond (eqb (start F j) 0) None (Some (at xs (start F j - 1)))
 
 abbrev pub mending_at : Setting → (ℕ → Bool) → (ℕ → Bool) → List ℕ → ℕ → Mending
 mending_at s F P xs j = record { run = open_at s F P j; left = left_at F xs j }
@@ -83,11 +77,11 @@ state_at s e xs n =
 
 -- ---- what the push of sample n (from 0) says
 
-unfoldable pub answer_at : Setting → PauseEdition → List ℕ → ℕ → Answer
+unfoldable pub answer_at : Setting → PauseEdition → List ℕ → ℕ → Option ℕ
 answer_at s e xs n =
     cond s.apply
-    (cond (ltb n (lookahead s)) Nothing (Released (value s (flagged s xs) (paused_by s e xs) xs (judged s (length xs)) (n - lookahead s))))
-    (Released (at xs n))
+    (cond (ltb n (lookahead s)) None (Some (value s (flagged s xs) (paused_by s e xs) xs (judged s (length xs)) (n - lookahead s))))
+    (Some (at xs n))
 
 abbrev pub outcome_at : Setting → PauseEdition → List ℕ → ℕ → Outcome
 outcome_at s e xs n =

@@ -1,10 +1,7 @@
 -- The machine's answers as the code's structs, and the code's structs as the rules' events. Definitions only.
-use Rattle.std.specs.Prelude.{Bool, cond, List, [], ◌∷◌, ◌++◌, ℕ, ◌-◌, get_or, take, Float}
+use Rattle.std.specs.Prelude.{Bool, cond, List, [], ◌∷◌, ◌++◌, ℕ, ◌-◌, get_or, take, Option, Some, None}
 use Rattle.rules.specs.Impulse.{Event, uncertain, kept, mended}
-use Rattle.impulse.specs.declared.Gate.{Gate}
 use Rattle.impulse.specs.declared.ImpulseSuppressor.{ImpulseSuppressor}
-use Rattle.impulse.specs.declared.Answer.{Answer}
-use Rattle.impulse.specs.declared.Answer.TheVariants.{Released, Nothing}
 use Rattle.stage_log.specs.declared.Repair.{Repair}
 use Rattle.impulse.specs.declared.Ended.{Ended}
 use Rattle.impulse.specs.declared.Ended.TheVariants.{Going, Kept, Mended}
@@ -13,9 +10,6 @@ use Rattle.impulse.specs.declared.Pushed.{Pushed}
 use Rattle.impulse.specs.Machine.{Ending, going, kept_run, mended_run, Judgement, Outcome}
 
 -- ---- the code's structs
-
-abbrev pub suppressor_of : Gate → List Float → List Float → List ℕ → ImpulseSuppressor
-suppressor_of g window sorted pending = record { gate = g; window = window; sorted = sorted; pending = pending }
 
 -- 'four originals .. (unused ones 0)'
 unfoldable pub repair_of : ℕ → ℕ → List ℕ → Repair
@@ -27,10 +21,14 @@ ended_of (kept_run a n long) = Kept a n long
 ended_of (mended_run a n os) = Mended (repair_of a n os)
 
 abbrev pub judged_of : Judgement → Judged
-judged_of d = record { gate = d.gate; uncertain = d.uncertain; ended = ended_of d.ended }
+judged_of d = record { uncertain = d.uncertain; ended = ended_of d.ended }
+
+-- the suppressor after it
+abbrev pub judged_by : ImpulseSuppressor → Judgement → ImpulseSuppressor
+judged_by m d = record { gate = d.gate; window = m.window; sorted = m.sorted; pending = d.pending }
 
 abbrev pub pushed_of : Outcome → Pushed
-pushed_of o = record { gate = o.state.gate; answer = o.answer; uncertain = o.uncertain; ended = ended_of o.ended }
+pushed_of o = record { answer = o.answer; uncertain = o.uncertain; ended = ended_of o.ended }
 
 -- ---- events
 
@@ -56,6 +54,6 @@ abbrev pub pushed_events : ℕ → ℕ → Pushed → List Event
 pushed_events half n p = told (n - half) p.uncertain (ended_events p.ended)
 
 -- what a push hands on
-abbrev pub given : Answer → List ℕ
-given Nothing = []
-given (Released x) = x ∷ []
+abbrev pub given : Option ℕ → List ℕ
+given None = []
+given (Some x) = x ∷ []

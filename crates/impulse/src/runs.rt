@@ -3,10 +3,10 @@
 ghost use Rattle.std.specs.Prelude.{◌≡◌, ◌+◌, ◌%◌, ◌^◌, ◌≤◌, ◌<◌, get_or, set};
 ghost use Rattle.complex.specs.View.{view32, make32};
 ghost use Rattle.rules.specs.Impulse.{lookahead_size, longest_run, between};
-ghost use Rattle.impulse.specs.Machine.{neighbour_or, read_run, mended_word, write_run};
+ghost use Rattle.impulse.specs.Machine.{read_run, mended_word, write_run};
 ghost use Rattle.impulse.specs.View.{repair_of};
 
-use crate::{ImpulseSuppressor, Left};
+use crate::ImpulseSuppressor;
 use complex::Complex32;
 use stage_log::Repair;
 
@@ -15,19 +15,10 @@ pub fn hold(pending: &mut [u64; ImpulseSuppressor::LOOKAHEAD], i: u64, x: u64) -
     ensures result { result ≡ get_or pending.old (i % lookahead_size) 0 }
     ensures words { pending.new ≡ set pending.old (i % lookahead_size) x }
 {
-    let place = (i % ImpulseSuppressor::LOOKAHEAD as u64) as usize;
-    let out = pending[place];
-    pending[place] = x;
-    out
-}
-
-pub fn neighbour(left: Left, right: u64) -> u64
-    ensures { result ≡ neighbour_or left right }
-{
-    match left {
-        Left::Neighbour(x) => x,
-        Left::Missing => right,
-    }
+    std::mem::replace(
+        &mut pending[(i % ImpulseSuppressor::LOOKAHEAD as u64) as usize],
+        x,
+    )
 }
 
 // Original t of the run of n that starts at `start`, and 0 past its end.
@@ -84,10 +75,8 @@ pub fn mend(
     requires { (n ≤ longest_run) × (start + n ≤ 2 ^ 52) }
     ensures { pending.new ≡ write_run lookahead_size pending.old left right start n n }
 {
-    let mut t: u64 = 0;
-    while t < n {
+    for t in 0..n {
         let place = ((start + t) % ImpulseSuppressor::LOOKAHEAD as u64) as usize;
         pending[place] = mended_word(left, right, t, n);
-        t = t + 1;
     }
 }

@@ -4,50 +4,40 @@ use mathlib.Core.List.{List, [], ◌∷◌, ◌++◌, append-nil}
 use Prim.Native.Nat.{ℕ, suc, ◌+◌, ◌-◌, ◌^◌, ◌≤◌, ◌<◌}
 use native.Mathlib.Nat.{add-sub_of_le}
 use native.Mathlib.Omega.{arith}
-use lib.Dec.{lit<}
 use lib.ListN.{length, get_or, take, drop, length-append, length-drop}
 use lib.Seq.{drop-drop, take_all, take-suc, take-append_seam, drop-append-add, get_or-drop, get_or-append-add, length-take-le}
-use lib.Ieee.{Float}
-use Rattle.rules.specs.Impulse.{Setting, window_size, next_judged}
-use Rattle.impulse.specs.declared.Gate.{Gate}
+use Rattle.rules.specs.Impulse.{Setting, next_judged}
 use Rattle.impulse.specs.declared.Pushed.{Pushed}
 use Rattle.impulse.specs.declared.ImpulseSuppressor.{ImpulseSuppressor}
 use Rattle.impulse.specs.Machine.{setting_of, push}
-use Rattle.impulse.specs.View.{suppressor_of, pushed_of, given}
+use Rattle.impulse.specs.View.{pushed_of, given}
 use Rattle.impulse.specs.Room.{Room}
 use Rattle.impulse.specs.Running.{outs, step, emit, news}
 use Rattle.impulse.proofs.laws.RunningLaws.{after_append, outs_append}
 use Rattle.impulse_slice.specs.Noted.{Noted, note_all, doubts, filled_events, ended_end, state_after, handed, told, placed, over, Roomy}
 use Rattle.impulse_slice.proofs.laws.NotesLaws.{note_none, note_append, said_same, roomy_up}
 use Rattle.impulse_slice.proofs.laws.MoveLaws.{push_moves}
-use Rattle.impulse_slice.proofs.laws.StageLaws.{setting_after, room_after, sorted_after, handed_most, roomy_after}
+use Rattle.impulse_slice.proofs.laws.StageLaws.{setting_after, room_after, handed_most, roomy_after}
 
 -- ---- one push, by what the code answers
 
-module _ (g : Gate) (w s : List Float) (l : List ℕ) (x : ℕ) (p : Pushed) (e : p ≡ pushed_of (push (setting_of g) (suppressor_of g w s l) x)) where
-  pub next_state : (w' s' : List Float) (l' : List ℕ)
-      → w' ≡ (push (setting_of g) (suppressor_of g w s l) x).state.window
-      → s' ≡ (push (setting_of g) (suppressor_of g w s l) x).state.sorted
-      → l' ≡ (push (setting_of g) (suppressor_of g w s l) x).state.pending
-      → suppressor_of p.gate w' s' l' ≡ step (setting_of g) (suppressor_of g w s l) x
-  next_state w' s' l' b c d = λ i. record { gate = (e i).gate; window = b i; sorted = c i; pending = d i }
-
-  pub emitted : given p.answer ≡ emit (setting_of g) (suppressor_of g w s l) x
+module _ (m : ImpulseSuppressor) (x : ℕ) (p : Pushed) (e : p ≡ pushed_of (push (setting_of m.gate) m x)) where
+  pub emitted : given p.answer ≡ emit (setting_of m.gate) m x
   emitted = ap (λ (q : Pushed). given q.answer) e
 
-  pub said : (span_capacity repair_capacity : ℕ) (n n' : Noted) (j : ℕ) → j ≡ next_judged g.received
+  pub said : (span_capacity repair_capacity : ℕ) (n n' : Noted) (j : ℕ) → j ≡ next_judged m.gate.received
       → n' ≡ note_all span_capacity repair_capacity n (doubts j p.uncertain ++ filled_events p.ended)
-      → n' ≡ note_all span_capacity repair_capacity n (news (setting_of g) (suppressor_of g w s l) x)
+      → n' ≡ note_all span_capacity repair_capacity n (news (setting_of m.gate) m x)
   said span_capacity repair_capacity n n' j f h =
-      let o = push (setting_of g) (suppressor_of g w s l) x in
+      let o = push (setting_of m.gate) m x in
       h
       ∙ (λ i. note_all span_capacity repair_capacity n (doubts (f i) (e i).uncertain ++ filled_events (e i).ended))
-      ∙ said_same span_capacity repair_capacity n (next_judged g.received) o.uncertain o.ended
+      ∙ said_same span_capacity repair_capacity n (next_judged m.gate.received) o.uncertain o.ended
 
   -- a run that ended lies before the sample
-  pub ended_early : Room g → ended_end p.ended ≤ 2 ^ 60
+  pub ended_early : Room m.gate → ended_end p.ended ≤ 2 ^ 60
   ended_early r =
-      let q = (push_moves (setting_of g) (suppressor_of g w s l) x).last in
+      let q = (push_moves (setting_of m.gate) m x).last in
       subst (λ (q : Pushed). ended_end q.ended ≤ 2 ^ 60) (sym e) (omega (arith, q, r.behind, r.early))
 
 -- ---- a list with others in front
@@ -117,9 +107,6 @@ module _ (span_capacity repair_capacity held : ℕ) (m₀ : ImpulseSuppressor) (
 
     pub length_same : length xs ≡ length xs₀
     length_same = ap length g.written ∙ over_length (handed s m₀ (taken k)) xs₀ (omega (arith, handed_few k g.inside, g.inside))
-
-    pub going_full : length m₀.sorted ≡ window_size → length m.sorted ≡ window_size
-    going_full h = ap (λ (q : ImpulseSuppressor). length q.sorted) g.state ∙ sorted_after s m₀ (taken k) (lit< tt) h
 
     pub going_room : k < length xs₀ → (held < length xs₀ → Room m₀.gate × (m₀.gate.received + (length xs₀ - held) ≤ 2 ^ 50)) → Room m.gate
     going_room h may =

@@ -1,5 +1,5 @@
 -- The log with its stores, as the impulse stage's events move it. Definitions only.
-use Rattle.std.specs.Prelude.{Bool, cond, ℕ, ◌+◌, ◌≤◌, ◌<◌, eqb, length, take, drop}
+use Rattle.std.specs.Prelude.{Bool, cond, ℕ, ◌+◌, ◌≤◌, ◌<◌, eqb, length, take, drop, Option, Some, None}
 use mathlib.Core.List.{List, [], ◌∷◌, ◌++◌, foldl}
 use Rattle.rules.specs.Lists.{indicator}
 use Rattle.rules.specs.Impulse.{Setting, Event, uncertain, kept, mended}
@@ -7,8 +7,7 @@ use Rattle.rules.specs.Log as rules
 use Rattle.rules.specs.Log.{ring_number, impulse, Repaired, Flagged, Uncertain, Span, span_of, append, repair_words, repair_width, marks_of, Sound}
 use Rattle.stage_log.specs.View.{Logged, ring_in, marks_at, marked_at}
 use Rattle.stage_log.specs.Ready.{Twelve, Bounded}
-use Rattle.impulse.specs.declared.Open.{Open}
-use Rattle.impulse.specs.declared.Open.TheVariants.{Running, Closed}
+use Rattle.impulse.specs.declared.Run.{Run}
 use Rattle.impulse.specs.declared.Ended.{Ended}
 use Rattle.impulse.specs.declared.Ended.TheVariants.{Going, Kept, Mended}
 use Rattle.impulse.specs.declared.ImpulseSuppressor.{ImpulseSuppressor}
@@ -98,9 +97,9 @@ pub record Rings (span_capacity : ℕ) (x : Logged) : Type 0 where
 
 -- ---- what the notes must have room for
 
-abbrev pub run_length : Open → ℕ
-run_length Closed = 0
-run_length (Running r) = r.len
+abbrev pub run_length : Option Run → ℕ
+run_length None = 0
+run_length (Some r) = r.len
 
 -- every counter is at most b, and each ring is sound
 pub record Roomy (span_capacity repair_capacity b : ℕ) (x : Noted) : Type 0 where

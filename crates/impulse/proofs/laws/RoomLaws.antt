@@ -1,13 +1,12 @@
 -- A push leaves the gate room for the next one, and the ordered array its length. Assumes nothing.
-use Rattle.std.specs.Prelude.{◌≡◌, refl, Bool, true, false, cond, List, ◌++◌, ℕ, ◌+◌, ◌-◌, ◌/◌, ◌%◌, ◌^◌, ◌≤◌, ◌<◌, ltb, eqb, length, get_or, take, drop, Float}
+use Rattle.std.specs.Prelude.{◌≡◌, refl, Bool, true, false, cond, List, ◌++◌, ℕ, ◌+◌, ◌-◌, ◌/◌, ◌%◌, ◌^◌, ◌≤◌, ◌<◌, ltb, eqb, length, get_or, take, drop, Float, Option, Some, None}
 use Rattle.std.proofs.Common.{ap, sym, subst, arith, length-append, length-take, length-drop, length-take-le, ltb-true}
 use Rattle.std.specs.Float.{nan}
 use Rattle.std.specs.Float.Ieee.{lt}
 use Rattle.rules.specs.Sort.{insert, remove}
 use Rattle.rules.proofs.laws.SortLaws.{insert_length, remove_length}
 use Rattle.rules.specs.Impulse.{Setting, standard, width}
-use Rattle.impulse.specs.declared.Open.{Open}
-use Rattle.impulse.specs.declared.Open.TheVariants.{Running, Closed}
+use Rattle.impulse.specs.declared.Run.{Run}
 use Rattle.impulse.specs.declared.GateSettings.{GateSettings}
 use Rattle.impulse.specs.declared.Mending.{Mending}
 use Rattle.impulse.specs.declared.Gate.{Gate}
@@ -51,9 +50,9 @@ ordered_length w i old p l z h = go (ltb i w) refl
 
 -- ---- room
 
-grown_end : (o : Open) (j n : ℕ) (paused : Bool) → run_end o ≤ n → j ≤ n → run_end (Running (grown o j paused)) ≤ n + 1
-grown_end Closed j n paused h k = omega arith
-grown_end (Running r) j n paused h k = omega arith
+grown_end : (o : Option Run) (j n : ℕ) (paused : Bool) → run_end o ≤ n → j ≤ n → run_end (Some (grown o j paused)) ≤ n + 1
+grown_end None j n paused h k = omega arith
+grown_end (Some r) j n paused h k = omega arith
 
 judge_room : (s : Setting) (g : Gate) (j : ℕ) (p : Float) (sorted : List Float) (l : List ℕ)
     → Room g → g.received < 2 ^ 50 → j ≤ g.received → Room (judge s (arrived g) j p sorted l).gate

@@ -1,6 +1,6 @@
 -- What number 5 tests holds of every state that usable samples lead to: the pending and left parts, the window's powers and their signs, the sorted list, the
 -- open run, the counters. Assumes nothing.
-use Rattle.std.specs.Prelude.{◌≡◌, Bool, true, false, cond, ◌&&◌, T, ltb, eqb, length, get_or, set, take, replicate}
+use Rattle.std.specs.Prelude.{◌≡◌, Bool, true, false, cond, ◌&&◌, T, ltb, eqb, length, get_or, set, take, replicate, Option, Some, None}
 use Rattle.std.proofs.Math.Path.{refl, ap}
 use Rattle.std.proofs.Common.{sym, ◌∙◌, subst, mod-lt, mod-eq_of_lt, div-le_self, lit≤, length-set, length-append, take-suc-set, take_all, ltb-true, ltb-false}
 use mathlib.Core.List.{List, [], ◌∷◌}
@@ -22,10 +22,6 @@ use Rattle.rules.specs.Impulse.{newest_block}
 use Rattle.rules.proofs.laws.Runs.{before_le, count_le, hit_says}
 use Rattle.impulse_pause.specs.declared.PauseEdition.{PauseEdition}
 use Rattle.impulse.specs.declared.Run.{Run}
-use Rattle.impulse.specs.declared.Open.{Open}
-use Rattle.impulse.specs.declared.Open.TheVariants.{Running, Closed}
-use Rattle.impulse.specs.declared.Left.{Left}
-use Rattle.impulse.specs.declared.Left.TheVariants.{Neighbour, Missing}
 use Rattle.impulse.specs.Circle.{circle}
 use Rattle.impulse.proofs.laws.CircleLaws.{circle_length, circle_read_any, circle_blank, around}
 use Rattle.impulse.specs.State.{run_before, open_at, left_at, newest_powers, padded, paused_by, state_at}
@@ -152,15 +148,15 @@ module _ (good : Float → Type 0) (o : Ordered lt good) (zero-good : good zero_
 
 -- ---- the open run and the left neighbour
 
-open_ends : (s : Setting) (F P : ℕ → Bool) (j : ℕ) (r : Run) → open_at s F P j ≡ Running r → (0 < r.len) × (r.start + r.len ≡ j)
+open_ends : (s : Setting) (F P : ℕ → Bool) (j : ℕ) (r : Run) → open_at s F P j ≡ Some r → (0 < r.len) × (r.start + r.len ≡ j)
 unfolding open_at
 open_ends s F P j r = go (ltb 0 (before F j)) refl
   where
-    out : Open → Run
-    out Closed = r
-    out (Running q) = q
+    out : Option Run → Run
+    out None = r
+    out (Some q) = q
 
-    go : (b : Bool) → ltb 0 (before F j) ≡ b → cond b (Running (run_before s F P j)) Closed ≡ Running r → (0 < r.len) × (r.start + r.len ≡ j)
+    go : (b : Bool) → ltb 0 (before F j) ≡ b → cond b (Some (run_before s F P j)) None ≡ Some r → (0 < r.len) × (r.start + r.len ≡ j)
     go true t e =
         let h = ltb-true 0 (before F j) t in
         let b = before_le F j in
@@ -169,15 +165,15 @@ open_ends s F P j r = go (ltb 0 (before F j)) refl
     go false t e = let z : ◌≡◌ {A = ℕ} 0 1 = cc in absurd (omega arith)
 
 left_keeps : (A : ℕ → Type 0) (F : ℕ → Bool) (xs : List ℕ) → ((i : ℕ) → i < length xs → A (at xs i)) → (j : ℕ) → j ≤ length xs → (x : ℕ)
-    → left_at F xs j ≡ Neighbour x → A x
+    → left_at F xs j ≡ Some x → A x
 unfolding left_at
 left_keeps A F xs each j h x = go (eqb (start F j) 0) refl
   where
-    out : Left → ℕ
-    out Missing = x
-    out (Neighbour q) = q
+    out : Option ℕ → ℕ
+    out None = x
+    out (Some q) = q
 
-    go : (b : Bool) → eqb (start F j) 0 ≡ b → cond b Missing (Neighbour (at xs (start F j - 1))) ≡ Neighbour x → A x
+    go : (b : Bool) → eqb (start F j) 0 ≡ b → cond b None (Some (at xs (start F j - 1))) ≡ Some x → A x
     go true t e = let z : ◌≡◌ {A = ℕ} 0 1 = cc in absurd (omega arith)
     go false t e = let d = eqb-false (start F j) 0 t in subst A (ap out e) (each (start F j - 1) (omega (arith, d)))
 

@@ -1,5 +1,5 @@
 -- One push leads from what the rules give for n samples to what they give for n + 1. Assumes nothing.
-use Rattle.std.specs.Prelude.{◌≡◌, ◌≢◌, not, ◌&&◌, ◌||◌, ℕ, suc, ◌+◌, ◌-◌, ◌%◌, ◌≤◌, ◌<◌, min, leb, eqb, length, set, take, drop, replicate}
+use Rattle.std.specs.Prelude.{◌≡◌, ◌≢◌, not, ◌&&◌, ◌||◌, ℕ, suc, ◌+◌, ◌-◌, ◌%◌, ◌≤◌, ◌<◌, min, leb, eqb, length, set, take, drop, replicate, Option, Some, None, unwrap_or}
 use Rattle.std.proofs.Math.Path.{refl, ap, sym}
 use Rattle.std.proofs.Common.{◌∙◌, subst, mod-eq_of_lt, length-drop, take-suc, take_all, take_at, drop-cons, get_or-take, length-take-le}
 use Rattle.std.proofs.Math.Bool.{Bool, true, false, cond}
@@ -26,13 +26,9 @@ use Rattle.rules.proofs.laws.Runs.{value_hit, value_miss, value_raw, value_fixed
 use Rattle.impulse_pause.specs.declared.PauseEdition.{PauseEdition}
 use Rattle.impulse_pause.specs.View.{edition_of}
 use Rattle.impulse.specs.declared.Run.{Run}
-use Rattle.impulse.specs.declared.Open.TheVariants.{Running, Closed}
-use Rattle.impulse.specs.declared.Left.TheVariants.{Neighbour, Missing}
 use Rattle.impulse.specs.declared.Gate.{Gate}
-use Rattle.impulse.specs.declared.Answer.{Answer}
-use Rattle.impulse.specs.declared.Answer.TheVariants.{Released, Nothing}
 use Rattle.impulse_window.specs.Ordered.{ordered, mean}
-use Rattle.impulse.specs.Machine.{arrived, with_mending, with_block, next_block, with_flagged, entered, grown, read_run, mended_word, write_run, neighbour_or}
+use Rattle.impulse.specs.Machine.{arrived, with_mending, with_block, next_block, with_flagged, entered, grown, read_run, mended_word, write_run}
 use Rattle.impulse.specs.Machine.{going, kept_run, mended_run, closing, closing_pending, ending, ending_pending, Judgement, decided, judge, released}
 use Rattle.impulse.specs.Machine.{window_with, sorted_with, pending_with, verdict, push, flagged_by}
 use Rattle.impulse.specs.Circle.{circle}
@@ -176,11 +172,11 @@ flag_is s xs n j e h =
 -- ---- the run and its left neighbour, for any flags and any paused blocks
 
 module _ (s : Setting) (F P : ℕ → Bool) (xs : List ℕ) where
-  open_some : (j : ℕ) → 0 < before F j → open_at s F P j ≡ Running (run_before s F P j)
+  open_some : (j : ℕ) → 0 < before F j → open_at s F P j ≡ Some (run_before s F P j)
   unfolding open_at
   open_some j h = rw (lt-ltb 0 (before F j) h)
 
-  open_none : (j : ℕ) → before F j ≡ 0 → open_at s F P j ≡ Closed
+  open_none : (j : ℕ) → before F j ≡ 0 → open_at s F P j ≡ None
   unfolding open_at
   open_none j e = rw (le-ltb 0 (before F j) (omega arith))
 
@@ -189,7 +185,7 @@ module _ (s : Setting) (F P : ℕ → Bool) (xs : List ℕ) where
   grown_is j e = go (before_on F j e) (start_on F j e) (touches_more s F P j e) (ltb 0 (before F j)) refl
     where
       Target : Bool → Type 0
-      Target t = grown (cond t (Running (run_before s F P j)) Closed) j (P (block_of s j)) ≡ run_before s F P (suc j)
+      Target t = grown (cond t (Some (run_before s F P j)) None) j (P (block_of s j)) ≡ run_before s F P (suc j)
 
       go : before F (suc j) ≡ suc (before F j) → start F (suc j) ≡ start F j
           → touches s P (start F (suc j)) (before F (suc j)) ≡ touches s P (start F j) (before F j) || P (block_of s j)
@@ -210,18 +206,18 @@ module _ (s : Setting) (F P : ℕ → Bool) (xs : List ℕ) where
   unfolding left_at
   left_on j e = let a = start_on F j e in rw a
 
-  left_off : (j : ℕ) → F j ≡ false → Neighbour (at xs j) ≡ left_at F xs (suc j)
+  left_off : (j : ℕ) → F j ≡ false → Some (at xs j) ≡ left_at F xs (suc j)
   unfolding left_at
   left_off j e =
       let a = start_off F j e in
       let b : start F (suc j) - 1 ≡ j = omega arith in
       rw (ne_eqb (start F (suc j)) 0 (omega arith), b)
 
-  left_is : (j x : ℕ) → neighbour_or (left_at F xs j) x ≡ left_of xs (start F j) x
+  left_is : (j x : ℕ) → unwrap_or (left_at F xs j) x ≡ left_of xs (start F j) x
   unfolding left_at
   left_is j x = go (eqb (start F j) 0)
     where
-      go : (b : Bool) → neighbour_or (cond b Missing (Neighbour (at xs (start F j - 1)))) x ≡ cond b x (at xs (start F j - 1))
+      go : (b : Bool) → unwrap_or (cond b None (Some (at xs (start F j - 1)))) x ≡ cond b x (at xs (start F j - 1))
       go true = refl
       go false = refl
 
@@ -339,7 +335,7 @@ module _ (s : Setting) (ed : PauseEdition) (F P : ℕ → Bool) (xs : List ℕ) 
         mends_is b m = rw (e, t) m
 
         go : (b : Bool) → able ≡ b
-            → cond b (write_run (lookahead s) (pend n j) (neighbour_or (left_at F xs j) (at xs j)) (at xs j) (start F j) (before F j) (before F j)) (pend n j)
+            → cond b (write_run (lookahead s) (pend n j) (unwrap_or (left_at F xs j) (at xs j)) (at xs j) (start F j) (before F j) (before F j)) (pend n j)
             ≡ pend n (suc j)
         go true m =
             ap (λ (x : ℕ). write_run (lookahead s) (pend n j) x (at xs j) (start F j) (before F j) (before F j)) (left_is s F P xs j (at xs j))
@@ -351,7 +347,7 @@ module _ (s : Setting) (ed : PauseEdition) (F P : ℕ → Bool) (xs : List ℕ) 
     unfolding open_at ending_at
     ending_is e = go (ltb 0 (before F j)) refl
       where
-        go : (b : Bool) → ltb 0 (before F j) ≡ b → ending s (cond b (Running (run_before s F P j)) Closed) (pend n j) ≡ ending_at s F P xs j
+        go : (b : Bool) → ltb 0 (before F j) ≡ b → ending s (cond b (Some (run_before s F P j)) None) (pend n j) ≡ ending_at s F P xs j
         go true t = closing_is e t
         go false t = rw (e, t)
 
@@ -360,7 +356,7 @@ module _ (s : Setting) (ed : PauseEdition) (F P : ℕ → Bool) (xs : List ℕ) 
     ending_pending_lem e = go (ltb 0 (before F j)) refl
       where
         go : (b : Bool) → ltb 0 (before F j) ≡ b
-            → ending_pending s (cond b (Running (run_before s F P j)) Closed) (left_at F xs j) (at xs j) (pend n j) ≡ pend n (suc j)
+            → ending_pending s (cond b (Some (run_before s F P j)) None) (left_at F xs j) (at xs j) (pend n j) ≡ pend n (suc j)
         go true t = closing_pending_lem e t
         go false t = let m : mends s F P j ≡ false = rw (e, t) in pend_same n j m
 
@@ -387,7 +383,7 @@ module _ (s : Setting) (ed : PauseEdition) (F P : ℕ → Bool) (xs : List ℕ) 
         let m : mends s F P j ≡ false = rw e in
         let going_on : ending_at s F P xs j ≡ going = rw e in
         let b = before_on F j e in
-        let run = ap (λ (r : Run). Running r) (grown_is s F P xs j e) ∙ sym (open_some s F P xs (suc j) (omega arith)) in
+        let run = ap (λ (r : Run). Some r) (grown_is s F P xs j e) ∙ sym (open_some s F P xs (suc j) (omega arith)) in
         let block = block_is true (flags_in s F (block_of s j) j + 1) e (omega arith) in
         λ i.
         record {
@@ -399,7 +395,7 @@ module _ (s : Setting) (ed : PauseEdition) (F P : ℕ → Bool) (xs : List ℕ) 
     decided_is false e =
         let x = pend_right in
         let run = sym (open_none s F P xs (suc j) (before_off F j e)) in
-        let left = ap (λ (y : ℕ). Neighbour y) x ∙ left_off s F P xs j e in
+        let left = ap (λ (y : ℕ). Some y) x ∙ left_off s F P xs j e in
         let block = block_is false (flags_in s F (block_of s j) j) e (omega arith) in
         λ i.
         record {
@@ -443,11 +439,11 @@ module _ (good : Float → Type 0) (o : Ordered lt good) (s : Setting) (ed : Pau
 
   answer_is : released (lookahead s) s.apply n (get_or (circle 0 (lookahead s) n (value s F P xs (judged s n))) (n % lookahead s) 0) (at xs n) ≡ answer_at s ed xs n
   unfolding released answer_at
-  answer_is = ap (λ (a : Answer). cond s.apply a (Released (at xs n))) (go (ltb n (lookahead s)) refl)
+  answer_is = ap (λ (a : Option ℕ). cond s.apply a (Some (at xs n))) (go (ltb n (lookahead s)) refl)
     where
       go : (b : Bool) → ltb n (lookahead s) ≡ b
-          → cond b Nothing (Released (get_or (circle 0 (lookahead s) n (value s F P xs (judged s n))) (n % lookahead s) 0))
-          ≡ cond b Nothing (Released (value s F P xs (judged s (length xs)) (n - lookahead s)))
+          → cond b None (Some (get_or (circle 0 (lookahead s) n (value s F P xs (judged s n))) (n % lookahead s) 0))
+          ≡ cond b None (Some (value s F P xs (judged s (length xs)) (n - lookahead s)))
       go true e = refl
       go false e =
           let w = ltb-false n (lookahead s) e in
@@ -455,7 +451,7 @@ module _ (good : Float → Type 0) (o : Ordered lt good) (s : Setting) (ed : Pau
           let read = circle_read 0 (lookahead s) n (value s F P xs (judged s n)) (n - lookahead s) (omega arith) (omega arith) in
           let later : judged s n + (length xs - n) ≡ judged s (length xs) = omega arith in
           let fixed = value_fixed s F P xs (length xs - n) (judged s n) (n - lookahead s) (omega arith) in
-          ap (λ (q : ℕ). Released q)
+          ap (λ (q : ℕ). Some q)
           (ap (λ (q : ℕ). get_or (circle 0 (lookahead s) n (value s F P xs (judged s n))) q 0) same
           ∙ read
           ∙ sym fixed

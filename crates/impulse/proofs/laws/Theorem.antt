@@ -1,6 +1,6 @@
 -- The stage theorem: run from fresh over any input with no NaN part, the machine stands as the rules for that input say, and has handed on and told what they
 -- say. So any cutting of the input gives the same. Assumes nothing.
-use Rattle.std.specs.Prelude.{◌≡◌, Bool, ℕ, zero, suc, ◌+◌, ◌-◌, ◌<◌, ltb, Float, length, take, drop}
+use Rattle.std.specs.Prelude.{◌≡◌, Bool, ℕ, zero, suc, ◌+◌, ◌-◌, ◌<◌, ltb, Float, length, take, drop, Some, None}
 use Rattle.std.proofs.Math.Path.{refl, ap}
 use Rattle.std.proofs.Common.{sym, ◌∙◌, zero-mul, drop_of_length-le, take-suc, drop-cons, ltb-true, ltb-false}
 use Rattle.std.proofs.Math.Bool.{true, false, cond}
@@ -22,7 +22,6 @@ use Rattle.rules.specs.Impulse.{uncertain, kept, mended, events_at, events, hand
 use Rattle.impulse_pause.specs.declared.PauseEdition.{PauseEdition}
 use Rattle.impulse_pause.specs.View.{edition_of}
 use Rattle.impulse.specs.declared.ImpulseSuppressor.{ImpulseSuppressor}
-use Rattle.impulse.specs.declared.Answer.TheVariants.{Released, Nothing}
 use Rattle.impulse.specs.Machine.{fresh, going, kept_run, mended_run, Outcome, push}
 use Rattle.impulse.specs.View.{ending_events, told, given}
 use Rattle.impulse.specs.Running.{after, outs, step, emit, news_of, news}
@@ -65,7 +64,7 @@ handed_step s ed xs n h = go s.apply (ltb n (lookahead s)) refl
     f = value s (flagged s xs) (paused_by s ed xs) xs (judged s (length xs))
 
     go : (a b : Bool) → ltb n (lookahead s) ≡ b
-        → cond a (up_to f (n - lookahead s)) (take n xs) ++ given (cond a (cond b Nothing (Released (f (n - lookahead s)))) (Released (at xs n)))
+        → cond a (up_to f (n - lookahead s)) (take n xs) ++ given (cond a (cond b None (Some (f (n - lookahead s)))) (Some (at xs n)))
         ≡ cond a (up_to f (suc n - lookahead s)) (take (suc n) xs)
     go true true e =
         let w = ltb-true n (lookahead s) e in

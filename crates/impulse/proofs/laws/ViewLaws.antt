@@ -1,6 +1,6 @@
 -- The code's structs say what the machine says: a repair's words are the log's, and its originals are the run's. What the machine tells and hands on can be
 -- read off them. Assumes nothing.
-use Rattle.std.specs.Prelude.{◌≡◌, refl, Bool, true, false, cond, not, ◌&&◌, List, [], ◌∷◌, ℕ, ◌-◌, ◌%◌, ◌≤◌, ltb, leb, length, get_or, Float}
+use Rattle.std.specs.Prelude.{◌≡◌, refl, Bool, true, false, cond, not, ◌&&◌, List, [], ◌∷◌, ℕ, ◌-◌, ◌%◌, ◌≤◌, ltb, leb, length, get_or, Float, Option, Some, None}
 use Rattle.std.proofs.Common.{ap, sym, ◌∙◌, arith, leb-true}
 use Rattle.std.proofs.lemmas.Bool.{false≢true}
 use Rattle.std.specs.Float.{nan}
@@ -8,8 +8,6 @@ use Rattle.rules.specs.Impulse.{Setting, standard, width, lookahead, mendable, m
 use Rattle.rules.specs.Log.{repair_words}
 use Rattle.impulse_pause.specs.declared.PauseEdition.{PauseEdition}
 use Rattle.impulse.specs.declared.Run.{Run}
-use Rattle.impulse.specs.declared.Open.{Open}
-use Rattle.impulse.specs.declared.Open.TheVariants.{Running, Closed}
 use Rattle.impulse.specs.declared.Gate.{Gate}
 use Rattle.impulse.specs.declared.ImpulseSuppressor.{ImpulseSuppressor}
 use Rattle.impulse.specs.Machine.{setting_of, arrived, entered, read_run, going, kept_run, mended_run, Ending, closing, ending, Judgement, decided, judge}
@@ -68,9 +66,9 @@ closing_same s h r l = go (mendable s r.paused r.len) (short s.apply (leb r.len 
         (let k = w refl in omega arith)
     go false w = refl
 
-ending_same : (s : Setting) → s.run ≤ longest_run → (o : Open) (l : List ℕ) → Same (ending s o l)
-ending_same s h Closed l = refl
-ending_same s h (Running r) l = closing_same s h r l
+ending_same : (s : Setting) → s.run ≤ longest_run → (o : Option Run) (l : List ℕ) → Same (ending s o l)
+ending_same s h None l = refl
+ending_same s h (Some r) l = closing_same s h r l
 
 judge_same : (s : Setting) → s.run ≤ longest_run → (g : Gate) (j : ℕ) (p : Float) (sorted : List Float) (l : List ℕ) → Same (judge s g j p sorted l).ended
 unfolding judge

@@ -1,16 +1,12 @@
 -- How a push moves the open run: one that ends is told whole, another grows by one at most. So what is told and what is open rise by three at most. Assumes
 -- nothing.
 use Rattle.std.proofs.Common.{subst, arith}
-use Rattle.std.specs.Prelude.{Bool, true, false, cond, List, ℕ, ◌+◌, ◌-◌, ◌%◌, ◌≤◌, ltb, length, get_or, Float}
+use Rattle.std.specs.Prelude.{Bool, true, false, cond, List, ℕ, ◌+◌, ◌-◌, ◌%◌, ◌≤◌, ltb, length, get_or, Float, Option, Some, None}
 use Rattle.std.specs.Float.{nan}
 use Rattle.rules.specs.Impulse.{Setting, width, lookahead, mendable}
 use Rattle.impulse.specs.declared.Run.{Run}
-use Rattle.impulse.specs.declared.Open.{Open}
-use Rattle.impulse.specs.declared.Open.TheVariants.{Running, Closed}
 use Rattle.impulse.specs.declared.Mending.{Mending}
 use Rattle.impulse.specs.declared.Gate.{Gate}
-use Rattle.impulse.specs.declared.Answer.{Answer}
-use Rattle.impulse.specs.declared.Answer.TheVariants.{Released, Nothing}
 use Rattle.impulse.specs.declared.ImpulseSuppressor.{ImpulseSuppressor}
 use Rattle.impulse.specs.Machine.{arrived, entered, grown, read_run, Ending, going, kept_run, mended_run, closing, ending, Judgement, decided, judge, window_with}
 use Rattle.impulse.specs.Machine.{sorted_with, pending_with, verdict, push, flagged_by}
@@ -26,27 +22,27 @@ ending_size (kept_run a n long) = n + 1
 ending_size (mended_run a n os) = n + 1
 
 -- a run that was open, what is said of its end, and the run that is open then
-pub record Moves (before : Open) (ended : Ending) (after : Open) : Type 0 where
+pub record Moves (before : Option Run) (ended : Ending) (after : Option Run) : Type 0 where
   pub size : ending_size ended + run_length after ≤ run_length before + 1
   pub last : ended_end (ended_of ended) ≤ run_end before
 
-grown_moves : (o : Open) (j : ℕ) (paused : Bool) → Moves o going (Running (grown o j paused))
-grown_moves Closed j paused = record { size = omega arith; last = omega arith }
-grown_moves (Running r) j paused = record { size = omega arith; last = omega arith }
+grown_moves : (o : Option Run) (j : ℕ) (paused : Bool) → Moves o going (Some (grown o j paused))
+grown_moves None j paused = record { size = omega arith; last = omega arith }
+grown_moves (Some r) j paused = record { size = omega arith; last = omega arith }
 
-closing_moves : (s : Setting) (r : Run) (l : List ℕ) → Moves (Running r) (closing s r l) Closed
+closing_moves : (s : Setting) (r : Run) (l : List ℕ) → Moves (Some r) (closing s r l) None
 unfolding closing repair_of
 closing_moves s r l = go (mendable s r.paused r.len)
   where
     go : (b : Bool)
-        → Moves (Running r)
-        (cond b (mended_run r.start r.len (read_run (lookahead s) l r.start r.len)) (kept_run r.start r.len (ltb s.run r.len))) Closed
+        → Moves (Some r)
+        (cond b (mended_run r.start r.len (read_run (lookahead s) l r.start r.len)) (kept_run r.start r.len (ltb s.run r.len))) None
     go true = record { size = omega arith; last = omega arith }
     go false = record { size = omega arith; last = omega arith }
 
-ending_moves : (s : Setting) (o : Open) (l : List ℕ) → Moves o (ending s o l) Closed
-ending_moves s Closed l = record { size = omega arith; last = omega arith }
-ending_moves s (Running r) l = closing_moves s r l
+ending_moves : (s : Setting) (o : Option Run) (l : List ℕ) → Moves o (ending s o l) None
+ending_moves s None l = record { size = omega arith; last = omega arith }
+ending_moves s (Some r) l = closing_moves s r l
 
 judge_moves : (s : Setting) (g : Gate) (j : ℕ) (p : Float) (sorted : List Float) (l : List ℕ)
     → Moves g.mending.run (judge s g j p sorted l).ended (judge s g j p sorted l).gate.mending.run
@@ -88,9 +84,9 @@ news_size s m x = omega (arith, told_size (m.gate.received - s.half) (push s m x
 
 -- ---- what a push hands on
 
-given_most_lem : (a : Answer) → length (given a) ≤ 1
-given_most_lem Nothing = omega arith
-given_most_lem (Released x) = omega arith
+given_most_lem : (a : Option ℕ) → length (given a) ≤ 1
+given_most_lem None = omega arith
+given_most_lem (Some x) = omega arith
 
 pub emit_most : (s : Setting) (m : ImpulseSuppressor) (x : ℕ) → length (emit s m x) ≤ 1
 emit_most s m x = given_most_lem (push s m x).answer

@@ -1,14 +1,12 @@
 -- The stage over new samples, from any state: what stays, what has room, and how far the notes' counters rise. Assumes nothing.
-use Rattle.std.specs.Prelude.{◌≡◌, refl, List, [], ◌∷◌, ◌++◌, ℕ, ◌+◌, ◌*◌, ◌-◌, ◌%◌, ◌^◌, ◌≤◌, ◌<◌, length, get_or, drop}
+use Rattle.std.specs.Prelude.{◌≡◌, refl, List, [], ◌∷◌, ◌++◌, ℕ, ◌+◌, ◌*◌, ◌-◌, ◌^◌, ◌≤◌, ◌<◌, length, drop, Option, Some, None}
 use Rattle.std.proofs.Common.{sym, ◌∙◌, subst, arith, length-append, length-drop}
-use Rattle.std.specs.Float.{nan}
-use Rattle.rules.specs.Impulse.{Setting, Event, width, power_of}
-use Rattle.impulse.specs.declared.Open.{Open}
-use Rattle.impulse.specs.declared.Open.TheVariants.{Running, Closed}
+use Rattle.rules.specs.Impulse.{Setting, Event}
+use Rattle.impulse.specs.declared.Run.{Run}
 use Rattle.impulse.specs.declared.ImpulseSuppressor.{ImpulseSuppressor}
-use Rattle.impulse.specs.Machine.{setting_of, push}
+use Rattle.impulse.specs.Machine.{setting_of}
 use Rattle.impulse.specs.Room.{run_end, Room}
-use Rattle.impulse.proofs.laws.RoomLaws.{ordered_length, room_step, received_step, setting_step}
+use Rattle.impulse.proofs.laws.RoomLaws.{room_step, received_step, setting_step}
 use Rattle.impulse.specs.Running.{step, emit, news}
 use Rattle.impulse_slice.specs.Noted.{Noted, note_all, state_after, handed, told, run_length, Roomy, events_size}
 use Rattle.impulse_slice.proofs.laws.NotesLaws.{note_none, roomy_up, roomy_all}
@@ -23,15 +21,6 @@ setting_after s m (x ∷ xs) = setting_after s (step s m x) xs ∙ setting_step 
 pub room_after : (s : Setting) (m : ImpulseSuppressor) (xs : List ℕ) → Room m.gate → m.gate.received + length xs ≤ 2 ^ 50 → Room (state_after s m xs).gate
 room_after s m [] r h = r
 room_after s m (x ∷ xs) r h = room_after s (step s m x) xs (room_step s m x r (omega arith)) (omega (arith, received_step s m x))
-
-sorted_step : (s : Setting) (m : ImpulseSuppressor) (x : ℕ) → 0 < width s → length m.sorted ≡ width s → length (step s m x).sorted ≡ width s
-unfolding push
-sorted_step s m x z h = ordered_length (width s) m.gate.received (get_or m.window (m.gate.received % width s) nan) (power_of x) m.sorted z h
-
-pub sorted_after : (s : Setting) (m : ImpulseSuppressor) (xs : List ℕ) → 0 < width s → length m.sorted ≡ width s
-    → length (state_after s m xs).sorted ≡ width s
-sorted_after s m [] z h = h
-sorted_after s m (x ∷ xs) z h = sorted_after s (step s m x) xs z (sorted_step s m x z h)
 
 -- ---- what is handed on
 
@@ -51,9 +40,9 @@ pub told_size : (s : Setting) (m : ImpulseSuppressor) (xs : List ℕ)
 told_size s m [] = omega arith
 told_size s m (x ∷ xs) = omega (arith, size_append (news s m x) (told s (step s m x) xs), news_size s m x, told_size s (step s m x) xs)
 
-run_short : (o : Open) (n : ℕ) → run_end o ≤ n → run_length o ≤ n
-run_short Closed n h = omega arith
-run_short (Running r) n h = omega arith
+run_short : (o : Option Run) (n : ℕ) → run_end o ≤ n → run_length o ≤ n
+run_short None n h = omega arith
+run_short (Some r) n h = omega arith
 
 -- a state with room, counters that are in range, and so many samples: the notes have room for as many again
 pub roomy_after : (span_capacity repair_capacity : ℕ) (n : Noted) (s : Setting) (m : ImpulseSuppressor) (xs : List ℕ)

@@ -21,11 +21,11 @@ doubted span_capacity repair_capacity x y j doubt e r =
 pub note_ended-requires : goal.note_ended-requires
 note_ended-requires c =
     let a = c.args in
-    let d = c.note_doubt-first in
+    let d = c.note_doubt in
     record {
       roomy =
-          doubted a.span_capacity a.repair_capacity (noted_of a.notes a.spans.now a.repairs.now)
-          (noted_of d.result d.new.spans a.repairs.now) a.j
+          doubted a.span_capacity a.repair_capacity (noted_of a.notes.now a.spans.now a.repairs.now)
+          (noted_of d.new.notes d.new.spans a.repairs.now) a.j
           a.doubt (d.ensures a.repair_capacity a.repairs.now) c.requires.roomy;
       ended_bound = c.requires.j_bound.1;
     }
@@ -33,9 +33,9 @@ note_ended-requires c =
 pub returns : goal.returns
 returns c =
     let a = c.args in
-    let d = c.note_doubt-first in
+    let d = c.note_doubt in
     let e = c.note_ended in
-    let x = noted_of a.notes a.spans.now a.repairs.now in
+    let x = noted_of a.notes.now a.spans.now a.repairs.now in
     e.ensures
     ∙ ap (λ (y : Noted). note_all a.span_capacity a.repair_capacity y (filled_events a.ended)) (d.ensures a.repair_capacity a.repairs.now)
     ∙ sym (note_append a.span_capacity a.repair_capacity x (doubts a.j a.doubt) (filled_events a.ended))

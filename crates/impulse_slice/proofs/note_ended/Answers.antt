@@ -30,11 +30,11 @@ returns-in-Kept c =
     let a = c.args in
     let e = c.in-Kept.is in
     c.note_kept.ensures a.repair_capacity a.repairs.now
-    ∙ ap (λ (x : Ended). note_all a.span_capacity a.repair_capacity (noted_of a.notes a.spans.now a.repairs.now) (filled_events x)) (sym e)
+    ∙ ap (λ (x : Ended). note_all a.span_capacity a.repair_capacity (noted_of a.notes.now a.spans.now a.repairs.now) (filled_events x)) (sym e)
 
 pub returns-in-Mended : goal.returns-in-Mended
 returns-in-Mended c =
     let a = c.args in
     let e = c.in-Mended.is in
     c.note_mended.ensures
-    ∙ ap (λ (x : Ended). note_all a.span_capacity a.repair_capacity (noted_of a.notes a.spans.now a.repairs.now) (filled_events x)) (sym e)
+    ∙ ap (λ (x : Ended). note_all a.span_capacity a.repair_capacity (noted_of a.notes.now a.spans.now a.repairs.now) (filled_events x)) (sym e)

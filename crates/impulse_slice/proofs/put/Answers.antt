@@ -23,8 +23,8 @@ returns-in_default c = let e = c.in_default.is in let a = c.args in
     }
 
 pub returns : goal.returns
-returns c = let e = c.in-Released.is in let a = c.args in
+returns c = let e = c.in-Some.is in let a = c.args in
     record {
       result = simp e;
-      words = simp e (sets-eq (c.in-Released.x ∷ []) a.samples.now a.out (search rules));
+      words = simp e (sets-eq (c.in-Some.x ∷ []) a.samples.now a.out (search rules));
     }

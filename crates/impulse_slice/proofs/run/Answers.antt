@@ -5,92 +5,50 @@ use Prim.Native.Nat.{ℕ, ◌<◌}
 use native.Mathlib.Omega.{arith}
 use lib.ListN.{length}
 use Rattle.impulse.specs.Machine.{setting_of}
-use Rattle.impulse.specs.View.{suppressor_of}
 use Rattle.impulse_slice.specs.Noted.{noted_of, note_all, state_after, handed, told, over}
-use Rattle.impulse_slice.proofs.Turns.{going_first, out_few, length_same, going_full, going_room, going_roomy, going_next, going_last}
+use Rattle.impulse_slice.proofs.Turns.{going_first, out_few, length_same, going_room, going_roomy, going_next, going_last}
 use Rattle.impulse_slice.proofs.run.Goals as goal
 
 pub loop-k-init : goal.loop-k-init
 loop-k-init c =
     let a = c.args in (
-      going_first a.span_capacity a.repair_capacity a.held (suppressor_of a.first a.window.now a.sorted.now a.pending.now)
-          (noted_of a.notes a.spans.now a.repairs.now) a.samples.now c.requires.held_in_bounds,
+      going_first a.span_capacity a.repair_capacity a.held a.suppressor.now (noted_of a.notes.now a.spans.now a.repairs.now) a.samples.now
+          c.requires.held_in_bounds,
       refl,
       refl,
     )
 
-pub take-t-requires : goal.take-t-requires
-take-t-requires c =
+pub take-out-requires : goal.take-out-requires
+take-out-requires c =
     let a = c.args in
     let l = c.loop-k in
-    let m₀ = suppressor_of a.first a.window.now a.sorted.now a.pending.now in
-    let n₀ = noted_of a.notes a.spans.now a.repairs.now in
-    let m = suppressor_of l.gate l.window l.sorted l.pending in
-    let n = noted_of l.said l.spans l.repairs in
+    let n₀ = noted_of a.notes.now a.spans.now a.repairs.now in
+    let n = noted_of l.notes l.spans l.repairs in
     let g = l.invariant.0 in
-    let same = length_same a.span_capacity a.repair_capacity a.held m₀ n₀ a.samples.now m n l.samples l.out l.k g in
-    let few = out_few a.span_capacity a.repair_capacity a.held m₀ n₀ a.samples.now m n l.samples l.out l.k g in
+    let same = length_same a.span_capacity a.repair_capacity a.held a.suppressor.now n₀ a.samples.now l.suppressor n l.samples l.out l.k g in
+    let few = out_few a.span_capacity a.repair_capacity a.held a.suppressor.now n₀ a.samples.now l.suppressor n l.samples l.out l.k g in
     let h : l.k < length a.samples.now = omega (arith, same) in
     record {
       k_in_bounds = (omega arith, few);
-      room = going_room a.span_capacity a.repair_capacity a.held m₀ n₀ a.samples.now m n l.samples l.out l.k g h c.requires.room;
-      sorted_len = going_full a.span_capacity a.repair_capacity a.held m₀ n₀ a.samples.now m n l.samples l.out l.k g c.requires.sorted_len;
+      room = going_room a.span_capacity a.repair_capacity a.held a.suppressor.now n₀ a.samples.now l.suppressor n l.samples l.out l.k g h c.requires.room;
       roomy =
-          going_roomy a.span_capacity a.repair_capacity a.held m₀ n₀ a.samples.now m n l.samples l.out l.k g h c.requires.room
+          going_roomy a.span_capacity a.repair_capacity a.held a.suppressor.now n₀ a.samples.now l.suppressor n l.samples l.out l.k g h c.requires.room
           c.requires.roomy;
     }
-
-pub overflow_add-k : goal.overflow_add-k
-overflow_add-k c =
-    let a = c.args in
-    let l = c.loop-k in
-    let m₀ = suppressor_of a.first a.window.now a.sorted.now a.pending.now in
-    let n₀ = noted_of a.notes a.spans.now a.repairs.now in
-    let m = suppressor_of l.gate l.window l.sorted l.pending in
-    let n = noted_of l.said l.spans l.repairs in
-    let same = length_same a.span_capacity a.repair_capacity a.held m₀ n₀ a.samples.now m n l.samples l.out l.k l.invariant.0 in
-    omega (
-      arith,
-      same,
-      c.loop-k-test.true,
-    )
-
-pub loop-k-smaller : goal.loop-k-smaller
-loop-k-smaller c =
-    let a = c.args in
-    let l = c.loop-k in
-    let m₀ = suppressor_of a.first a.window.now a.sorted.now a.pending.now in
-    let n₀ = noted_of a.notes a.spans.now a.repairs.now in
-    let m = suppressor_of l.gate l.window l.sorted l.pending in
-    let n = noted_of l.said l.spans l.repairs in
-    let same = length_same a.span_capacity a.repair_capacity a.held m₀ n₀ a.samples.now m n l.samples l.out l.k l.invariant.0 in
-    omega (
-      arith,
-      same,
-      c.loop-k-test.true,
-    )
 
 pub loop-k-preserved : goal.loop-k-preserved
 loop-k-preserved c =
     let a = c.args in
     let l = c.loop-k in
-    let m₀ = suppressor_of a.first a.window.now a.sorted.now a.pending.now in
-    let n₀ = noted_of a.notes a.spans.now a.repairs.now in
-    let m = suppressor_of l.gate l.window l.sorted l.pending in
-    let n = noted_of l.said l.spans l.repairs in
-    let t = c.take-t in
+    let n₀ = noted_of a.notes.now a.spans.now a.repairs.now in
+    let n = noted_of l.notes l.spans l.repairs in
+    let t = c.take-out in
     let g = l.invariant.0 in
-    let same = length_same a.span_capacity a.repair_capacity a.held m₀ n₀ a.samples.now m n l.samples l.out l.k g in
-    let h : l.k < length a.samples.now =
-    omega (
-      arith,
-      same,
-      c.loop-k-test.true,
-    ) in (
-      going_next a.span_capacity a.repair_capacity a.held m₀ n₀ a.samples.now m n l.samples l.out l.k g
-          (suppressor_of t.result.gate t.new.window t.new.sorted t.new.pending)
-          (noted_of t.result.notes t.new.spans t.new.repairs)
-          t.new.samples t.result.out h t.ensures.suppressor t.ensures.noted t.ensures.ready t.ensures.written,
+    let same = length_same a.span_capacity a.repair_capacity a.held a.suppressor.now n₀ a.samples.now l.suppressor n l.samples l.out l.k g in
+    let h : l.k < length a.samples.now = omega (arith, same, c.loop-k-test.true) in (
+      going_next a.span_capacity a.repair_capacity a.held a.suppressor.now n₀ a.samples.now l.suppressor n l.samples l.out l.k g
+          t.new.suppressor (noted_of t.new.notes t.new.spans t.new.repairs) t.new.samples t.result h
+          t.ensures.suppressor t.ensures.noted t.ensures.ready t.ensures.written,
       t.auto.spans ∙ l.invariant.1,
       t.auto.repairs ∙ l.invariant.2,
     )
@@ -99,11 +57,8 @@ pub shape_of-samples : goal.shape_of-samples
 shape_of-samples c =
     let a = c.args in
     let l = c.loop-k in
-    let m₀ = suppressor_of a.first a.window.now a.sorted.now a.pending.now in
-    let n₀ = noted_of a.notes a.spans.now a.repairs.now in
-    let m = suppressor_of l.gate l.window l.sorted l.pending in
-    let n = noted_of l.said l.spans l.repairs in
-    length_same a.span_capacity a.repair_capacity a.held m₀ n₀ a.samples.now m n l.samples l.out l.k l.invariant.0
+    length_same a.span_capacity a.repair_capacity a.held a.suppressor.now (noted_of a.notes.now a.spans.now a.repairs.now) a.samples.now
+    l.suppressor (noted_of l.notes l.spans l.repairs) l.samples l.out l.k l.invariant.0
 
 pub shape_of-spans : goal.shape_of-spans
 shape_of-spans c = c.loop-k.invariant.1
@@ -115,14 +70,13 @@ pub returns : goal.returns
 returns c =
     let a = c.args in
     let l = c.loop-k in
-    let m₀ = suppressor_of a.first a.window.now a.sorted.now a.pending.now in
-    let n₀ = noted_of a.notes a.spans.now a.repairs.now in
-    let m = suppressor_of l.gate l.window l.sorted l.pending in
-    let n = noted_of l.said l.spans l.repairs in
+    let m₀ = a.suppressor.now in
+    let n₀ = noted_of a.notes.now a.spans.now a.repairs.now in
     let g = l.invariant.0 in
-    let s = setting_of a.first in
-    let same = length_same a.span_capacity a.repair_capacity a.held m₀ n₀ a.samples.now m n l.samples l.out l.k g in
-    let all = going_last a.span_capacity a.repair_capacity a.held m₀ n₀ a.samples.now m n l.samples l.out l.k g (omega (arith, same)) in
+    let s = setting_of m₀.gate in
+    let same = length_same a.span_capacity a.repair_capacity a.held m₀ n₀ a.samples.now l.suppressor (noted_of l.notes l.spans l.repairs) l.samples l.out l.k g in
+    let all = going_last a.span_capacity a.repair_capacity a.held m₀ n₀ a.samples.now l.suppressor (noted_of l.notes l.spans l.repairs) l.samples l.out l.k g
+    (omega (arith, same)) in
     record {
       suppressor = g.state ∙ ap (state_after s m₀) all;
       noted = g.notes ∙ ap (λ (xs : List ℕ). note_all a.span_capacity a.repair_capacity n₀ (told s m₀ xs)) all;

@@ -19,20 +19,17 @@ unfolding write_run
 more size l l₀ left right a n t w e g = rw (e, g, add-one)
 
 pub loop-t-init : goal.loop-t-init
-loop-t-init c = (omega arith, begun lookahead_size c.args.pending.now c.args.left c.args.right c.args.start c.args.n)
+loop-t-init c = begun lookahead_size c.args.pending.now c.args.left c.args.right c.args.start c.args.n
 
 pub loop-t-preserved : goal.loop-t-preserved
 loop-t-preserved c =
     let i = c.loop-t in
-    let a = c.args in (
-      omega arith,
-      more lookahead_size i.pending a.pending.now a.left a.right a.start a.n i.t c.mended_word.result i.invariant.1
-          c.mended_word.ensures,
-    )
+    let a = c.args in
+    more lookahead_size i.pending a.pending.now a.left a.right a.start a.n i.t c.mended_word.result i.invariant c.mended_word.ensures
 
 pub returns : goal.returns
 returns c =
     let i = c.loop-t in
     let a = c.args in
-    let e : i.t ≡ a.n = omega (arith, i.invariant.0) in
-    i.invariant.1 ∙ ap (write_run lookahead_size a.pending.now a.left a.right a.start a.n) e
+    let e : i.t ≡ a.n = omega arith in
+    i.invariant ∙ ap (write_run lookahead_size a.pending.now a.left a.right a.start a.n) e

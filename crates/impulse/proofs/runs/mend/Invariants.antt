@@ -1,13 +1,8 @@
 -- `impulse::runs::mend` meets its contract: after t turns the first t samples of the run are mended. Assumes nothing.
 use mathlib.Core.Path.{◌≡◌}
-use Prim.Native.Nat.{◌-◌, ◌≤◌}
 use Rattle.rules.specs.Impulse.{lookahead_size}
 use Rattle.impulse.specs.Machine.{write_run}
 use Rattle.impulse.proofs.runs.mend.Given as goal
 
 abbrev pub invariant-loop-t : goal.invariant-loop-t
-invariant-loop-t l =
-    (l.t ≤ l.n) × (l.pending ≡ write_run lookahead_size l.initial.pending l.left l.right l.start l.n l.t)
-
-abbrev pub decreases-loop-t : goal.decreases-loop-t
-decreases-loop-t l = l.n - l.t
+invariant-loop-t l = l.pending ≡ write_run lookahead_size l.initial.pending l.left l.right l.start l.n l.t

@@ -1,7 +1,7 @@
--- `impulse::Gate::entered` meets its contract. Assumes nothing.
+-- `impulse::Gate::enter` meets its contract. Assumes nothing.
 use borrow.Author.Tests.{eq-eqb, ne_eqb}
 use Rattle.impulse.specs.Machine.{entered}
-use Rattle.impulse.proofs.Gate.entered.Goals as goal
+use Rattle.impulse.proofs.Gate.enter.Goals as goal
 
 pub returns-then-number-self : goal.returns-then-number-self
 unfolding entered
@@ -9,4 +9,4 @@ returns-then-number-self c = simp (eq-eqb _ _ c.if-number-self.true)
 
 pub returns : goal.returns
 unfolding entered
-returns c = simp (ne_eqb _ _ c.if-number-self.false, c.with_both.ensures, c.pauses-paused.ensures)
+returns c = simp (ne_eqb _ _ c.if-number-self.false, c.pauses-paused.ensures)

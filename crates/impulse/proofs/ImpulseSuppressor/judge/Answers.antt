@@ -1,4 +1,4 @@
--- `impulse::Gate::judge` meets its contract. Assumes nothing.
+-- `impulse::ImpulseSuppressor::judge` meets its contract. Assumes nothing.
 use mathlib.Core.Path.{◌≡◌, sym, ap, ◌∙◌}
 use mathlib.Core.Bool.{Bool, true, false}
 use mathlib.Core.List.{List}
@@ -12,9 +12,9 @@ use Rattle.impulse.specs.declared.Mending.{Mending}
 use Rattle.impulse.specs.declared.Gate.{Gate}
 use Rattle.impulse.specs.Room.{run_end}
 use Rattle.impulse.proofs.laws.RoomLaws.{entered_keeps, entered_setting}
-use Rattle.impulse.specs.Machine.{setting_of, entered, Judgement, decided, judge, flagged_by}
-use Rattle.impulse.specs.View.{judged_of}
-use Rattle.impulse.proofs.Gate.judge.Goals as goal
+use Rattle.impulse.specs.Machine.{setting_of, entered, decided, judge, flagged_by}
+use Rattle.impulse.specs.View.{judged_of, judged_by}
+use Rattle.impulse.proofs.ImpulseSuppressor.judge.Goals as goal
 
 -- judging by the flag that is found
 by_flag : (s : Setting) (g : Gate) (j : ℕ) (p : Float) (sorted : List Float) (l : List ℕ) (b : Bool)
@@ -32,46 +32,49 @@ keeps_flagged g h j e r = let q = ap (λ (x : Gate). x.block.flagged) e in omega
 keeps_received : (g h : Gate) (j : ℕ) → h ≡ entered g j → trim_size ≤ g.received → trim_size ≤ h.received
 keeps_received g h j e r = let q = ap (λ (x : Gate). x.received) e in omega (arith, (entered_keeps g j).received)
 
-pub is_flagged-requires : goal.is_flagged-requires
-is_flagged-requires c = let a = c.args in
-    record {
-      trim_size_le_n = (keeps_received a.self c.entered-g.result a.j c.entered-g.ensures (search rules), search rules);
-      rising = c.requires.rising;
-    }
+pub is_flagged-requires-clause-trimmed : goal.is_flagged-requires-clause-trimmed
+is_flagged-requires-clause-trimmed c =
+    let a = c.args in
+    keeps_received a.self.now.gate c.enter.new.self a.j c.enter.ensures (search rules)
 
-pub grown-r-requires : goal.grown-r-requires
-grown-r-requires c = let a = c.args in
-    keeps_run a.self c.entered-g.result a.j c.entered-g.ensures (search rules)
+pub grown-run-requires : goal.grown-run-requires
+grown-run-requires c =
+    let a = c.args in
+    keeps_run a.self.now.gate c.enter.new.self a.j c.enter.ensures (search rules)
 
-pub with_run-requires : goal.with_run-requires
-with_run-requires c = let a = c.args in
-    keeps_flagged a.self c.entered-g.result a.j c.entered-g.ensures (search rules)
+pub take_flagged-requires : goal.take_flagged-requires
+take_flagged-requires c =
+    let a = c.args in
+    keeps_flagged a.self.now.gate c.enter.new.self a.j c.enter.ensures (search rules)
 
 pub returns-then-is_flagged : goal.returns-then-is_flagged
 returns-then-is_flagged c =
     let a = c.args in
-    let e = c.entered-g.ensures in
+    let m = a.self.now in
+    let e = c.enter.ensures in
     let f = sym c.if-is_flagged.true ∙ c.is_flagged.ensures
-    ∙ ap (λ (x : Gate). flagged_by window_size trim_size x.received a.sorted.now a.p) e in
-    let d = sym (by_flag (setting_of a.self) a.self a.j a.p a.sorted.now a.pending.now true f) in
+    ∙ ap (λ (x : Gate). flagged_by window_size trim_size x.received m.sorted a.p) e in
+    let d = sym (by_flag (setting_of m.gate) m.gate a.j a.p m.sorted m.pending true f) in
     record {
-      result = simp (c.with_run.ensures, c.grown-r.ensures, e) (ap judged_of d);
-      words = ap (λ (x : Judgement). x.pending) d;
+      result = simp e (ap judged_of d);
+      state = simp (c.take_flagged.ensures, c.grown-run.ensures, e) (ap (judged_by m) d);
     }
 
 pub ending-ended-requires : goal.ending-ended-requires
-ending-ended-requires c = let a = c.args in
-    keeps_run a.self c.entered-g.result a.j c.entered-g.ensures (search rules)
+ending-ended-requires c =
+    let a = c.args in
+    keeps_run a.self.now.gate c.enter.new.self a.j c.enter.ensures (search rules)
 
 pub returns : goal.returns
 returns c =
     let a = c.args in
-    let e = c.entered-g.ensures in
-    let t = entered_setting a.self a.j in
+    let m = a.self.now in
+    let e = c.enter.ensures in
+    let t = entered_setting m.gate a.j in
     let f = sym c.if-is_flagged.false ∙ c.is_flagged.ensures
-    ∙ ap (λ (x : Gate). flagged_by window_size trim_size x.received a.sorted.now a.p) e in
-    let d = sym (by_flag (setting_of a.self) a.self a.j a.p a.sorted.now a.pending.now false f) in
+    ∙ ap (λ (x : Gate). flagged_by window_size trim_size x.received m.sorted a.p) e in
+    let d = sym (by_flag (setting_of m.gate) m.gate a.j a.p m.sorted m.pending false f) in
     record {
-      result = simp (c.with_neighbour.ensures, c.ending-ended.ensures.result, e, t) (ap judged_of d);
-      words = simp (c.ending-ended.ensures.words, e, t) (ap (λ (x : Judgement). x.pending) d);
+      result = simp (c.ending-ended.ensures.result, e, t) (ap judged_of d);
+      state = simp (c.take_neighbour.ensures, c.ending-ended.ensures.words, e, t) (ap (judged_by m) d);
     }
