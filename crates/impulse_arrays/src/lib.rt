@@ -2,7 +2,7 @@
 // that the sorted list is the window sorted.
 #![tactic(auto)]
 
-ghost use Rattle.std.specs.Prelude.{◌≡◌, true, ◌++◌, ◌≤◌, min, eqb, length, get_or, take, drop};
+ghost use Rattle.std.specs.Prelude.{◌≡◌, true, ◌++◌, ◌≤◌, min, eqb, get_or, take, drop};
 ghost use Rattle.std.specs.Float.{binary64};
 ghost use Rattle.std.specs.Float.Ieee.{lt, eq, to_bits};
 ghost use Rattle.rules.specs.Constants.{zero_f};
@@ -20,10 +20,7 @@ use impulse::ImpulseSuppressor;
 pub fn holds(places: usize, came: u64) -> usize
     ensures { result ≡ min places came }
 {
-    if came < places as u64 {
-        return came as usize;
-    }
-    places
+    came.min(places as u64) as usize
 }
 
 // ---- the powers and the pending samples
@@ -39,23 +36,19 @@ fn power_fits(p: f32) -> bool
 
 // Whether the first n powers fit, with no branch between them.
 fn first_powers_fit(window: &[f32; ImpulseSuppressor::WINDOW], n: usize) -> bool
-    requires fact_1 { n ≤ window_size }
-    requires fact_2 { length window.now ≡ window_size }
+    requires { n ≤ window_size }
     ensures { result ≡ powers_fit n window.now }
 {
     let mut fit = true;
-    let mut k: usize = 0;
-    while k < n {
-        fit = fit & power_fits(window[k]);
-        k += 1;
+    for p in &window[..n] {
+        fit = fit & power_fits(*p);
     }
     fit
 }
 
 // The same: nearly always all of them fit, and a loop of a fixed length is the faster one.
 fn powers_fit(window: &[f32; ImpulseSuppressor::WINDOW], n: usize) -> bool
-    requires fact_1 { n ≤ window_size }
-    requires fact_2 { length window.now ≡ window_size }
+    requires { n ≤ window_size }
     ensures { result ≡ powers_fit n window.now }
 {
     if first_powers_fit(window, ImpulseSuppressor::WINDOW) {
@@ -66,8 +59,7 @@ fn powers_fit(window: &[f32; ImpulseSuppressor::WINDOW], n: usize) -> bool
 
 // Whether the first n samples are within the limit.
 fn samples_fit(pending: &[u64; ImpulseSuppressor::LOOKAHEAD], n: usize) -> bool
-    requires fact_1 { n ≤ lookahead_size }
-    requires fact_2 { length pending.now ≡ lookahead_size }
+    requires { n ≤ lookahead_size }
     ensures { result ≡ samples_fit n pending.now }
 {
     n <= amplitude_limit::first_beyond(pending)
@@ -79,8 +71,6 @@ pub fn arrays_fit(
     window: &[f32; ImpulseSuppressor::WINDOW],
     pending: &[u64; ImpulseSuppressor::LOOKAHEAD],
 ) -> bool
-    requires fact_1 { length window.now ≡ window_size }
-    requires fact_2 { length pending.now ≡ lookahead_size }
     ensures { result ≡ arrays_fit received window.now pending.now }
 {
     if !powers_fit(window, holds(ImpulseSuppressor::WINDOW, received)) {
@@ -97,15 +87,11 @@ fn copy_powers(
     n: usize,
     wide: &mut [f64; ImpulseSuppressor::WINDOW],
 )
-    requires fact_1 { n ≤ window_size }
-    requires fact_2 { length window.now ≡ window_size }
-    requires fact_3 { length wide.old ≡ window_size }
+    requires { n ≤ window_size }
     ensures { wide.new ≡ take n window.now ++ drop n wide.old }
 {
-    let mut k: usize = 0;
-    while k < n {
+    for k in 0..n {
         wide[k] = ieee::widen(window[k]);
-        k += 1;
     }
 }
 
@@ -115,9 +101,7 @@ fn same_powers(
     sorted: &[f32; ImpulseSuppressor::WINDOW],
     wide: &[f64; ImpulseSuppressor::WINDOW],
 ) -> bool
-    requires fact_1 { n ≤ window_size }
-    requires fact_2 { length sorted.now ≡ window_size }
-    requires fact_3 { length wide.now ≡ window_size }
+    requires { n ≤ window_size }
     ensures { result ≡ all_to (λ k. eqb (to_bits binary64 (get_or sorted.now k zero_f)) (to_bits binary64 (get_or wide.now k zero_f))) n }
 {
     for k in 0..n {
@@ -135,9 +119,7 @@ fn sorts_to(
     window: &[f32; ImpulseSuppressor::WINDOW],
     sorted: &[f32; ImpulseSuppressor::WINDOW],
 ) -> bool
-    requires fact_1 { n ≤ window_size }
-    requires fact_2 { length window.now ≡ window_size }
-    requires fact_3 { length sorted.now ≡ window_size }
+    requires { n ≤ window_size }
     ensures { result ≡ sorted_fits n window.now sorted.now }
 {
     let mut wide = [0.0f64; ImpulseSuppressor::WINDOW];
@@ -164,29 +146,23 @@ fn equal(a: f32, b: f32) -> bool
 
 // Whether the powers are above 0, and each above the one before.
 fn strictly_ascends(sorted: &[f32; ImpulseSuppressor::WINDOW]) -> bool
-    requires { length sorted.now ≡ window_size }
     ensures result { result ≡ climbs lt zero_f sorted.now }
     ensures values { All Held sorted.now }
 {
     let mut rising = below(0.0, sorted[0]);
-    let mut k: usize = 0;
-    while k < ImpulseSuppressor::WINDOW - 1 {
+    for k in 0..ImpulseSuppressor::WINDOW - 1 {
         rising = rising & below(sorted[k], sorted[k + 1]);
-        k += 1;
     }
     rising
 }
 
 fn occurs(window: &[f32; ImpulseSuppressor::WINDOW], x: f32) -> bool
-    requires { length window.now ≡ window_size }
     ensures result { result ≡ occurs x window.now }
     ensures values { All Held window.now }
 {
     let mut found = false;
-    let mut k: usize = 0;
-    while k < ImpulseSuppressor::WINDOW {
-        found = found | equal(x, window[k]);
-        k += 1;
+    for y in window {
+        found = found | equal(x, *y);
     }
     found
 }
@@ -196,16 +172,12 @@ fn all_occur(
     window: &[f32; ImpulseSuppressor::WINDOW],
     sorted: &[f32; ImpulseSuppressor::WINDOW],
 ) -> bool
-    requires fact_1 { length window.now ≡ window_size }
-    requires fact_2 { length sorted.now ≡ window_size }
     ensures result { result ≡ all_to (λ k. occurs (get_or sorted.now k zero_f) window.now) window_size }
     ensures values { All Held window.now }
 {
     let mut all = true;
-    let mut k: usize = 0;
-    while k < ImpulseSuppressor::WINDOW {
-        all = all & occurs(window, sorted[k]);
-        k += 1;
+    for x in sorted {
+        all = all & occurs(window, *x);
     }
     all
 }
@@ -216,8 +188,6 @@ fn is_arranged(
     window: &[f32; ImpulseSuppressor::WINDOW],
     sorted: &[f32; ImpulseSuppressor::WINDOW],
 ) -> bool
-    requires fact_1 { length window.now ≡ window_size }
-    requires fact_2 { length sorted.now ≡ window_size }
     ensures { result ≡ true → sort lt window.now ≡ sorted.now }
 {
     if !strictly_ascends(sorted) {
@@ -232,9 +202,7 @@ pub fn sorted_fits(
     window: &[f32; ImpulseSuppressor::WINDOW],
     sorted: &[f32; ImpulseSuppressor::WINDOW],
 ) -> bool
-    requires fact_1 { n ≤ window_size }
-    requires fact_2 { length window.now ≡ window_size }
-    requires fact_3 { length sorted.now ≡ window_size }
+    requires { n ≤ window_size }
     ensures { result ≡ sorted_fits n window.now sorted.now }
 {
     if n != ImpulseSuppressor::WINDOW {

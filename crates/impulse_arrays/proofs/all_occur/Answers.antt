@@ -9,28 +9,27 @@ use Rattle.rules.specs.Impulse.{window_size}
 use Rattle.stage_log.specs.Check.{all_to}
 use Rattle.impulse.proofs.laws.CircleLaws.{any_default}
 use Rattle.impulse_arrays.specs.Occurs.{occurs}
-use borrow.Author.Rules.{rules}
 use Rattle.impulse_arrays.proofs.all_occur.Goals as goal
 
-pub loop-k-init : goal.loop-k-init
+pub loop-x-init : goal.loop-x-init
 unfolding all_to
-loop-k-init c = (omega arith, refl, λ h. absurd (omega arith))
+loop-x-init c = (refl, λ h. absurd (omega arith))
 
-pub loop-k-preserved : goal.loop-k-preserved
+pub loop-x-preserved : goal.loop-x-preserved
 unfolding all_to
-loop-k-preserved c =
+loop-x-preserved c =
     let a = c.args in
-    let l = c.loop-k in
+    let l = c.loop-x in
     let here = c.occurs-all.ensures.result
     ∙ ap (λ (x : Float). occurs x a.window.now)
-    (any_default a.sorted.now l.k nan zero_f (omega (arith, c.requires.fact_2, c.loop-k-test.true))) in
-    (search rules, rw (add-one l.k) (λ i. l.invariant.1 i && here i), λ h. c.occurs-all.ensures.values)
+    (any_default a.sorted.now l.x-index nan zero_f (omega arith)) in
+    (rw (add-one l.x-index) (λ i. l.invariant.0 i && here i), λ h. c.occurs-all.ensures.values)
 
 pub returns : goal.returns
 returns c =
-    let l = c.loop-k in
-    let e : l.k ≡ window_size = omega (arith, c.loop-k-test.false, l.invariant.0) in
+    let l = c.loop-x in
+    let e : l.x-index ≡ window_size = omega arith in
     record {
-      result = rw e at l.invariant.1;
-      values = l.invariant.2 (omega arith);
+      result = rw e at l.invariant.0;
+      values = l.invariant.1 (omega arith);
     }

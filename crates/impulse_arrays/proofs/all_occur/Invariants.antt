@@ -2,12 +2,11 @@
 use mathlib.Core.Path.{◌≡◌}
 use mathlib.Core.Bool.{Bool}
 use mathlib.Core.List.{List}
-use Prim.Native.Nat.{ℕ, ◌-◌, ◌≤◌, ◌<◌}
+use Prim.Native.Nat.{ℕ, ◌<◌}
 use lib.ListN.{get_or}
 use lib.Ieee.{Float}
 use Rattle.rules.specs.Constants.{zero_f}
 use Rattle.rules.specs.Lists.{All}
-use Rattle.rules.specs.Impulse.{window_size}
 use Rattle.stage_log.specs.Check.{all_to}
 use Rattle.impulse_window.specs.Rising.{Held}
 use Rattle.impulse_arrays.specs.Occurs.{occurs}
@@ -16,9 +15,6 @@ use Rattle.impulse_arrays.proofs.all_occur.Given as goal
 abbrev pub test : List Float → List Float → ℕ → Bool
 test w s k = occurs (get_or s k zero_f) w
 
-abbrev pub invariant-loop-k : goal.invariant-loop-k
-invariant-loop-k l =
-    (l.k ≤ window_size) × (l.all ≡ all_to (test l.window l.sorted) l.k) × (0 < l.k → All Held l.window)
-
-abbrev pub decreases-loop-k : goal.decreases-loop-k
-decreases-loop-k l = window_size - l.k
+abbrev pub invariant-loop-x : goal.invariant-loop-x
+invariant-loop-x l =
+    (l.all ≡ all_to (test l.window l.sorted) l.x-index) × (0 < l.x-index → All Held l.window)

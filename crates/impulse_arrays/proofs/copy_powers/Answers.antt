@@ -14,7 +14,6 @@ pub loop-k-preserved : goal.loop-k-preserved
 loop-k-preserved c =
     let l = c.loop-k in
     let a = c.args in
-    let p = c.requires in
     subst (λ (x : Float). Copied a.window.now a.n a.wide.now (set l.wide l.k x) (l.k + 1)) (sym c.widen.ensures)
     (copied_next nan a.window.now a.n a.wide.now l.wide l.k (omega arith) (omega arith) c.loop-k-test.true l.invariant)
 

@@ -4,28 +4,33 @@ use mathlib.Core.Bool.{◌&&◌}
 use native.Mathlib.Numerals.{add-one}
 use native.Mathlib.Omega.{arith}
 use lib.Ieee.{nan}
+use lib.Seq.{length-take-le}
+use Prim.Native.Nat.{◌<◌}
+use Rattle.std.proofs.lemmas.List.{get_or-take}
 use Rattle.rules.specs.Constants.{zero_f}
 use Rattle.stage_log.specs.Check.{all_to}
 use Rattle.impulse_arrays.specs.Fits.{power_fits}
 use Rattle.impulse.proofs.laws.CircleLaws.{any_default}
-use borrow.Author.Rules.{rules}
 use Rattle.impulse_arrays.proofs.first_powers_fit.Goals as goal
 
-pub loop-k-init : goal.loop-k-init
+pub loop-p-init : goal.loop-p-init
 unfolding all_to
-loop-k-init c = (omega arith, refl)
+loop-p-init c = refl
 
-pub loop-k-preserved : goal.loop-k-preserved
+pub loop-p-preserved : goal.loop-p-preserved
 unfolding all_to
-loop-k-preserved c =
+loop-p-preserved c =
     let xs = c.args.window.now in
-    let l = c.loop-k in
+    let l = c.loop-p in
+    let n = length-take-le c.args.n xs (omega arith) in
+    let i : l.p-index < c.args.n = omega arith in
     let here = c.power_fits-fit.ensures
-    ∙ ap power_fits (any_default xs l.k nan zero_f (omega (arith, c.requires, c.loop-k-test.true))) in
-    (search rules, rw (add-one l.k) (λ i. l.invariant.1 i && here i))
+    ∙ ap power_fits (get_or-take c.args.n xs l.p-index nan i ∙ any_default xs l.p-index nan zero_f (omega arith)) in
+    rw (add-one l.p-index) (λ i. l.invariant i && here i)
 
 pub returns : goal.returns
 returns c =
-    let l = c.loop-k in
-    let e : l.k ≡ c.args.n = omega (arith, c.loop-k-test.false, l.invariant.0) in
-    rw e at l.invariant.1
+    let l = c.loop-p in
+    let n = length-take-le c.args.n c.args.window.now (omega arith) in
+    let e : l.p-index ≡ c.args.n = omega arith in
+    rw e at l.invariant

@@ -2,7 +2,7 @@
 use mathlib.Core.Path.{◌≡◌}
 use mathlib.Core.Bool.{Bool}
 use mathlib.Core.List.{List}
-use Prim.Native.Nat.{ℕ, ◌-◌, ◌≤◌}
+use Prim.Native.Nat.{ℕ}
 use lib.ListN.{get_or}
 use lib.Ieee.{Float}
 use Rattle.rules.specs.Constants.{zero_f}
@@ -13,8 +13,5 @@ use Rattle.impulse_arrays.proofs.first_powers_fit.Given as goal
 abbrev pub test : List Float → ℕ → Bool
 test xs k = power_fits (get_or xs k zero_f)
 
-abbrev pub invariant-loop-k : goal.invariant-loop-k
-invariant-loop-k l = (l.k ≤ l.n) × (l.fit ≡ all_to (test l.window) l.k)
-
-abbrev pub decreases-loop-k : goal.decreases-loop-k
-decreases-loop-k l = l.n - l.k
+abbrev pub invariant-loop-p : goal.invariant-loop-p
+invariant-loop-p l = l.fit ≡ all_to (test l.window) l.p-index

@@ -19,7 +19,7 @@ returns c =
     let s = c.args.sorted.now in
     let u = c.strictly_ascends.ensures in
     let v = c.all_occur.ensures in
-    let n : length s ≡ window_size = c.requires.fact_2 in
-    let m : length w ≡ window_size = c.requires.fact_1 in
+    let n : length s ≡ window_size = omega arith in
+    let m : length w ≡ window_size = omega arith in
     λ e. window_sorted w s (n ∙ sym m) u.values v.values (sym u.result ∙ c.if-not-strictly_ascends.false)
     (λ k h. all_at (λ k. occurs (get_or s k zero_f) w) window_size k (sym v.result ∙ e) (omega arith))

@@ -22,23 +22,23 @@ next x l k so this h e a f g =
     let one : k + 1 ≡ suc k = omega arith in
     rw one (rw (e, f) (sym (occurs_more x l k nan h)), held_more l k nan h a g)
 
-pub loop-k-init : goal.loop-k-init
-loop-k-init c = (omega arith, sym (occurs_none c.args.x), tt)
+pub loop-y-init : goal.loop-y-init
+loop-y-init c = (sym (occurs_none c.args.x), tt)
 
-pub loop-k-preserved : goal.loop-k-preserved
-loop-k-preserved c =
+pub loop-y-preserved : goal.loop-y-preserved
+loop-y-preserved c =
     let l = c.args.window.now in
-    let i = c.loop-k in
+    let i = c.loop-y in
     let e = c.equal-found.ensures in
-    let f = next c.args.x l i.k i.found c.equal-found.result (omega arith) i.invariant.1 i.invariant.2 e.result e.values.1 in
-    (omega arith, f.0, f.1)
+    let f = next c.args.x l i.y-index i.found c.equal-found.result (omega arith) i.invariant.0 i.invariant.1 e.result e.values.1 in
+    (f.0, f.1)
 
 pub returns : goal.returns
 returns c =
     let l = c.args.window.now in
-    let i = c.loop-k in
-    let all : take i.k l ≡ l = take_all i.k l (omega arith) in
+    let i = c.loop-y in
+    let all : take i.y-index l ≡ l = take_all i.y-index l (omega arith) in
     record {
-      result = rw all at i.invariant.1;
-      values = rw all at i.invariant.2;
+      result = rw all at i.invariant.0;
+      values = rw all at i.invariant.1;
     }

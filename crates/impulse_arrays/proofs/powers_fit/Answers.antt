@@ -17,4 +17,4 @@ fewer n xs h e = all_of (λ k. power_fits (get_or xs k zero_f)) n (λ k l. all_a
 
 pub returns-then-first_powers_fit : goal.returns-then-first_powers_fit
 returns-then-first_powers_fit c =
-    sym (fewer c.args.n c.args.window.now c.requires.fact_1 (sym c.first_powers_fit.ensures ∙ c.if-first_powers_fit.true))
+    sym (fewer c.args.n c.args.window.now c.requires (sym c.first_powers_fit.ensures ∙ c.if-first_powers_fit.true))

@@ -11,14 +11,13 @@ use Rattle.rules.specs.Constants.{zero_f}
 use Rattle.stage_log.specs.Check.{all_to}
 use Rattle.stage_log.proofs.laws.CheckLaws.{all_next, all_not}
 use Rattle.impulse.proofs.laws.CircleLaws.{any_default}
-use borrow.Author.Rules.{rules}
 use Rattle.impulse_arrays.proofs.same_powers.Invariants.{test}
 use Rattle.impulse_arrays.proofs.same_powers.Goals as goal
 use Rattle.impulse_arrays.proofs.same_powers.Goals.{After-to_bits64}
 
 pub loop-k-init : goal.loop-k-init
 unfolding all_to
-loop-k-init c = (omega arith, refl)
+loop-k-init c = refl
 
 -- the bits that are compared at k
 module _ (c : After-to_bits64) where
@@ -39,14 +38,12 @@ module _ (c : After-to_bits64) where
 
   left : c.to_bits64-given.result ≡ to_bits binary64 (get_or xs k zero_f)
   left =
-      let p = c.requires in
       c.to_bits64-given.ensures
-      ∙ ap (to_bits binary64) (c.widen.ensures ∙ any_default xs k nan zero_f (omega (arith, p.fact_1, p.fact_2, here)))
+      ∙ ap (to_bits binary64) (c.widen.ensures ∙ any_default xs k nan zero_f (omega (arith, here)))
 
   right : c.to_bits64.result ≡ to_bits binary64 (get_or ys k zero_f)
   right =
-      let p = c.requires in
-      c.to_bits64.ensures ∙ ap (to_bits binary64) (any_default ys k nan zero_f (omega (arith, p.fact_1, p.fact_3, here)))
+      c.to_bits64.ensures ∙ ap (to_bits binary64) (any_default ys k nan zero_f (omega (arith, here)))
 
 pub returns-then-given-to_bits64 : goal.returns-then-given-to_bits64
 returns-then-given-to_bits64 c =
@@ -55,10 +52,10 @@ returns-then-given-to_bits64 c =
 pub loop-k-preserved : goal.loop-k-preserved
 loop-k-preserved c =
     let l = c.loop-k in
-    (search rules, rw (add-one l.k) (all_next (test (xs (goal.at.loop-k-preserved c).After-to_bits64) (ys (goal.at.loop-k-preserved c).After-to_bits64)) l.k l.invariant.1 (eq-eqb _ _ (sym (left (goal.at.loop-k-preserved c).After-to_bits64) ∙ c.if-given-to_bits64.false ∙ right (goal.at.loop-k-preserved c).After-to_bits64))))
+    rw (add-one l.k) (all_next (test (xs (goal.at.loop-k-preserved c).After-to_bits64) (ys (goal.at.loop-k-preserved c).After-to_bits64)) l.k l.invariant (eq-eqb _ _ (sym (left (goal.at.loop-k-preserved c).After-to_bits64) ∙ c.if-given-to_bits64.false ∙ right (goal.at.loop-k-preserved c).After-to_bits64)))
 
 pub returns : goal.returns
 returns c =
     let l = c.loop-k in
-    let e : l.k ≡ c.args.n = omega (arith, c.loop-k-test.false, l.invariant.0) in
-    sym (rw e at l.invariant.1)
+    let e : l.k ≡ c.args.n = omega arith in
+    sym (rw e at l.invariant)

@@ -2,7 +2,7 @@
 use mathlib.Core.Path.{◌≡◌}
 use mathlib.Core.Bool.{Bool, true}
 use mathlib.Core.List.{List}
-use Prim.Native.Nat.{ℕ, ◌-◌, ◌≤◌}
+use Prim.Native.Nat.{ℕ}
 use lib.Dec.{eqb}
 use lib.ListN.{get_or}
 use lib.Ieee.{Float, binary64, to_bits}
@@ -14,7 +14,4 @@ abbrev pub test : List Float → List Float → ℕ → Bool
 test xs ys k = eqb (to_bits binary64 (get_or xs k zero_f)) (to_bits binary64 (get_or ys k zero_f))
 
 abbrev pub invariant-loop-k : goal.invariant-loop-k
-invariant-loop-k l = (l.k ≤ l.n) × (all_to (test l.sorted l.wide) l.k ≡ true)
-
-abbrev pub decreases-loop-k : goal.decreases-loop-k
-decreases-loop-k l = l.n - l.k
+invariant-loop-k l = all_to (test l.sorted l.wide) l.k ≡ true

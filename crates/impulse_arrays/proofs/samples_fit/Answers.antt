@@ -23,5 +23,5 @@ none_beyond xs n k h f = go (ltb k n) refl
 pub returns : goal.returns
 returns c =
     let xs = c.args.pending.now in
-    none_beyond xs c.args.n c.first_beyond.result (omega (arith, c.requires.fact_1, c.requires.fact_2))
+    none_beyond xs c.args.n c.first_beyond.result (omega arith)
     (subst (FirstBeyond xs) (sym c.first_beyond.ensures) (first_place xs))

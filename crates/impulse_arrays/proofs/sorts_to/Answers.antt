@@ -11,7 +11,7 @@ use Rattle.rules.specs.Constants.{zero_f}
 use Rattle.rules.specs.Sort.{sort}
 use Rattle.rules.specs.Impulse.{window_size}
 use Rattle.impulse_arrays.specs.Fits.{sorted_fits}
-use Rattle.impulse_arrays.proofs.Powers.{copied_length, over_length, over_first, all_same}
+use Rattle.impulse_arrays.proofs.Powers.{copied_length, over_first, all_same}
 use Rattle.impulse_arrays.proofs.sorts_to.Goals as goal
 use Rattle.impulse_arrays.proofs.sorts_to.Goals.{After-copy_powers}
 
@@ -30,10 +30,10 @@ module _ (c : After-copy_powers) where
   ws = c.copy_powers.new.wide
 
   few : n ≤ length xs
-  few = omega (arith, c.requires.fact_1, c.requires.fact_2)
+  few = omega arith
 
   room : n ≤ length zs
-  room = omega (arith, c.requires.fact_1, length-replicate window_size zero_f)
+  room = omega (arith, c.requires, length-replicate window_size zero_f)
 
   copied : ws ≡ take n xs ++ drop n zs
   copied = c.copy_powers.ensures
@@ -46,17 +46,6 @@ slice_bounds-wide-end c = inside c
 
 pub slice_bounds-sort_words-end : goal.slice_bounds-sort_words-end
 slice_bounds-sort_words-end c = sym (length-take-le (n (goal.at.slice_bounds-sort_words-end c).After-copy_powers) (ws (goal.at.slice_bounds-sort_words-end c).After-copy_powers) (inside (goal.at.slice_bounds-sort_words-end c).After-copy_powers))
-
-pub same_powers-requires : goal.same_powers-requires
-same_powers-requires c =
-    let p = c.requires in
-    record {
-      fact_1 = p.fact_1;
-      fact_2 = p.fact_3;
-      fact_3 =
-          over_length (n (goal.at.same_powers-requires c).After-copy_powers) (xs (goal.at.same_powers-requires c).After-copy_powers) (zs (goal.at.same_powers-requires c).After-copy_powers) (ws (goal.at.same_powers-requires c).After-copy_powers) (few (goal.at.same_powers-requires c).After-copy_powers) (room (goal.at.same_powers-requires c).After-copy_powers) (copied (goal.at.same_powers-requires c).After-copy_powers) c.sort_words.new.part c.sort_words.ensures
-          ∙ length-replicate window_size zero_f;
-    }
 
 pub returns : goal.returns
 unfolding sorted_fits

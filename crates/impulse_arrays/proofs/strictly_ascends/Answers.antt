@@ -14,15 +14,15 @@ unfolding of_bits
 loop-k-init c =
     let l = c.args.sorted.now in
     let e = c.below-rising.ensures in
-    (omega arith, e.result ∙ sym (climbs_one lt zero_f l nan (omega arith)), held_more l 0 nan (omega arith) tt e.values.1)
+    (e.result ∙ sym (climbs_one lt zero_f l nan (omega arith)), held_more l 0 nan (omega arith) tt e.values.1)
 
 pub loop-k-preserved : goal.loop-k-preserved
 loop-k-preserved c =
     let l = c.args.sorted.now in
     let i = c.loop-k in
     let e = c.below-rising-in-loop-k.ensures in
-    let f = further lt l i.k i.rising c.below-rising-in-loop-k.result (omega arith) i.invariant.1 i.invariant.2 e.result e.values.1 in
-    (omega arith, f.0, f.1)
+    let f = further lt l i.k i.rising c.below-rising-in-loop-k.result (omega arith) i.invariant.0 i.invariant.1 e.result e.values.1 in
+    (f.0, f.1)
 
 pub returns : goal.returns
 returns c =
@@ -30,6 +30,6 @@ returns c =
     let i = c.loop-k in
     let all : take (suc i.k) l ≡ l = take_all (suc i.k) l (omega arith) in
     record {
-      result = rw all at i.invariant.1;
-      values = rw all at i.invariant.2;
+      result = rw all at i.invariant.0;
+      values = rw all at i.invariant.1;
     }

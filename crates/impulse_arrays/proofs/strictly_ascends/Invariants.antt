@@ -1,6 +1,6 @@
 -- `impulse_arrays::strictly_ascends` meets its contract: the powers passed ascend strictly. Assumes nothing.
 use mathlib.Core.Path.{◌≡◌}
-use Prim.Native.Nat.{suc, ◌-◌, ◌≤◌}
+use Prim.Native.Nat.{suc}
 use lib.Ieee.{lt}
 use lib.ListN.{take}
 use Rattle.rules.specs.Constants.{zero_f}
@@ -10,7 +10,4 @@ use Rattle.impulse_arrays.proofs.strictly_ascends.Given as goal
 
 abbrev pub invariant-loop-k : goal.invariant-loop-k
 invariant-loop-k l =
-    (l.k ≤ 32) × (l.rising ≡ climbs lt zero_f (take (suc l.k) l.sorted)) × All Held (take (suc l.k) l.sorted)
-
-abbrev pub decreases-loop-k : goal.decreases-loop-k
-decreases-loop-k l = 32 - l.k
+    (l.rising ≡ climbs lt zero_f (take (suc l.k) l.sorted)) × All Held (take (suc l.k) l.sorted)
