@@ -1,5 +1,5 @@
 -- Document 01's number 5, as far as it speaks of a state: its causes in groups, each as a test that a fit state passes. Definitions only.
-use Rattle.std.specs.Prelude.{Bool, true, cond, ◌&&◌, ℕ, ◌+◌, min, ltb, leb, eqb}
+use Rattle.std.specs.Prelude.{Bool, true, cond, ◌&&◌, ℕ, ◌+◌, min, ltb, leb, eqb, Option, Some, None}
 use Rattle.rules.specs.Constants.{counter_limit}
 use Rattle.rules.specs.Refusals.{within_limit}
 use Rattle.rules.specs.Iq.{Settled, Off, Observing, Withheld, Correcting, accepted}
@@ -7,10 +7,6 @@ use Rattle.rules.specs.Impulse.{lookahead_size, next_judged, block_length}
 use Rattle.amplitude_limit.specs.Limit.{limited}
 use Rattle.stage_log.specs.Check.{ring_fits, log_fits}
 use Rattle.impulse.specs.declared.Run.{Run}
-use Rattle.impulse.specs.declared.Open.{Open}
-use Rattle.impulse.specs.declared.Open.TheVariants.{Running, Closed}
-use Rattle.impulse.specs.declared.Left.{Left}
-use Rattle.impulse.specs.declared.Left.TheVariants.{Neighbour, Missing}
 use Rattle.impulse.specs.declared.Gate.{Gate}
 use Rattle.impulse.specs.declared.ImpulseSuppressor.{ImpulseSuppressor}
 use Rattle.impulse_arrays.specs.Fits.{window_held, arrays_fit, sorted_fits}
@@ -56,14 +52,14 @@ counts_fit applies n =
 abbrev pub ends_at : Run → ℕ → Bool
 ends_at r j = ltb 0 r.len && eqb (r.start + r.len) j
 
-abbrev pub run_fits : Open → ℕ → Bool
-run_fits Closed j = true
-run_fits (Running r) j = ends_at r j
+abbrev pub run_fits : Option Run → ℕ → Bool
+run_fits None j = true
+run_fits (Some r) j = ends_at r j
 
 -- not: 'a .. left part not within 1e18'
-abbrev pub left_fits : Left → Bool
-left_fits Missing = true
-left_fits (Neighbour x) = within_limit x
+abbrev pub left_fits : Option ℕ → Bool
+left_fits None = true
+left_fits (Some x) = within_limit x
 
 unfoldable pub gate_fits : Gate → Bool
 gate_fits g =

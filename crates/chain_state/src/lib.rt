@@ -7,7 +7,7 @@ ghost use Rattle.chain_state.specs.Fits.{counter, settings_fit, applies, held_by
 ghost use Rattle.chain_state.specs.Fits.{blocker_fits, coefficient_fits, begun_fits, monitor_fits, logs_fit, stages_fit, front_fits, state_fits};
 
 use dc::DcBlocker;
-use impulse::{Gate, ImpulseSuppressor, Left, Open, Run};
+use impulse::{Gate, ImpulseSuppressor, Run};
 use iq::Iq;
 use iq_monitor::{Begun, ImageMonitor};
 use stage_log::Notes;
@@ -108,60 +108,48 @@ fn ends_at(run: Run, j: u64) -> bool
     j - run.start == run.len
 }
 
-fn run_fits(run: Open, j: u64) -> bool
+fn run_fits(run: Option<Run>, j: u64) -> bool
     ensures { result ≡ run_fits run j }
 {
-    match run {
-        Open::Running(r) => ends_at(r, j),
-        Open::Closed => true,
-    }
+    run.is_none_or(|r| ends_at(r, j))
 }
 
-fn left_fits(left: Left) -> bool
+fn left_fits(left: Option<u64>) -> bool
     ensures { result ≡ left_fits left }
 {
-    match left {
-        Left::Neighbour(x) => amplitude_limit::within(x),
-        Left::Missing => true,
-    }
+    left.is_none_or(|x| amplitude_limit::within(x))
 }
 
-fn gate_fits(g: Gate) -> bool
-    ensures { result ≡ gate_fits g }
+fn gate_fits(g: &Gate) -> bool
+    ensures { result ≡ gate_fits g.now }
 {
-    let mending = g.mending;
-    let run = mending.run;
-    let left = mending.left;
     if !counters_fit(g.received, g.block.number, g.block.flagged) {
         return false;
     }
-    if !run_fits(run, impulse::next_judged(g.received)) {
+    if !run_fits(g.mending.run, impulse::next_judged(g.received)) {
         return false;
     }
-    left_fits(left)
+    left_fits(g.mending.left)
 }
 
 // The arrays, and where the stage runs how many samples it has received, and its sorted list.
-fn suppressor_fits(m: ImpulseSuppressor, running: bool, seen: u64) -> bool
-    ensures { result ≡ suppressor_fits m running seen }
+fn suppressor_fits(m: &ImpulseSuppressor, running: bool, seen: u64) -> bool
+    ensures { result ≡ suppressor_fits m.now running seen }
 {
-    let gate = m.gate;
-    let window = m.window;
-    let sorted = m.sorted;
-    let pending = m.pending;
-    if !impulse_arrays::arrays_fit(gate.received, &window, &pending) {
+    let received = m.gate.received;
+    if !impulse_arrays::arrays_fit(received, &m.window, &m.pending) {
         return false;
     }
     if !running {
         return true;
     }
-    if gate.received != seen {
+    if received != seen {
         return false;
     }
     impulse_arrays::sorted_fits(
-        impulse_arrays::holds(ImpulseSuppressor::WINDOW, gate.received),
-        &window,
-        &sorted,
+        impulse_arrays::holds(ImpulseSuppressor::WINDOW, received),
+        &m.window,
+        &m.sorted,
     )
 }
 
@@ -250,7 +238,7 @@ impl InputConditioner {
         if !counts_fit(self.applies(), counts) {
             return false;
         }
-        gate_fits(gate)
+        gate_fits(&gate)
     }
 
     fn impulse_fits(self) -> bool
@@ -262,7 +250,7 @@ impl InputConditioner {
         if is_untouched(settings.impulse, gate.received) {
             return true;
         }
-        suppressor_fits(suppressor, settings.impulse, self.counts.seen)
+        suppressor_fits(&suppressor, settings.impulse, self.counts.seen)
     }
 
     fn logs_fit(self) -> bool

@@ -13,14 +13,14 @@ unfolding gate_fits
 returns-then-not-counters_fit c = three _ _ _ false _ _ (sym c.counters_fit.ensures ∙ c.if-not-counters_fit.true) refl refl
 
 -- the counters, and the run by the answer t
-first : (c : Else-not-counters_fit) → let g = c.args.g in
+first : (c : Else-not-counters_fit) → let g = c.args.g.now in
     (counter g.received && counter g.block.number && counter g.block.flagged) ≡ true
 first c = sym c.counters_fit.ensures ∙ c.if-not-counters_fit.false
 
-second : (c : After-run_fits) (t : Bool) → c.run_fits.result ≡ t → let g = c.args.g in
+second : (c : After-run_fits) (t : Bool) → c.run_fits.result ≡ t → let g = c.args.g.now in
     run_fits g.mending.run (next_judged g.received) ≡ t
 second c t e =
-    let g = c.args.g in
+    let g = c.args.g.now in
     sym (c.run_fits.ensures ∙ ap (λ (j : ℕ). run_fits g.mending.run j) c.next_judged.ensures) ∙ e
 
 pub returns-then-not-run_fits : goal.returns-then-not-run_fits

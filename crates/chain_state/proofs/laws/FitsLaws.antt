@@ -1,12 +1,11 @@
 -- What a state that fits keeps to. Assumes nothing.
-use Rattle.std.specs.Prelude.{◌≡◌, Bool, true, cond, ◌&&◌, ℕ, ◌+◌, ◌^◌, ◌≤◌, ◌<◌, ltb, eqb}
+use Rattle.std.specs.Prelude.{◌≡◌, Bool, true, cond, ◌&&◌, ℕ, ◌+◌, ◌^◌, ◌≤◌, ◌<◌, ltb, eqb, Option, Some, None}
 use Rattle.std.proofs.Common.{sym, ap, ◌∙◌, subst, arith, leb-true, eqb-true}
 use Rattle.rules.proofs.laws.TestLaws.{both}
 use Rattle.rules.specs.Impulse.{block_length, next_judged}
 use Rattle.amplitude_limit.specs.Limit.{limited}
 use Rattle.stage_log.specs.Check.{ring_fits, log_fits}
-use Rattle.impulse.specs.declared.Open.{Open}
-use Rattle.impulse.specs.declared.Open.TheVariants.{Running, Closed}
+use Rattle.impulse.specs.declared.Run.{Run}
 use Rattle.impulse.specs.declared.Gate.{Gate}
 use Rattle.impulse.specs.declared.ImpulseSuppressor.{ImpulseSuppressor}
 use Rattle.impulse.specs.Room.{run_end}
@@ -66,9 +65,9 @@ counts_fit_lem a n e =
       sum = eqb-true _ _ p.2;
     }
 
-run_end_lem : (run : Open) (j : ℕ) → run_fits run j ≡ true → run_end run ≤ j
-run_end_lem Closed j e = omega arith
-run_end_lem (Running r) j e =
+run_end_lem : (run : Option Run) (j : ℕ) → run_fits run j ≡ true → run_end run ≤ j
+run_end_lem None j e = omega arith
+run_end_lem (Some r) j e =
     let q = eqb-true (r.start + r.len) j (both (ltb 0 r.len) (eqb (r.start + r.len) j) e).1 in
     omega arith
 

@@ -16,7 +16,7 @@ returns-then-not-arrays_fit c = two _ _ false _ (sym c.arrays_fit.ensures ∙ c.
 
 -- the arrays fit, behind the first test
 arrays : (c : Else-not-arrays_fit)
-    → let m = c.args.m in arrays_fit m.gate.received m.window m.pending ≡ true
+    → let m = c.args.m.now in arrays_fit m.gate.received m.window m.pending ≡ true
 arrays c = sym c.arrays_fit.ensures ∙ c.if-not-arrays_fit.false
 
 -- with arrays that fit, by whether the stage runs, and what the rest is then
@@ -28,17 +28,17 @@ by_run m running seen b t a r e = two _ _ true t a (ap (λ (x : Bool). cond x (r
 pub returns-then-not-running : goal.returns-then-not-running
 returns-then-not-running c =
     let a = c.args in
-    by_run a.m a.running a.seen false true (arrays (goal.at.returns-then-not-running c).Else-not-arrays_fit) c.if-not-running.true refl
+    by_run a.m.now a.running a.seen false true (arrays (goal.at.returns-then-not-running c).Else-not-arrays_fit) c.if-not-running.true refl
 
-pub returns-then-gate-seen : goal.returns-then-gate-seen
+pub returns-then-received-seen : goal.returns-then-received-seen
 unfolding running_fits
-returns-then-gate-seen c =
+returns-then-received-seen c =
     let a = c.args in
-    by_run a.m a.running a.seen true false (arrays (goal.at.returns-then-gate-seen c).Else-not-arrays_fit) c.if-not-running.false (sym (two _ _ false _ (ne_eqb _ _ c.if-gate-seen.true) refl))
+    by_run a.m.now a.running a.seen true false (arrays (goal.at.returns-then-received-seen c).Else-not-arrays_fit) c.if-not-running.false (sym (two _ _ false _ (ne_eqb _ _ c.if-received-seen.true) refl))
 
 pub returns : goal.returns
 unfolding running_fits
 returns c =
     let a = c.args in
-    let sorted = sym (c.sorted_fits.ensures ∙ ap (λ (n : ℕ). sorted_fits n a.m.window a.m.sorted) c.holds.ensures) in
-    by_run a.m a.running a.seen true _ (arrays (goal.at.returns c).Else-not-arrays_fit) c.if-not-running.false (sym (two _ _ true _ (eq-eqb _ _ c.if-gate-seen.false) sorted))
+    let sorted = sym (c.sorted_fits.ensures ∙ ap (λ (n : ℕ). sorted_fits n a.m.now.window a.m.now.sorted) c.holds.ensures) in
+    by_run a.m.now a.running a.seen true _ (arrays (goal.at.returns c).Else-not-arrays_fit) c.if-not-running.false (sym (two _ _ true _ (eq-eqb _ _ c.if-received-seen.false) sorted))
