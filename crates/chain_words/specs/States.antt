@@ -1,5 +1,5 @@
 -- The state that words say; any words say one. Definitions only.
-use Rattle.std.specs.Prelude.{Bool, cond, not, List, [], ◌∷◌, map, ℕ, zero, suc, ◌+◌, ◌%◌, ◌^◌, eqb, get_or, take, drop, Float}
+use Rattle.std.specs.Prelude.{Bool, cond, not, List, [], ◌∷◌, map, ℕ, zero, suc, ◌+◌, ◌%◌, ◌^◌, eqb, get_or, take, drop, Float, Option, Some, None}
 use Rattle.std.specs.Float.{binary32, binary64}
 use Rattle.std.specs.Float.Ieee.{of_bits}
 use Rattle.complex.specs.declared.Complex64.{Complex64}
@@ -9,10 +9,7 @@ use Rattle.impulse_pause.specs.View.{numbered}
 use Rattle.stage_log.specs.declared.Ring.{Ring}
 use Rattle.stage_log.specs.declared.Log.{Log}
 use Rattle.stage_log.specs.declared.Notes.{Notes}
-use Rattle.impulse.specs.declared.Open.{Open}
-use Rattle.impulse.specs.declared.Open.TheVariants.{Running, Closed}
-use Rattle.impulse.specs.declared.Left.{Left}
-use Rattle.impulse.specs.declared.Left.TheVariants.{Neighbour, Missing}
+use Rattle.impulse.specs.declared.Run.{Run}
 use Rattle.impulse.specs.declared.GateSettings.{GateSettings}
 use Rattle.impulse.specs.declared.Mending.{Mending}
 use Rattle.impulse.specs.declared.Block.{Block}
@@ -60,11 +57,11 @@ iq_at w re im =
     (cond (eqb w 2) (iq.Correcting (complex_at re im)) iq.Withheld))
 
 -- every tag but 0 says that there is one, here and below
-abbrev pub run_at : ℕ → ℕ → ℕ → ℕ → Open
-run_at w start len paused = cond (eqb w 0) Closed (Running (record { start = start; len = len; paused = flag_of paused }))
+abbrev pub run_at : ℕ → ℕ → ℕ → ℕ → Option Run
+run_at w start len paused = cond (eqb w 0) None (Some (record { start = start; len = len; paused = flag_of paused }))
 
-abbrev pub left_at : ℕ → ℕ → Left
-left_at w x = cond (eqb w 0) Missing (Neighbour x)
+abbrev pub left_at : ℕ → ℕ → Option ℕ
+left_at w x = cond (eqb w 0) None (Some x)
 
 abbrev pub begun_at : ℕ → ℕ → Begun
 begun_at w f = cond (eqb w 0) Never (At f)

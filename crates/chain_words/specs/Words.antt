@@ -1,5 +1,5 @@
 -- A state as words: the numbers of each part in order, then the arrays, then the log. Definitions only.
-use Rattle.std.specs.Prelude.{Bool, cond, List, [], ◌∷◌, ◌++◌, map, ℕ, Float}
+use Rattle.std.specs.Prelude.{Bool, cond, List, [], ◌∷◌, ◌++◌, map, ℕ, Float, Option, Some, None}
 use Rattle.std.specs.Float.{binary32, binary64}
 use Rattle.std.specs.Float.Ieee.{to_bits}
 use Rattle.stage_mode.specs.declared.StageMode.{StageMode}
@@ -8,10 +8,7 @@ use Rattle.impulse_pause.specs.View.{number_of}
 use Rattle.stage_log.specs.declared.Ring.{Ring}
 use Rattle.stage_log.specs.declared.Log.{Log}
 use Rattle.stage_log.specs.declared.Notes.{Notes}
-use Rattle.impulse.specs.declared.Open.{Open}
-use Rattle.impulse.specs.declared.Open.TheVariants.{Running, Closed}
-use Rattle.impulse.specs.declared.Left.{Left}
-use Rattle.impulse.specs.declared.Left.TheVariants.{Neighbour, Missing}
+use Rattle.impulse.specs.declared.Run.{Run}
 use Rattle.impulse.specs.declared.GateSettings.{GateSettings}
 use Rattle.impulse.specs.declared.Mending.{Mending}
 use Rattle.impulse.specs.declared.Block.{Block}
@@ -51,18 +48,18 @@ iq_parts iq.Withheld = (3, 0, 0)
 abbrev pub iq_words : Iq → List ℕ
 iq_words q = let p = iq_parts q in p.0 ∷ p.1 ∷ p.2 ∷ []
 
-abbrev pub run_parts : Open → ℕ × ℕ × ℕ × ℕ
-run_parts Closed = (0, 0, 0, 0)
-run_parts (Running r) = (1, r.start, r.len, flag_word r.paused)
+abbrev pub run_parts : Option Run → ℕ × ℕ × ℕ × ℕ
+run_parts None = (0, 0, 0, 0)
+run_parts (Some r) = (1, r.start, r.len, flag_word r.paused)
 
-abbrev pub run_words : Open → List ℕ
+abbrev pub run_words : Option Run → List ℕ
 run_words o = let p = run_parts o in p.0 ∷ p.1 ∷ p.2 ∷ p.3 ∷ []
 
-abbrev pub left_parts : Left → ℕ × ℕ
-left_parts Missing = (0, 0)
-left_parts (Neighbour x) = (1, x)
+abbrev pub left_parts : Option ℕ → ℕ × ℕ
+left_parts None = (0, 0)
+left_parts (Some x) = (1, x)
 
-abbrev pub left_words : Left → List ℕ
+abbrev pub left_words : Option ℕ → List ℕ
 left_words l = let p = left_parts l in p.0 ∷ p.1 ∷ []
 
 abbrev pub begun_parts : Begun → ℕ × ℕ

@@ -17,7 +17,7 @@ ghost use Rattle.chain_words.specs.Typed.{Double, Doubles, IqTyped};
 use chain_state::{Counts, InputConditioner, Settings};
 use complex::Complex64;
 use dc::DcBlocker;
-use impulse::{Block, Gate, GateSettings, ImpulseSuppressor, Left, Mending, Open, Run};
+use impulse::{Block, Gate, GateSettings, ImpulseSuppressor, Mending, Run};
 use impulse_pause::PauseEdition;
 use iq::Iq;
 use iq_monitor::{Begun, ImageMonitor};
@@ -183,22 +183,22 @@ fn iq_at(w: u64, re: u64, im: u64) -> Iq
     }
 }
 
-fn run_words(run: Open) -> [u64; 4]
+fn run_words(run: Option<Run>) -> [u64; 4]
     ensures { result ≡ run_words run }
 {
     match run {
-        Open::Running(r) => [1, r.start, r.len, flag_word(r.paused)],
-        Open::Closed => [0, 0, 0, 0],
+        Some(r) => [1, r.start, r.len, flag_word(r.paused)],
+        None => [0, 0, 0, 0],
     }
 }
 
 // Every tag but 0 says that there is one, here and below.
-fn run_at(w: u64, start: u64, len: u64, paused: u64) -> Open
+fn run_at(w: u64, start: u64, len: u64, paused: u64) -> Option<Run>
     ensures { result ≡ run_at w start len paused }
 {
     match w {
-        0 => Open::Closed,
-        _ => Open::Running(Run {
+        0 => None,
+        _ => Some(Run {
             start,
             len,
             paused: flag_of(paused),
@@ -206,21 +206,21 @@ fn run_at(w: u64, start: u64, len: u64, paused: u64) -> Open
     }
 }
 
-fn left_words(left: Left) -> [u64; 2]
+fn left_words(left: Option<u64>) -> [u64; 2]
     ensures { result ≡ left_words left }
 {
     match left {
-        Left::Neighbour(x) => [1, x],
-        Left::Missing => [0, 0],
+        Some(x) => [1, x],
+        None => [0, 0],
     }
 }
 
-fn left_at(w: u64, x: u64) -> Left
+fn left_at(w: u64, x: u64) -> Option<u64>
     ensures { result ≡ left_at w x }
 {
     match w {
-        0 => Left::Missing,
-        _ => Left::Neighbour(x),
+        0 => None,
+        _ => Some(x),
     }
 }
 
@@ -297,10 +297,8 @@ fn read_gate_settings(words: &[u64; STATE_WORDS]) -> GateSettings
 fn mending_words(m: Mending) -> [u64; 6]
     ensures { result ≡ mending_words m }
 {
-    let open = m.run;
-    let before = m.left;
-    let run = run_words(open);
-    let left = left_words(before);
+    let run = run_words(m.run);
+    let left = left_words(m.left);
     [run[0], run[1], run[2], run[3], left[0], left[1]]
 }
 

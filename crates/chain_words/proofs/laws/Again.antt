@@ -1,5 +1,6 @@
 -- A state's words say that state. Assumes nothing.
-use Rattle.std.specs.Prelude.{◌≡◌, refl, Bool, true, false, List, [], ◌∷◌, ◌++◌, map, ℕ, ◌+◌, ◌^◌, ◌<◌, length, take, drop, Float}
+use Rattle.impulse.specs.declared.Run.{Run}
+use Rattle.std.specs.Prelude.{◌≡◌, refl, Bool, true, false, List, [], ◌∷◌, ◌++◌, map, ℕ, ◌+◌, ◌^◌, ◌<◌, length, take, drop, Float, Option, Some, None}
 use Rattle.std.proofs.Common.{sym, ap, ◌∙◌, append_assoc, append-nil, arith, mod-eq_of_lt, length-append, take_at, drop_at}
 use Rattle.std.specs.Float.{binary32, binary64}
 use Rattle.std.specs.Float.Ieee.{to_bits, of_bits}
@@ -13,10 +14,6 @@ use Rattle.impulse_pause.specs.declared.PauseEdition.{PauseEdition}
 use Rattle.impulse_pause.specs.declared.PauseEdition.TheVariants as edition
 use Rattle.impulse_pause.specs.View.{number_of, numbered}
 use Rattle.complex.specs.declared.Complex64.{Complex64}
-use Rattle.impulse.specs.declared.Open.{Open}
-use Rattle.impulse.specs.declared.Open.TheVariants.{Running, Closed}
-use Rattle.impulse.specs.declared.Left.{Left}
-use Rattle.impulse.specs.declared.Left.TheVariants.{Neighbour, Missing}
 use Rattle.iq.specs.declared.Iq.{Iq}
 use Rattle.iq.specs.declared.Iq.TheVariants as iq
 use Rattle.iq_monitor.specs.declared.Begun.{Begun}
@@ -62,13 +59,13 @@ iq_again iq.Observing h = refl
 iq_again (iq.Correcting rho) h = ap iq.Correcting (complex_again rho h)
 iq_again iq.Withheld h = refl
 
-run_again : (o : Open) → (let p = run_parts o in run_at p.0 p.1 p.2 p.3) ≡ o
-run_again (Running r) = λ i. Running (record { start = r.start; len = r.len; paused = flag_again r.paused i })
-run_again Closed = refl
+run_again : (o : Option Run) → (let p = run_parts o in run_at p.0 p.1 p.2 p.3) ≡ o
+run_again (Some r) = λ i. Some (record { start = r.start; len = r.len; paused = flag_again r.paused i })
+run_again None = refl
 
-left_again : (l : Left) → (let p = left_parts l in left_at p.0 p.1) ≡ l
-left_again (Neighbour x) = refl
-left_again Missing = refl
+left_again : (l : Option ℕ) → (let p = left_parts l in left_at p.0 p.1) ≡ l
+left_again (Some x) = refl
+left_again None = refl
 
 begun_again : (b : Begun) → (let p = begun_parts b in begun_at p.0 p.1) ≡ b
 begun_again (At f) = refl

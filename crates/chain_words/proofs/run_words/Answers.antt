@@ -4,9 +4,9 @@ use mathlib.Core.List.{[], ◌∷◌}
 use Rattle.chain_words.specs.Words.{run_words}
 use Rattle.chain_words.proofs.run_words.Goals as goal
 
-pub returns-in-Running : goal.returns-in-Running
-returns-in-Running c =
-    (λ i. 1 ∷ c.in-Running.r.start ∷ c.in-Running.r.len ∷ c.flag_word.ensures i ∷ []) ∙ ap run_words (sym c.in-Running.is)
+pub returns-in-Some : goal.returns-in-Some
+returns-in-Some c =
+    (λ i. 1 ∷ c.in-Some.r.start ∷ c.in-Some.r.len ∷ c.flag_word.ensures i ∷ []) ∙ ap run_words (sym c.in-Some.is)
 
-pub returns-in-Closed : goal.returns-in-Closed
-returns-in-Closed c = ap run_words (sym c.in-Closed.is)
+pub returns-in-None : goal.returns-in-None
+returns-in-None c = ap run_words (sym c.in-None.is)
