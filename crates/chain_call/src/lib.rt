@@ -2,7 +2,6 @@
 #![tactic(auto)]
 
 ghost use Rattle.std.specs.Prelude.{◌≡◌, ◌++◌, map, ◌+◌, ◌^◌, ◌≤◌, ◌<◌, length, take, drop};
-ghost use Rattle.rules.specs.Impulse.{window_size};
 ghost use Rattle.rules.specs.Log.{span_of};
 ghost use Rattle.rules.specs.Iq.{corrected_by};
 ghost use Rattle.rules.specs.Answers.{accepted, number_of};
@@ -10,10 +9,10 @@ ghost use Rattle.rules.specs.Refusals.{too_many};
 ghost use Rattle.rules.specs.Constants.{total_limit};
 ghost use Rattle.stage_log.specs.View.{Logged};
 ghost use Rattle.stage_log.specs.Ready.{Bounded};
-ghost use Rattle.impulse.specs.View.{suppressor_of};
 ghost use Rattle.iq.specs.View.{settled_of};
 ghost use Rattle.stage_mode.specs.View.{mode_of};
-ghost use Rattle.impulse_slice.specs.Noted.{noted_of, note_all, over};
+ghost use Rattle.impulse_slice.specs.Noted.{note_all, over};
+ghost use Rattle.chain_state.specs.Changed.{after_call};
 ghost use Rattle.chain.specs.Stages.{machine_of, notes_in, new_part, impulse_after, impulse_out, impulse_told, dc_after, blocked_by, noted_dc, noted_iq, hands_on};
 ghost use Rattle.chain.specs.Stages.{process, Acceptable};
 ghost use Rattle.chain.specs.Calls.{unread_refusal, told_unread, told_read, called};
@@ -21,8 +20,6 @@ ghost use Rattle.chain_call.specs.Said.{said};
 
 use chain_state::{Counts, InputConditioner};
 use dc::{Blocked, DcBlocker};
-use impulse::ImpulseSuppressor;
-use impulse_slice::Ran;
 use iq::Iq;
 use sample_guard::Found;
 use stage_log::{Log, Mark, Stage};
@@ -51,49 +48,34 @@ pub struct Called {
     pub answer: Conditioned,
 }
 
-// The impulse stage over the samples behind the held ones. The arrays are the suppressor's.
+// The impulse stage over the samples behind the held ones; the answer is how many are released.
 fn suppress(
-    state: InputConditioner,
+    state: &mut InputConditioner,
     samples: &mut [u64],
-    window: &mut [f32; ImpulseSuppressor::WINDOW],
-    sorted: &mut [f32; ImpulseSuppressor::WINDOW],
-    pending: &mut [u64; ImpulseSuppressor::LOOKAHEAD],
     spans: &mut [u64],
     repairs: &mut [u64],
-) -> Ran
-    requires acceptable { Acceptable state samples.old spans.old repairs.old }
-    requires pending_value { suppressor_of state.suppressor.gate window.old sorted.old pending.old ≡ state.suppressor }
-    requires sorted_len { length sorted.old ≡ window_size }
-    ensures suppressor { suppressor_of result.gate window.new sorted.new pending.new
-        ≡ impulse_after state (drop state.counts.held samples.old) }
-    ensures noted { noted_of result.notes spans.new repairs.new
-        ≡ note_all state.settings.spans state.settings.repairs (notes_in (machine_of state spans.old repairs.old))
-        (impulse_told state (drop state.counts.held samples.old)) }
-    ensures ready { result.ready ≡ length (impulse_out state (drop state.counts.held samples.old)) }
-    ensures written { samples.new ≡ over (impulse_out state (drop state.counts.held samples.old)) samples.old }
+) -> usize
+    requires { Acceptable state.old samples.old spans.old repairs.old }
+    ensures state { state.new
+        ≡ after_call state.old state.old.counts (impulse_after state.old (new_part state.old samples.old)) state.old.blocker state.new.notes }
+    ensures noted { notes_in (machine_of state.new spans.new repairs.new)
+        ≡ note_all state.old.settings.spans state.old.settings.repairs (notes_in (machine_of state.old spans.old repairs.old))
+        (impulse_told state.old (new_part state.old samples.old)) }
+    ensures ready { result ≡ length (impulse_out state.old (new_part state.old samples.old)) }
+    ensures written { samples.new ≡ over (impulse_out state.old (new_part state.old samples.old)) samples.old }
 {
-    let set = state.settings;
-    let gate = state.suppressor.gate;
-    let notes = state.notes;
-    if !set.impulse {
-        return Ran {
-            gate,
-            notes,
-            ready: samples.len(),
-        };
+    if !state.settings.impulse {
+        return samples.len();
     }
     impulse_slice::run(
         samples,
         state.counts.held,
-        gate,
-        window,
-        sorted,
-        pending,
-        notes,
+        &mut state.suppressor,
+        &mut state.notes,
         spans,
-        set.spans,
+        state.settings.spans,
         repairs,
-        set.repairs,
+        state.settings.repairs,
     )
 }
 
@@ -207,27 +189,15 @@ pub fn accept(
     let len = samples.len();
     let counts = state.counts;
     let new = len - counts.held;
-    let mut window = state.suppressor.window;
-    let mut sorted = state.suppressor.sorted;
-    let mut pending = state.suppressor.pending;
-    let ran = suppress(
-        state,
-        samples,
-        &mut window,
-        &mut sorted,
-        &mut pending,
-        spans,
-        repairs,
-    );
-    let ready = ran.ready;
+    let mut after = state;
+    let ready = suppress(&mut after, samples, spans, repairs);
     let set = state.settings;
     let mode = set.dc;
     let iq = set.iq;
     let before = state.blocker;
     let blocked = filter(mode, before, iq, samples, ready);
     let blocker = blocked.blocker;
-    let mut notes = ran.notes;
-    let log = notes.log;
+    let log = after.notes.log;
     let marked = mark_released(
         log,
         mode,
@@ -237,25 +207,15 @@ pub fn accept(
         counts.released,
         ready as u64,
     );
-    let gate = ran.gate;
-    let suppressor = ImpulseSuppressor {
-        gate,
-        window,
-        sorted,
-        pending,
-    };
-    notes.log = marked;
+    after.notes.log = marked;
     let counts = Counts {
         seen: counts.seen + new as u64,
         released: counts.released + ready as u64,
         held: len - ready,
         clamped: counts.clamped + blocked.clamped,
     };
-    let mut after = state;
     after.counts = counts;
-    after.suppressor = suppressor;
     after.blocker = blocker;
-    after.notes = notes;
     Called {
         state: after,
         answer: Conditioned::Ready(ready),

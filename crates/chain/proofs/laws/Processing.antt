@@ -10,10 +10,10 @@ use Rattle.rules.specs.Iq.{corrected_by}
 use Rattle.rules.specs.Log.{Span, span_of}
 use Rattle.rules.specs.Constants.{total_limit}
 use Rattle.stage_log.specs.declared.Log.{Log}
+use Rattle.stage_log.specs.declared.Notes.{Notes}
 use Rattle.stage_log.specs.View.{Logged, with_log}
 use Rattle.stage_log.specs.Ready.{Bounded}
 use Rattle.impulse.specs.declared.ImpulseSuppressor.{ImpulseSuppressor}
-use Rattle.impulse_slice.specs.declared.Ran.{Ran}
 use Rattle.impulse_slice.specs.Noted.{Noted, noted_of, note_all, handed, over, Roomy}
 use Rattle.impulse_slice.proofs.laws.NotesLaws.{note_none, bounded_up, roomy_up}
 use Rattle.impulse_slice.proofs.laws.StageLaws.{handed_most, roomy_run}
@@ -72,25 +72,25 @@ module _ (c : InputConditioner) (samples spans repairs : List ℕ) (a : Acceptab
 
   -- ---- the impulse stage has run
 
-  module _ (ran : Ran) (samples₁ spans₁ repairs₁ : List ℕ)
-      (noted : noted_of ran.notes spans₁ repairs₁ ≡ notes_from (impulse_told c (new_part c samples)))
-      (count : ran.ready ≡ length (impulse_out c (new_part c samples)))
+  module _ (notes : Notes) (ready : ℕ) (samples₁ spans₁ repairs₁ : List ℕ)
+      (noted : noted_of notes spans₁ repairs₁ ≡ notes_from (impulse_told c (new_part c samples)))
+      (count : ready ≡ length (impulse_out c (new_part c samples)))
       (written : samples₁ ≡ over (impulse_out c (new_part c samples)) samples) where
-    pub ran_bounded : Bounded c.settings.spans (2 ^ 54) (record { log = ran.notes.log; spans = spans₁ })
+    pub ran_bounded : Bounded c.settings.spans (2 ^ 54) (record { log = notes.log; spans = spans₁ })
     ran_bounded =
-        bounded_up c.settings.spans (2 ^ 53) (2 ^ 54) (record { log = ran.notes.log; spans = spans₁ }) (omega arith)
+        bounded_up c.settings.spans (2 ^ 53) (2 ^ 54) (record { log = notes.log; spans = spans₁ }) (omega arith)
         (subst (λ (x : Noted). Bounded c.settings.spans (2 ^ 53) x.logged) (sym noted) notes_roomy.spans)
 
     -- what it wrote in front, and the rest
-    front : take ran.ready samples₁ ≡ impulse_out c (new_part c samples)
+    front : take ready samples₁ ≡ impulse_out c (new_part c samples)
     front =
-        ap (take ran.ready) written
-        ∙ take_at (impulse_out c (new_part c samples)) (drop (length (impulse_out c (new_part c samples))) samples) ran.ready (sym count)
+        ap (take ready) written
+        ∙ take_at (impulse_out c (new_part c samples)) (drop (length (impulse_out c (new_part c samples))) samples) ready (sym count)
 
-    rest : drop ran.ready samples₁ ≡ drop (length (impulse_out c (new_part c samples))) samples
+    rest : drop ready samples₁ ≡ drop (length (impulse_out c (new_part c samples))) samples
     rest =
-        ap (drop ran.ready) written
-        ∙ drop_at (impulse_out c (new_part c samples)) (drop (length (impulse_out c (new_part c samples))) samples) ran.ready (sym count)
+        ap (drop ready) written
+        ∙ drop_at (impulse_out c (new_part c samples)) (drop (length (impulse_out c (new_part c samples))) samples) ready (sym count)
 
     -- the slice is as long as it was
     pub ran_length : length samples₁ ≡ length samples
@@ -102,13 +102,13 @@ module _ (c : InputConditioner) (samples spans repairs : List ℕ) (a : Acceptab
 
     -- ---- and the others
 
-    pub ready_count : ran.ready ≡ length (hands_on c (new_part c samples))
+    pub ready_count : ready ≡ length (hands_on c (new_part c samples))
     ready_count = count ∙ sym (hands_length c (new_part c samples))
 
     pub processed_written : (samples₂ : List ℕ)
         → samples₂
-        ≡ map (corrected_by (settled_of c.settings.iq)) (blocked_by (mode_of c.settings.dc) c.blocker (take ran.ready samples₁))
-        ++ drop ran.ready samples₁
+        ≡ map (corrected_by (settled_of c.settings.iq)) (blocked_by (mode_of c.settings.dc) c.blocker (take ready samples₁))
+        ++ drop ready samples₁
         → samples₂ ≡ over (hands_on c (new_part c samples)) samples
     unfolding hands_on
     processed_written samples₂ e =
@@ -117,7 +117,7 @@ module _ (c : InputConditioner) (samples spans repairs : List ℕ) (a : Acceptab
         ∙ ap (λ (n : ℕ). hands_on c (new_part c samples) ++ drop n samples) (sym (hands_length c (new_part c samples)))
 
     -- on no more than 2^48 of them the DC limit acted
-    pub ready_clamped : (dc : Blocked) → dc ≡ dc_after (mode_of c.settings.dc) c.blocker (take ran.ready samples₁) → dc.clamped ≤ total_limit
+    pub ready_clamped : (dc : Blocked) → dc ≡ dc_after (mode_of c.settings.dc) c.blocker (take ready samples₁) → dc.clamped ≤ total_limit
     ready_clamped dc e =
         let out = impulse_out c (new_part c samples) in
         let d = dc_after (mode_of c.settings.dc) c.blocker in
@@ -135,13 +135,13 @@ module _ (c : InputConditioner) (samples spans repairs : List ℕ) (a : Acceptab
         }
 
     pub processed_chain : (suppressor : ImpulseSuppressor) → suppressor ≡ impulse_after c (new_part c samples)
-        → (dc : Blocked) → dc ≡ dc_after (mode_of c.settings.dc) c.blocker (take ran.ready samples₁)
+        → (dc : Blocked) → dc ≡ dc_after (mode_of c.settings.dc) c.blocker (take ready samples₁)
         → (log : Log) (spans₂ : List ℕ)
         → ◌≡◌ {A = Logged} (record { log = log; spans = spans₂ })
         (noted_iq c.settings.spans (settled_of c.settings.iq)
-        (noted_dc c.settings.spans (mode_of c.settings.dc) (record { log = ran.notes.log; spans = spans₁ }) (span_of c.counts.released ran.ready))
-        (span_of c.counts.released ran.ready))
-        → machine_of (after_call c (counts_by (length samples) ran.ready dc.clamped) suppressor dc.blocker (with_log ran.notes log)) spans₂ repairs₁
+        (noted_dc c.settings.spans (mode_of c.settings.dc) (record { log = notes.log; spans = spans₁ }) (span_of c.counts.released ready))
+        (span_of c.counts.released ready))
+        → machine_of (after_call c (counts_by (length samples) ready dc.clamped) suppressor dc.blocker (with_log notes log)) spans₂ repairs₁
         ≡ process (machine_of c spans repairs) (new_part c samples)
     unfolding process notes_after logged_after
     processed_chain suppressor after dc level log spans₂ logged =
@@ -149,12 +149,12 @@ module _ (c : InputConditioner) (samples spans repairs : List ℕ) (a : Acceptab
         let marks : Logged → Span → Logged = λ x m. noted_iq cap (settled_of c.settings.iq) (noted_dc cap (mode_of c.settings.dc) x m) m in
         let n = new_length c samples spans repairs a in
         let h = a.held_in in
-        let kept : length samples - ran.ready ≡ c.counts.held + length (new_part c samples) - length (impulse_out c (new_part c samples)) =
+        let kept : length samples - ready ≡ c.counts.held + length (new_part c samples) - length (impulse_out c (new_part c samples)) =
         omega (arith, count) in
         let d = level ∙ ap (dc_after (mode_of c.settings.dc) c.blocker) front in
         let l = logged ∙ (λ i. marks (noted i).logged (span_of c.counts.released (count i))) in
         let out = impulse_out c (new_part c samples) in
-        let counts : counts_by (length samples) ran.ready dc.clamped
+        let counts : counts_by (length samples) ready dc.clamped
         ≡ counts_after c (length (new_part c samples)) (length out) (dc_after (mode_of c.settings.dc) c.blocker out).clamped
         = λ i.
         record { seen = c.counts.seen + sym n i; released = c.counts.released + count i; held = kept i; clamped = c.counts.clamped + (d i).clamped } in

@@ -1,6 +1,13 @@
 -- `chain_call::accept` runs the stages one after another. Assumes nothing.
 use mathlib.Core.Path.{refl, ap, ◌∙◌}
+use Prim.Native.Nat.{◌+◌, ◌-◌}
 use native.Mathlib.Omega.{arith}
+use lib.ListN.{length}
+use Rattle.stage_log.specs.View.{with_log}
+use Rattle.chain_state.specs.declared.Counts.{Counts}
+use Rattle.chain_state.specs.Changed.{after_call}
+use Rattle.chain.specs.Stages.{machine_of}
+use Rattle.chain_state.specs.declared.InputConditioner.{InputConditioner}
 use Rattle.chain_state.proofs.laws.FitsLaws.{state_fit}
 use Rattle.rules.specs.Answers.{accepted}
 use Rattle.chain.specs.Stages.{Acceptable}
@@ -20,24 +27,20 @@ fit s =
 pub overflow_sub-new : goal.overflow_sub-new
 overflow_sub-new c = (fit (goal.at.overflow_sub-new c).Start).held_in
 
-pub suppress-ran-requires : goal.suppress-ran-requires
-suppress-ran-requires c =
-    record {
-      acceptable = fit (goal.at.suppress-ran-requires c).Start;
-      pending_value = refl;
-      sorted_len = c.well_formed.0.1.1.1.1.0.1.1.1.1.0.1.0.1;
-    }
+pub suppress-ready-requires : goal.suppress-ready-requires
+suppress-ready-requires c =
+    fit (goal.at.suppress-ready-requires c).Start
 
 pub filter-blocked-requires : goal.filter-blocked-requires
 filter-blocked-requires c =
     let s = (goal.at.filter-blocked-requires c).Start in
     let a = s.args in
-    let r = c.suppress-ran.ensures in
+    let r = c.suppress-ready.ensures in
     let k = r.ready in
     let u = (state_fit a.state (fit s).stored.fits).updates in
     let few = ready_few a.state a.samples.now a.spans.now a.repairs.now (fit s) _ k in
     let inside = ready_inside a.state a.samples.now a.spans.now a.repairs.now (fit s) _ k in
-    let same = ran_length a.state a.samples.now a.spans.now a.repairs.now (fit s) c.suppress-ran.result _ _ _ r.noted k r.written in
+    let same = ran_length a.state a.samples.now a.spans.now a.repairs.now (fit s) c.suppress-ready.new.state.notes c.suppress-ready.result _ _ _ r.noted k r.written in
     record {
       ready_in_bounds = omega arith;
       ready_bound = omega arith;
@@ -47,10 +50,10 @@ pub mark_released-marked-requires : goal.mark_released-marked-requires
 mark_released-marked-requires c =
     let s = (goal.at.mark_released-marked-requires c).Start in
     let a = s.args in
-    let r = c.suppress-ran.ensures in
+    let r = c.suppress-ready.ensures in
     let k = r.ready in
     record {
-      bounded = ran_bounded a.state a.samples.now a.spans.now a.repairs.now (fit s) c.suppress-ran.result _ _ _ r.noted k r.written;
+      bounded = ran_bounded a.state a.samples.now a.spans.now a.repairs.now (fit s) c.suppress-ready.new.state.notes c.suppress-ready.result _ _ _ r.noted k r.written;
       start_bound = ((state_fit a.state (fit s).stored.fits).released, ready_few a.state a.samples.now a.spans.now a.repairs.now (fit s) _ k);
     }
 
@@ -68,51 +71,61 @@ overflow_add-counts-2 c =
     let s = (goal.at.overflow_add-counts-2 c).Start in
     let a = s.args in
     let n = (state_fit a.state (fit s).stored.fits).released in
-    let few = ready_few a.state a.samples.now a.spans.now a.repairs.now (fit s) _ c.suppress-ran.ensures.ready in
+    let few = ready_few a.state a.samples.now a.spans.now a.repairs.now (fit s) _ c.suppress-ready.ensures.ready in
     omega arith
 
 pub overflow_sub-counts : goal.overflow_sub-counts
 overflow_sub-counts c =
     let s = (goal.at.overflow_sub-counts c).Start in
     let a = s.args in
-    ready_inside a.state a.samples.now a.spans.now a.repairs.now (fit s) _ c.suppress-ran.ensures.ready
+    ready_inside a.state a.samples.now a.spans.now a.repairs.now (fit s) _ c.suppress-ready.ensures.ready
 
 pub overflow_add-counts-3 : goal.overflow_add-counts-3
 overflow_add-counts-3 c =
     let s = (goal.at.overflow_add-counts-3 c).Start in
     let a = s.args in
-    let r = c.suppress-ran.ensures in
+    let r = c.suppress-ready.ensures in
     let n = (state_fit a.state (fit s).stored.fits).clamped in
     let few =
-    ready_clamped a.state a.samples.now a.spans.now a.repairs.now (fit s) c.suppress-ran.result _ _ _ r.noted r.ready
+    ready_clamped a.state a.samples.now a.spans.now a.repairs.now (fit s) c.suppress-ready.new.state.notes c.suppress-ready.result _ _ _ r.noted r.ready
     r.written _ c.filter-blocked.ensures.after in
     omega arith
 
 pub shape_of-samples : goal.shape_of-samples
 shape_of-samples c =
-    c.filter-blocked.auto.samples ∙ c.suppress-ran.auto.samples
+    c.filter-blocked.auto.samples ∙ c.suppress-ready.auto.samples
 
 pub shape_of-spans : goal.shape_of-spans
 shape_of-spans c =
     c.mark_released-marked.auto.spans
-    ∙ c.suppress-ran.auto.spans
+    ∙ c.suppress-ready.auto.spans
 
 pub shape_of-repairs : goal.shape_of-repairs
-shape_of-repairs c = c.suppress-ran.auto.repairs
+shape_of-repairs c = c.suppress-ready.auto.repairs
 
 pub returns : goal.returns
 returns c =
     let s = (goal.at.returns c).Start in
     let a = s.args in
-    let r = c.suppress-ran.ensures in
-    let m = c.suppress-ran.result in
+    let r = c.suppress-ready.ensures in
+    let m = c.suppress-ready.new.state.notes in
+    let k = c.suppress-ready.result in
+    let b = c.filter-blocked.result in
+    let l = c.mark_released-marked in
+    let n : Counts = record {
+      seen = a.state.counts.seen + (length a.samples.now - a.state.counts.held);
+      released = a.state.counts.released + k;
+      held = length a.samples.now - k;
+      clamped = a.state.counts.clamped + b.clamped;
+    } in
     record {
-      answer = ap accepted (ready_count a.state a.samples.now a.spans.now a.repairs.now (fit s) m _ _ _ r.noted r.ready r.written);
+      answer = ap accepted (ready_count a.state a.samples.now a.spans.now a.repairs.now (fit s) m k _ _ _ r.noted r.ready r.written);
       chain =
-          processed_chain a.state a.samples.now a.spans.now a.repairs.now (fit s) m _ _ _ r.noted r.ready r.written _ r.suppressor _
+          ap (λ (x : InputConditioner). machine_of (after_call x n x.suppressor b.blocker (with_log m l.result)) l.new.spans c.suppress-ready.new.repairs) r.state
+          ∙ processed_chain a.state a.samples.now a.spans.now a.repairs.now (fit s) m k _ _ _ r.noted r.ready r.written _ refl b
           c.filter-blocked.ensures.after _ _
-          c.mark_released-marked.ensures;
+          l.ensures;
       written =
-          processed_written a.state a.samples.now a.spans.now a.repairs.now (fit s) m _ _ _ r.noted r.ready r.written _
+          processed_written a.state a.samples.now a.spans.now a.repairs.now (fit s) m k _ _ _ r.noted r.ready r.written _
           c.filter-blocked.ensures.written;
     }

@@ -1,60 +1,55 @@
 -- `chain_call::suppress` runs the impulse stage, if it runs. Assumes nothing.
-use mathlib.Core.Path.{◌≡◌, ap, ◌∙◌}
+use mathlib.Core.Path.{ap, ◌∙◌}
 use mathlib.Core.List.{List}
 use Prim.Native.Nat.{ℕ}
 use lib.ListN.{length}
-use borrow.Author.Tests.{not-true, not-false}
 use Rattle.impulse.specs.declared.ImpulseSuppressor.{ImpulseSuppressor}
-use Rattle.impulse_slice.specs.Noted.{note_all, state_after, handed, told, over}
-use Rattle.chain.specs.Stages.{setting_in, new_part, machine_of, notes_in}
+use Rattle.impulse_slice.specs.Noted.{note_all, over}
+use Rattle.chain_state.specs.Changed.{after_call}
+use Rattle.chain.specs.Stages.{machine_of, notes_in}
 use Rattle.chain.proofs.laws.SliceLaws.{call_roomy, call_room, off_after, off_told, off_out, off_written, on_after, on_told, on_out}
 use Rattle.chain_call.proofs.suppress.Goals as goal
 
-pub returns-then-not-set : goal.returns-then-not-set
+pub returns-then-not-state : goal.returns-then-not-state
 unfolding note_all
-returns-then-not-set c =
+returns-then-not-state c =
     let a = c.args in
-    let off = not-true _ c.if-not-set.true in
-    let told : _ ≡ _ =
-    ap (note_all a.state.settings.spans a.state.settings.repairs (notes_in (machine_of a.state a.spans.now a.repairs.now)))
-    (off_told a.state a.samples.now a.spans.now a.repairs.now c.requires.acceptable off) in
+    let s = a.state.now in
+    let off = c.if-not-state.true in
     record {
-      suppressor = c.requires.pending_value ∙ off_after a.state a.samples.now a.spans.now a.repairs.now c.requires.acceptable off;
-      noted = told;
-      ready = ap length (off_out a.state a.samples.now a.spans.now a.repairs.now c.requires.acceptable off);
-      written = off_written a.state a.samples.now a.spans.now a.repairs.now c.requires.acceptable off;
+      state = ap (λ (m : ImpulseSuppressor). after_call s s.counts m s.blocker s.notes) (off_after s a.samples.now a.spans.now a.repairs.now c.requires off);
+      noted =
+          ap (note_all s.settings.spans s.settings.repairs (notes_in (machine_of s a.spans.now a.repairs.now)))
+          (off_told s a.samples.now a.spans.now a.repairs.now c.requires off);
+      ready = ap length (off_out s a.samples.now a.spans.now a.repairs.now c.requires off);
+      written = off_written s a.samples.now a.spans.now a.repairs.now c.requires off;
     }
 
 pub run-requires : goal.run-requires
 run-requires c =
     let a = c.args in
-    let on = not-false _ c.if-not-set.false in
+    let s = a.state.now in
     record {
-      held_in_bounds = c.requires.acceptable.held_in;
-      room = call_room a.state a.samples.now a.spans.now a.repairs.now c.requires.acceptable on;
-      sorted_len = c.requires.sorted_len;
-      roomy = call_roomy a.state a.samples.now a.spans.now a.repairs.now c.requires.acceptable;
+      held_in_bounds = c.requires.held_in;
+      room = call_room s a.samples.now a.spans.now a.repairs.now c.requires c.if-not-state.false;
+      roomy = call_roomy s a.samples.now a.spans.now a.repairs.now c.requires;
     }
 
 pub returns : goal.returns
 returns c =
     let a = c.args in
-    let runs = not-false _ c.if-not-set.false in
+    let s = a.state.now in
+    let on = c.if-not-state.false in
     let r = c.run.ensures in
-    let set = setting_in a.state in
-    let new = new_part a.state a.samples.now in
-    let note = note_all a.state.settings.spans a.state.settings.repairs (notes_in (machine_of a.state a.spans.now a.repairs.now)) in
-    -- the lent arrays are the suppressor's
-    let lent = c.requires.pending_value in
-    let out = ap (λ (m : ImpulseSuppressor). handed set m new) lent
-    ∙ on_out a.state a.samples.now a.spans.now a.repairs.now c.requires.acceptable runs in
+    let out = on_out s a.samples.now a.spans.now a.repairs.now c.requires on in
     record {
-      suppressor =
-          r.suppressor ∙ ap (λ (m : ImpulseSuppressor). state_after set m new) lent
-          ∙ on_after a.state a.samples.now a.spans.now a.repairs.now c.requires.acceptable runs;
+      state =
+          ap (λ (m : ImpulseSuppressor). after_call s s.counts m s.blocker c.run.new.notes)
+          (r.suppressor ∙ on_after s a.samples.now a.spans.now a.repairs.now c.requires on);
       noted =
-          r.noted ∙ ap note
-          (ap (λ (m : ImpulseSuppressor). told set m new) lent ∙ on_told a.state a.samples.now a.spans.now a.repairs.now c.requires.acceptable runs);
+          r.noted
+          ∙ ap (note_all s.settings.spans s.settings.repairs (notes_in (machine_of s a.spans.now a.repairs.now)))
+          (on_told s a.samples.now a.spans.now a.repairs.now c.requires on);
       ready = r.ready ∙ ap length out;
       written = r.written ∙ ap (λ (l : List ℕ). over l a.samples.now) out;
     }

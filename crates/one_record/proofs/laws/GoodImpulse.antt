@@ -1,5 +1,5 @@
 -- Number 5's tests on the impulse stage find nothing after usable samples, at most 2 ^ 48 of them. Assumes nothing.
-use Rattle.std.specs.Prelude.{◌≡◌, refl, Bool, false, ◌&&◌, List, ℕ, ◌+◌, ◌-◌, ◌*◌, ◌^◌, ◌≤◌, ◌<◌, min, pos, T, ltb, Float, length, get_or, take, replicate}
+use Rattle.std.specs.Prelude.{◌≡◌, refl, Bool, false, ◌&&◌, List, ℕ, ◌+◌, ◌-◌, ◌*◌, ◌^◌, ◌≤◌, ◌<◌, min, pos, T, ltb, Float, length, get_or, take, replicate, Option, Some, None}
 use Rattle.std.proofs.Math.Path.{ap}
 use Rattle.std.proofs.Common.{◌∙◌, arith, lit≤, lit<, length-take-le}
 use Rattle.std.proofs.Math.Bool.{true}
@@ -23,10 +23,6 @@ use Rattle.stage_log.specs.Check.{all_to}
 use Rattle.stage_log.proofs.laws.CheckLaws.{all_of}
 use Rattle.impulse_pause.specs.declared.PauseEdition.{PauseEdition}
 use Rattle.impulse.specs.declared.Run.{Run}
-use Rattle.impulse.specs.declared.Open.{Open}
-use Rattle.impulse.specs.declared.Open.TheVariants.{Running, Closed}
-use Rattle.impulse.specs.declared.Left.{Left}
-use Rattle.impulse.specs.declared.Left.TheVariants.{Neighbour, Missing}
 use Rattle.impulse.specs.declared.ImpulseSuppressor.{ImpulseSuppressor}
 use Rattle.impulse.specs.Machine.{fresh}
 use Rattle.impulse.specs.Sound.{PowerWithin, Sound}
@@ -50,14 +46,14 @@ power_good p h = and_so (sign_clear p) (le (magnitude p) power_limit) (is_true (
 
 -- ---- the gate
 
-run_good : (o : Open) (j : ℕ) → ((r : Run) → o ≡ Running r → (0 < r.len) × (r.start + r.len ≡ j)) → run_fits o j ≡ true
-run_good Closed j h = refl
-run_good (Running r) j h = let p = h r refl in
+run_good : (o : Option Run) (j : ℕ) → ((r : Run) → o ≡ Some r → (0 < r.len) × (r.start + r.len ≡ j)) → run_fits o j ≡ true
+run_good None j h = refl
+run_good (Some r) j h = let p = h r refl in
     and_so (ltb 0 r.len) (eqb (r.start + r.len) j) (lt-ltb 0 r.len p.0) (eq-eqb (r.start + r.len) j p.1)
 
-left_good : (l : Left) → ((x : ℕ) → l ≡ Neighbour x → WordWithin (2 ^ 59) x) → left_fits l ≡ true
-left_good Missing h = refl
-left_good (Neighbour x) h = word_good x (h x refl)
+left_good : (l : Option ℕ) → ((x : ℕ) → l ≡ Some x → WordWithin (2 ^ 59) x) → left_fits l ≡ true
+left_good None h = refl
+left_good (Some x) h = word_good x (h x refl)
 
 module _ (b : ℕ) (a : Bool) (n : ℕ) (m : ImpulseSuppressor) (p : Sound (standard b a) n m) (h : n ≤ total_limit) where
   pub sound_gate : gate_fits m.gate ≡ true
