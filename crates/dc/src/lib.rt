@@ -42,6 +42,8 @@ pub struct Taken {
 }
 
 // y times 1/norm(y), where norm(y) > 1. The norm of a power up to 1 is not above 1.
+// This, `advance` and `step` are laid into the loops over samples, where the level then stays in registers.
+#[inline(always)]
 fn clamp(y: Complex64) -> Push
     ensures { result ≡ push_of (view64 y) }
 {
@@ -105,6 +107,7 @@ impl DcBlocker {
     }
 
     // Moves the level by y, which is a sample less the level: whether y was clamped.
+    #[inline(always)]
     fn advance(&mut self, y: Complex64) -> bool
         requires { self.old.n + 1 < 2 ^ 64 }
         ensures after { self.new ≡ moved_by self.old (view64 y) }
@@ -125,7 +128,8 @@ impl DcBlocker {
         0 < self.n && y.norm_sqr() <= 1.0
     }
 
-    // `advance`, by the short way where it serves.
+    // `advance`, by the short way where it serves, which makes most samples faster.
+    #[inline(always)]
     fn step(&mut self, y: Complex64) -> bool
         requires { self.old.n + 1 < 2 ^ 64 }
         ensures after { self.new ≡ moved_by self.old (view64 y) }
