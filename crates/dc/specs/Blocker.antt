@@ -7,10 +7,7 @@ use Rattle.rules.specs.Dc as rules
 use Rattle.rules.specs.Dc.{Level, weight, clamps, clamped, stepped, blocked, advanced, level_after, blocked_all, clamped_steps, restored_all}
 use Rattle.dc.specs.declared.DcBlocker.{DcBlocker}
 use Rattle.dc.specs.declared.Push.{Push}
-use Rattle.dc.specs.declared.Stepped.{Stepped}
 use Rattle.dc.specs.declared.Taken.{Taken}
-use Rattle.dc.specs.declared.Undone.{Undone}
-use Rattle.dc.specs.declared.Blocked.{Blocked}
 
 abbrev pub level_of : DcBlocker → Level
 level_of b = record { updates = b.n; level = view64 b.dc }
@@ -27,27 +24,24 @@ abbrev pub push_of : Complex → Push
 push_of y = record { by = make64 (clamped y); clamped = clamps y }
 
 -- y moves the level
-abbrev pub stepped_by : DcBlocker → Complex → Stepped
-stepped_by b y = record { blocker = blocker_of b.a (advanced b.a (level_of b) y); clamped = clamps y }
+abbrev pub moved_by : DcBlocker → Complex → DcBlocker
+moved_by b y = blocker_of b.a (advanced b.a (level_of b) y)
 
--- a sample x comes in, and x less the level goes out. Document 02, R-1: 'A DC step says beside its sample whether the limit acted'
-unfoldable pub processed : DcBlocker → ℕ → Taken
-processed b x = record {
-  blocker = blocker_of b.a (stepped b.a (level_of b) x);
-  word = word_of (blocked (level_of b).level (sample_of x));
-  clamped = clamps (blocked (level_of b).level (sample_of x));
-}
+-- a sample x comes in: the blocker after it
+unfoldable pub processed : DcBlocker → ℕ → DcBlocker
+processed b x = blocker_of b.a (stepped b.a (level_of b) x)
 
--- the same, of which nothing is written
-abbrev pub observed : DcBlocker → ℕ → Stepped
-observed b x = let t = processed b x in record { blocker = t.blocker; clamped = t.clamped }
+-- and x less the level goes out. Document 02, R-1: 'A DC step says beside its sample whether the limit acted'
+unfoldable pub taken_of : DcBlocker → ℕ → Taken
+taken_of b x = record { word = word_of (blocked (level_of b).level (sample_of x)); clamped = clamps (blocked (level_of b).level (sample_of x)) }
 
--- y comes in, and y and the level go out
-unfoldable pub restored : DcBlocker → ℕ → Undone
-restored b y = record {
-  blocker = blocker_of b.a (advanced b.a (level_of b) (sample_of y));
-  word = word_of (rules.restored (level_of b).level (sample_of y));
-}
+-- y comes in: the blocker after it
+unfoldable pub restored : DcBlocker → ℕ → DcBlocker
+restored b y = moved_by b (sample_of y)
+
+-- and y and the level go out
+unfoldable pub restored_word : DcBlocker → ℕ → ℕ
+restored_word b y = word_of (rules.restored (level_of b).level (sample_of y))
 
 -- ---- all samples of a slice: the blocker after them, on how many the limit acted, and the words that applying and undoing write
 abbrev pub blocker_after : DcBlocker → List ℕ → DcBlocker
@@ -55,6 +49,11 @@ blocker_after b xs = blocker_of b.a (level_after b.a (level_of b) xs)
 
 abbrev pub clamped_in : DcBlocker → List ℕ → ℕ
 clamped_in b xs = clamped_steps b.a (level_of b) xs
+
+-- a blocker, and on how many samples before it the limit acted
+pub record Blocked : Type 0 where
+  pub blocker : DcBlocker
+  pub clamped : ℕ
 
 abbrev pub after_slice : DcBlocker → List ℕ → Blocked
 after_slice b xs = record { blocker = blocker_after b xs; clamped = clamped_in b xs }

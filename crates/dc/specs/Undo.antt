@@ -1,17 +1,8 @@
 -- What DC undo answers and writes. Definitions only.
-use Rattle.std.specs.Prelude.{ℕ, cond, List, [], ◌∷◌, length, ◌==◌, Float}
+use Rattle.std.specs.Prelude.{ℕ, cond, List, length, ◌==◌, Float}
 use Rattle.rules.specs.Dc.{corner, first_level, restored_all}
 use Rattle.rules.specs.Refusals.{dc_undo_refusal, first_beyond_from}
 use Rattle.amplitude_limit.specs.Limit.{returned}
-use Rattle.dc.specs.declared.Reverted.{Reverted}
-use Rattle.dc.specs.declared.Reverted.TheVariants.{Restored, BadRate, BadLength, Beyond}
-
--- document 01's number, and the place with 7, for each answer
-abbrev pub said : Reverted → List ℕ
-said Restored = []
-said BadRate = 1 ∷ []
-said BadLength = 4 ∷ []
-said (Beyond k) = 7 ∷ k ∷ []
 
 -- what the table returns: 'DC undo: 1, 4, 7'
 unfoldable pub undo_returned : Float → List ℕ → List ℕ → List ℕ

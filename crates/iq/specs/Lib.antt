@@ -1,2 +1,3 @@
 -- definitions
 pub mod View
+pub mod Series

@@ -2,16 +2,19 @@
 // operation is the paper's, in its order.
 #![tactic(auto)]
 
-ghost use Rattle.std.specs.Prelude.{◌≡◌, ◌==◌};
-ghost use Rattle.std.specs.Float.Ieee.Scale.{finite};
+ghost use Rattle.std.specs.Prelude.{◌≡◌, ◌<◌};
 ghost use Rattle.complex.specs.View.{view64, make64};
+ghost use Rattle.rules.specs.Constants.{one};
 ghost use Rattle.rules.specs.Iq.{sine, cosine, ranged, finite_positive, turned, coefficient, accepted, centres_agree, correctable, settled};
 ghost use Rattle.rules.specs.Mode.{apply};
 ghost use Rattle.rules.specs.Refusals.{validation};
-ghost use Rattle.iq.specs.View.{calibration_of, calibrated_of, settled_of, refusal_of};
+ghost use Rattle.refusal.specs.Words.{number_of};
+ghost use Rattle.iq.specs.View.{calibration_of, calibrated_of, settled_of};
+ghost use Rattle.iq.specs.Series.{series};
 ghost use Rattle.stage_mode.specs.View.{mode_of};
 
 use complex::Complex64;
+use refusal::Refusal;
 use stage_mode::StageMode;
 
 const RADIANS_PER_DEGREE: f64 = 0.017453292519943295;
@@ -25,22 +28,6 @@ pub struct IqCalibration {
     pub centre: f64,
 }
 
-// A calibration, if there is one.
-#[derive(Clone, Copy)]
-pub enum Calibration {
-    Absent,
-    Present(IqCalibration),
-}
-
-// What validation answers.
-#[derive(Drop)]
-pub enum Validated {
-    Valid,
-    BadGain,
-    BadPhase,
-    BadCentre,
-}
-
 // What the chain settles.
 #[derive(Clone, Copy)]
 pub enum Iq {
@@ -50,118 +37,75 @@ pub enum Iq {
     Withheld,
 }
 
-// Whether x is neither infinite nor a NaN.
-fn is_finite(x: f64) -> bool
-    ensures { result ≡ finite x }
-{
-    x - x == 0.0
-}
-
 fn finite_positive(x: f64) -> bool
     ensures { result ≡ finite_positive x }
 {
-    if is_finite(x) {
-        return 0.0 < x;
-    }
-    false
+    x.is_finite() && 0.0 < x
 }
 
 // Whether x is in the range from a to b, both ends in it.
 pub fn in_range(a: f64, b: f64, x: f64) -> bool
     ensures { result ≡ ranged a b x }
 {
-    if a <= x {
-        return x <= b;
-    }
-    false
+    a <= x && x <= b
 }
 
-// 1 − (u·s)/(2k(2k+1)) for k = 8 down to 1, from s = 1.
+// 1 − (u·s)/((n−1)n) for n = 2k + odd, k = `steps` down to 1, from s = 1.
+fn series(u: f64, steps: u64, odd: u64) -> f64
+    requires steps_few { steps < 16 }
+    requires odd_few { odd < 2 }
+    ensures { result ≡ series odd u steps one }
+{
+    let mut s = 1.0;
+    for k in (1..steps + 1).rev() {
+        let n = 2 * k + odd;
+        s = 1.0 - (u * s) / std::num::nearest_u64_to_f64((n - 1) * n);
+    }
+    s
+}
+
+#[tactic(auto, using(crate::proofs::laws::Series::is_sine), unfolding(rules::specs::Iq::sine))]
 fn sine(t: f64) -> f64
     ensures { result ≡ sine t }
 {
-    let u = t * t;
-    let mut s = 1.0;
-    let mut k: u64 = 8;
-    while 0 < k {
-        s = 1.0 - (u * s) / std::num::nearest_u64_to_f64(2 * k * (2 * k + 1));
-        k -= 1;
-    }
-    t * s
+    t * series(t * t, 8, 1)
 }
 
-// 1 − (u·c)/((2k−1)2k) for k = 9 down to 1, from c = 1.
+#[tactic(auto, using(crate::proofs::laws::Series::is_cosine), unfolding(rules::specs::Iq::cosine))]
 fn cosine(t: f64) -> f64
     ensures { result ≡ cosine t }
 {
-    let u = t * t;
-    let mut c = 1.0;
-    let mut k: u64 = 9;
-    while 0 < k {
-        c = 1.0 - (u * c) / std::num::nearest_u64_to_f64((2 * k - 1) * (2 * k));
-        k -= 1;
-    }
-    c
+    series(t * t, 9, 0)
 }
 
 // Whether a coefficient may be used: finite, and of a power below 1 − 1e-12.
 pub fn accepted(rho: Complex64) -> bool
     ensures { result ≡ accepted (view64 rho) }
 {
-    let re = is_finite(rho.re);
-    let im = is_finite(rho.im);
-    let p = rho.norm_sqr();
-    if re {
-        if im {
-            return p < 1.0 - 1e-12;
-        }
-    }
-    false
-}
-
-// Document 01's number of an answer, and 0 where there is none.
-pub fn number(v: Validated) -> u64
-    ensures { result ≡ refusal_of v }
-{
-    match v {
-        Validated::Valid => 0,
-        Validated::BadGain => 11,
-        Validated::BadPhase => 12,
-        Validated::BadCentre => 13,
-    }
-}
-
-// Whether validation refused nothing.
-fn is_valid(v: Validated) -> bool
-    ensures { result ≡ (refusal_of v == 0) }
-{
-    number(v) == 0
+    rho.re.is_finite() && rho.im.is_finite() && rho.norm_sqr() < 1.0 - 1e-12
 }
 
 // Whether a calibration at a centre serves a receiver: at most 1 Hz off.
 fn centres_agree(calibrated: f64, receiver: f64) -> bool
     ensures { result ≡ centres_agree calibrated receiver }
 {
-    if finite_positive(receiver) {
-        return in_range(-1.0, 1.0, calibrated - receiver);
-    }
-    false
+    finite_positive(receiver) && in_range(-1.0, 1.0, calibrated - receiver)
 }
 
 impl IqCalibration {
-    pub fn validate(self) -> Validated
-        ensures { refusal_of result ≡ validation (calibration_of self) }
+    pub fn validate(self) -> Result<(), Refusal>
+        ensures { number_of result ≡ validation (calibration_of self) }
     {
         if !in_range(0.5, 2.0, self.gain) {
-            return Validated::BadGain;
+            return Err(Refusal::BadGain);
         }
         if !in_range(-45.0, 45.0, self.phase) {
-            return Validated::BadPhase;
+            return Err(Refusal::BadPhase);
         }
         if !finite_positive(self.centre) {
-            return Validated::BadCentre;
+            return Err(Refusal::BadCentre);
         }
-        Validated::Valid
+        Ok(())
     }
 
     // gain × (cosine, sine) at −phase.
@@ -187,15 +131,12 @@ impl IqCalibration {
     fn correctable(self, receiver: f64) -> bool
         ensures { result ≡ correctable (calibration_of self) receiver }
     {
-        if is_valid(self.validate()) {
-            return centres_agree(self.centre, receiver);
-        }
-        false
+        self.validate().is_ok() && centres_agree(self.centre, receiver)
     }
 
     // What an applying stage settles with it.
     fn authorized(self, receiver: f64) -> Iq
-        ensures { settled_of result ≡ settled apply (calibrated_of (Calibration.Present self)) receiver }
+        ensures { settled_of result ≡ settled apply (calibrated_of (Some self)) receiver }
     {
         if !self.correctable(receiver) {
             return Iq::Withheld;
@@ -209,17 +150,19 @@ impl IqCalibration {
 }
 
 // What an applying stage settles.
-fn applying(calibration: Calibration, receiver: f64) -> Iq
+#[tactic(auto, unfolding(rules::specs::Iq::settled))]
+fn applying(calibration: Option<IqCalibration>, receiver: f64) -> Iq
     ensures { settled_of result ≡ settled apply (calibrated_of calibration) receiver }
 {
-    let Calibration::Present(c) = calibration else {
+    let Some(c) = calibration else {
         return Iq::Withheld;
     };
     c.authorized(receiver)
 }
 
 // What the chain settles, once, from the mode, the calibration and the receiver's centre.
-pub fn settle(mode: StageMode, calibration: Calibration, receiver: f64) -> Iq
+#[tactic(auto, unfolding(rules::specs::Iq::settled))]
+pub fn settle(mode: StageMode, calibration: Option<IqCalibration>, receiver: f64) -> Iq
     ensures { settled_of result ≡ settled (mode_of mode) (calibrated_of calibration) receiver }
 {
     match mode {

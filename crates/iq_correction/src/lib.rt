@@ -11,11 +11,12 @@ ghost use Rattle.rules.specs.Iq.{ranged, corrected, corrected_by, uncorrected};
 ghost use Rattle.amplitude_limit.specs.Limit.{under};
 ghost use Rattle.iq.specs.View.{settled_of};
 ghost use Rattle.iq_correction.specs.Groups.{Small, FiniteWord, rebased, part_bits, Clear, Mapping};
-ghost use Rattle.rules.specs.Answers.{number_in};
-ghost use Rattle.iq_correction.specs.Undo.{said, divisor_of, uncorrected_by, undo_returned, undo_words};
+ghost use Rattle.refusal.specs.Words.{returned_by};
+ghost use Rattle.iq_correction.specs.Undo.{divisor_of, uncorrected_by, undo_returned, undo_words};
 
 use complex::Complex64;
 use iq::Iq;
+use refusal::Refusal;
 
 // The pattern of the greatest finite f32.
 const MAX_FINITE: u64 = 0x7f7f_ffff;
@@ -49,10 +50,8 @@ fn uncorrect(rho: Complex64, divisor: f64, w: u64) -> u64
 fn correct_each(rho: Complex64, samples: &mut [u64])
     ensures { samples.new ≡ map (corrected (view64 rho)) samples.old }
 {
-    let mut k: usize = 0;
-    while k < samples.len() {
-        samples[k] = correct(rho, samples[k]);
-        k += 1;
+    for w in samples.iter_mut() {
+        *w = correct(rho, *w);
     }
 }
 
@@ -60,10 +59,7 @@ fn correct_each(rho: Complex64, samples: &mut [u64])
 fn is_small(rho: Complex64) -> bool
     ensures { result ≡ (ranged (neg two) two rho.re && ranged (neg two) two rho.im) }
 {
-    if iq::in_range(-2.0, 2.0, rho.re) {
-        return iq::in_range(-2.0, 2.0, rho.im);
-    }
-    false
+    iq::in_range(-2.0, 2.0, rho.re) && iq::in_range(-2.0, 2.0, rho.im)
 }
 
 // The value of the bits of a finite f32, as an f64.
@@ -97,8 +93,8 @@ struct Tried {
 }
 
 fn try_sample(rho: Complex64, w: u64) -> Tried
-    requires fact_1 { Small (view64 rho) }
-    requires fact_2 { FiniteWord w }
+    requires small { Small (view64 rho) }
+    requires finite { FiniteWord w }
     ensures { Clear result.mark → result.word ≡ corrected (view64 rho) w }
 {
     let m = Complex64 {
@@ -118,45 +114,30 @@ fn try_sample(rho: Complex64, w: u64) -> Tried
 
 // A group's corrections with no branch between them, and whether all are right.
 fn try_group(rho: Complex64, part: &[u64], out: &mut [u64; 16]) -> bool
-    requires fact_1 { Small (view64 rho) }
-    requires fact_2 { length part.now ≡ 16 }
-    requires fact_3 { all_of (under 0x7f7f_ffff) part.now ≡ true }
-    requires fact_4 { length out.old ≡ 16 }
+    requires small { Small (view64 rho) }
+    requires whole { length part.now ≡ 16 }
+    requires finite { all_of (under 0x7f7f_ffff) part.now ≡ true }
     ensures { result ≡ true → out.new ≡ map (corrected (view64 rho)) part.now }
 {
     let mut mark: u64 = 0;
-    let mut j: usize = 0;
-    while j < 16 {
+    for (j, o) in out.iter_mut().enumerate() {
         let t = try_sample(rho, part[j]);
-        out[j] = t.word;
-        mark = mark | t.mark;
-        j += 1;
+        *o = t.word;
+        mark |= t.mark;
     }
     mark % 0x8000_0000_0000_0000 < 0x800_0000_0000_0000
 }
 
-fn copy_group(part: &mut [u64], from: &[u64; 16])
-    requires fact_1 { length part.old ≡ 16 }
-    requires fact_2 { length from.now ≡ 16 }
-    ensures { part.new ≡ from.now }
-{
-    let mut j: usize = 0;
-    while j < 16 {
-        part[j] = from[j];
-        j += 1;
-    }
-}
-
 // A group's samples corrected, at once if that is right.
 fn correct_group(rho: Complex64, part: &mut [u64])
-    requires fact_1 { Small (view64 rho) }
-    requires fact_2 { length part.old ≡ 16 }
+    requires small { Small (view64 rho) }
+    requires whole { length part.old ≡ 16 }
     ensures { part.new ≡ map (corrected (view64 rho)) part.old }
 {
     if amplitude_limit::all_under(part, MAX_FINITE) {
         let mut out = [0u64; 16];
         if try_group(rho, part, &mut out) {
-            copy_group(part, &out);
+            part.copy_from_slice(&out);
             return;
         }
     }
@@ -168,13 +149,11 @@ fn correct_groups(rho: Complex64, samples: &mut [u64]) -> usize
     requires { Small (view64 rho) }
     ensures { Mapping (corrected (view64 rho)) samples.old samples.new result }
 {
-    let mut k: usize = 0;
-    while 16 <= samples.len() - k {
-        let e = k + 16;
-        correct_group(rho, &mut samples[k..e]);
-        k = e;
+    let groups = samples.len() / 16;
+    for g in 0..groups {
+        correct_group(rho, &mut samples[16 * g..16 * g + 16]);
     }
-    k
+    16 * groups
 }
 
 // Each sample corrected, in place.
@@ -189,67 +168,38 @@ fn correct_all(rho: Complex64, samples: &mut [u64])
     correct_each(rho, &mut samples[k..]);
 }
 
-// Each correction undone by this divisor, one after the other.
-fn uncorrect_each(rho: Complex64, divisor: f64, samples: &mut [u64])
-    ensures { samples.new ≡ map (uncorrected_by (view64 rho) divisor) samples.old }
-{
-    let mut k: usize = 0;
-    while k < samples.len() {
-        samples[k] = uncorrect(rho, divisor, samples[k]);
-        k += 1;
-    }
-}
-
 // Each correction undone, in place. The divisor is worked out once, before the samples.
 fn uncorrect_all(rho: Complex64, samples: &mut [u64])
     ensures { samples.new ≡ map (uncorrected (view64 rho)) samples.old }
 {
-    uncorrect_each(rho, divisor(rho), samples);
+    let divisor = divisor(rho);
+    for w in samples.iter_mut() {
+        *w = uncorrect(rho, divisor, *w);
+    }
 }
 
 // The stage over a slice, as it was settled.
 pub fn process(iq: Iq, samples: &mut [u64])
     ensures { samples.new ≡ map (corrected_by (settled_of iq)) samples.old }
 {
-    match iq {
-        Iq::Off => {}
-        Iq::Observing => {}
-        Iq::Correcting(rho) => correct_all(rho, samples),
-        Iq::Withheld => {}
+    if let Iq::Correcting(rho) = iq {
+        correct_all(rho, samples);
     }
 }
 
-// What IQ undo answers: it wrote all samples, or it refused and wrote nothing.
-#[derive(Clone, Copy)]
-pub enum Reverted {
-    Restored,
-    Unfit,
-    Beyond(usize),
-}
-
-// Document 01's number of an answer, and 0 where there is none.
-pub fn number(answer: Reverted) -> u64
-    ensures { result ≡ number_in (said answer) }
-{
-    match answer {
-        Reverted::Restored => 0,
-        Reverted::Unfit => 10,
-        Reverted::Beyond(_) => 7,
-    }
-}
-
-// The samples of a stage that corrected with rho, as they were before it, in place.
-pub fn revert_iq(samples: &mut [u64], rho: Complex64) -> Reverted
-    ensures answer { said result ≡ undo_returned (view64 rho) samples.old }
+// The samples of a stage that corrected with rho, as they were before it, in place: all are written, or
+// it is refused and none is.
+pub fn revert_iq(samples: &mut [u64], rho: Complex64) -> Result<(), Refusal>
+    ensures answer { returned_by result ≡ undo_returned (view64 rho) samples.old }
     ensures written { samples.new ≡ undo_words (view64 rho) samples.old }
 {
     if !iq::accepted(rho) {
-        return Reverted::Unfit;
+        return Err(Refusal::BadCoefficient);
     }
-    let k = amplitude_limit::first_beyond(samples);
-    if k < samples.len() {
-        return Reverted::Beyond(k);
+    let place = amplitude_limit::first_beyond(samples);
+    if place < samples.len() {
+        return Err(Refusal::OutOfRange(place));
     }
     uncorrect_all(rho, samples);
-    Reverted::Restored
+    Ok(())
 }

@@ -31,3 +31,8 @@ said_by says (Err e) = refused (words_of e)
 abbrev pub number_of : {A : Type 0} → Result A Refusal → ℕ
 number_of (Ok a) = 0
 number_of (Err e) = number_in (words_of e)
+
+-- what the table returns, and nothing where nothing is refused
+abbrev pub returned_by : {A : Type 0} → Result A Refusal → List ℕ
+returned_by (Ok a) = []
+returned_by (Err e) = words_of e

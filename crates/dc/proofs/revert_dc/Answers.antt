@@ -18,15 +18,15 @@ returns-then-out-y c =
     let u = undo_by a.fs a.out.now a.y.now true false _ (sym c.rate_fits.ensures ∙ c.if-not-rate_fits.false) (ne_eqb _ _ c.if-out-y.true) refl in
     record { answer = u.0; written = u.1 }
 
-pub returns-then-k-y : goal.returns-then-k-y
+pub returns-then-place-y : goal.returns-then-place-y
 unfolding returned
-returns-then-k-y c =
+returns-then-place-y c =
     let a = c.args in
-    let k = c.first_beyond-k.ensures in
+    let k = c.first_beyond-place.ensures in
     let u = undo_by a.fs a.out.now a.y.now true true true
     (sym c.rate_fits.ensures ∙ c.if-not-rate_fits.false)
     (eq-eqb _ _ c.if-out-y.false)
-    (ap (λ n. ltb n (length a.y.now)) (sym k) ∙ lt-ltb _ _ c.if-k-y.true) in
+    (ap (λ n. ltb n (length a.y.now)) (sym k) ∙ lt-ltb _ _ c.if-place-y.true) in
     record {
       answer = ap (λ n. 7 ∷ n ∷ []) k ∙ u.0;
       written = u.1;
@@ -36,12 +36,12 @@ pub returns : goal.returns
 unfolding returned
 returns c =
     let a = c.args in
-    let k = c.first_beyond-k.ensures in
+    let k = c.first_beyond-place.ensures in
     let u = undo_by a.fs a.out.now a.y.now true true false
     (sym c.rate_fits.ensures
     ∙ c.if-not-rate_fits.false)
     (eq-eqb _ _ c.if-out-y.false)
-    (ap (λ n. ltb n (length a.y.now)) (sym k) ∙ le-ltb _ _ c.if-k-y.false) in
+    (ap (λ n. ltb n (length a.y.now)) (sym k) ∙ le-ltb _ _ c.if-place-y.false) in
     record {
       answer = u.0;
       written = c.restore.ensures ∙ u.1;

@@ -20,8 +20,9 @@ returns-then-finite_positive c =
     ∙ near off
     ∙ sym (ap (λ (t : Bool). t && le (magnitude off) one) (sym c.finite_positive.ensures ∙ c.if-finite_positive.true))
 
-pub returns : goal.returns
+pub returns-else-finite_positive : goal.returns-else-finite_positive
 unfolding centres_agree
-returns c =
+returns-else-finite_positive c =
     let a = c.args in
+    c.if-finite_positive.false ∙
     sym (ap (λ (t : Bool). t && le (magnitude (sub binary64 a.calibrated a.receiver)) one) (sym c.finite_positive.ensures ∙ c.if-finite_positive.false))

@@ -1,28 +1,13 @@
--- `iq_correction::correct_each` is the map of `corrected`. The invariant: what is written before place k, and what is left from k on, give the same. Assumes
--- nothing.
-use Rattle.std.proofs.Common.{ℕ, ◌+◌, set, sym, refl, subst, rules}
-use Rattle.complex.specs.View.{view64}
-use Rattle.rules.specs.Iq.{corrected}
-use Rattle.iq_correction.proofs.laws.Maps.{mapping_next, mapping_end}
-use Rattle.iq_correction.specs.Groups.{Mapping}
+-- `iq_correction::correct_each` is the map of `corrected`. Assumes nothing.
+use Rattle.std.proofs.Common.{arith}
+use Rattle.iq_correction.proofs.laws.Maps.{mapping_start, mapping_next, mapping_end}
 use Rattle.iq_correction.proofs.correct_each.Goals as goal
 
-pub loop-k-init : goal.loop-k-init
-loop-k-init c = record { same = refl; place = search rules; written = refl }
+pub loop-w-init : goal.loop-w-init
+loop-w-init c = mapping_start _ _
 
-pub loop-k-preserved : goal.loop-k-preserved
-loop-k-preserved c =
-    let l = c.loop-k in
-    let a = c.args in
-    let f = corrected (view64 a.rho) in
-    subst (λ (w : ℕ). Mapping f a.samples.now (set l.samples l.k w) (l.k + 1)) (sym c.correct.ensures)
-    (mapping_next f a.samples.now l.samples l.k c.loop-k-test.true l.invariant)
-
-pub shape_of-samples : goal.shape_of-samples
-shape_of-samples c = c.loop-k.invariant.same
+pub loop-w-preserved : goal.loop-w-preserved
+loop-w-preserved c = mapping_next _ _ _ _ _ (omega arith) c.correct.ensures c.loop-w.invariant
 
 pub returns : goal.returns
-returns c =
-    let l = c.loop-k in
-    let a = c.args in
-    mapping_end (corrected (view64 a.rho)) a.samples.now l.samples l.k c.loop-k-test.false l.invariant
+returns c = mapping_end _ _ _ _ (omega arith) c.loop-w.invariant

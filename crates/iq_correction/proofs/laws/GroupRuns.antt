@@ -39,24 +39,6 @@ put_at P xs j w h before here =
     (λ i l. subst (P i) (sym (get_or-set_other xs j i w 0 (λ (e : i ≡ j). omega arith))) (before i l))
     (subst (P j) (sym (get_or-set_same xs j w 0 h)) here)
 
--- ---- a copy
-pub record Copying (ys xs₀ xs : List ℕ) (j : ℕ) : Type 0 where
-  pub same : length xs ≡ length xs₀
-  pub place : j ≤ 16
-  pub equal : (i : ℕ) → i < j → slice_index xs i ≡ slice_index ys i
-
-pub copying_next : (ys xs₀ xs : List ℕ) (j : ℕ) → length xs₀ ≡ 16 → j < 16 → Copying ys xs₀ xs j → Copying ys xs₀ (slice_set xs j (slice_index ys j)) (j + 1)
-copying_next ys xs₀ xs j n h g =
-    let s = g.same in
-    record {
-      same = length-set xs j (slice_index ys j) ∙ s;
-      place = omega arith;
-      equal = put_at (λ (i w : ℕ). w ≡ slice_index ys i) xs j (slice_index ys j) (omega arith) g.equal refl;
-    }
-
-pub copying_end : (ys xs₀ xs : List ℕ) (j : ℕ) → length xs₀ ≡ 16 → length ys ≡ 16 → 16 ≤ j → Copying ys xs₀ xs j → xs ≡ ys
-copying_end ys xs₀ xs j n m h g = let s = g.same in ext_get_or 0 xs ys (omega arith) (λ i l. g.equal i (omega arith))
-
 -- ---- words that are right if the mark is clear
 pub record Trying (f : ℕ → ℕ) (xs out : List ℕ) (mark j : ℕ) : Type 0 where
   pub size : length out ≡ 16
@@ -109,12 +91,13 @@ mapping_group f xs₀ xs ys k h e g =
           ∙ g.written;
     }
 
-pub mapping_part : (f : ℕ → ℕ) (xs₀ xs ys : List ℕ) (k n : ℕ) → n ≡ 16 → k + 16 ≤ length xs → ys ≡ map f (take n (drop k xs)) → Mapping f xs₀ xs k
-    → Mapping f xs₀ (take k xs ++ (ys ++ drop n (drop k xs))) (k + 16)
-mapping_part f xs₀ xs ys k n long h e g =
-    subst (λ (n : ℕ). Mapping f xs₀ (take k xs ++ (ys ++ drop n (drop k xs))) (k + 16)) (sym long)
+pub mapping_part : (f : ℕ → ℕ) (xs₀ xs ys : List ℕ) (k n m : ℕ) → n ≡ 16 → k + 16 ≡ m → m ≤ length xs → ys ≡ map f (take n (drop k xs)) → Mapping f xs₀ xs k
+    → Mapping f xs₀ (take k xs ++ (ys ++ drop n (drop k xs))) m
+mapping_part f xs₀ xs ys k n m long next h e g =
+    subst (λ (j : ℕ). Mapping f xs₀ (take k xs ++ (ys ++ drop n (drop k xs))) j) next
+    (subst (λ (n : ℕ). Mapping f xs₀ (take k xs ++ (ys ++ drop n (drop k xs))) (k + 16)) (sym long)
     (subst (λ (l : List ℕ). Mapping f xs₀ (take k xs ++ (ys ++ l)) (k + 16)) (sym (drop-drop 16 k xs))
-    (mapping_group f xs₀ xs ys k h (e ∙ ap (λ (n : ℕ). map f (take n (drop k xs))) long) g))
+    (mapping_group f xs₀ xs ys k (omega arith) (e ∙ ap (λ (n : ℕ). map f (take n (drop k xs))) long) g)))
 
 -- ---- all that is left written in its place
 pub mapping_rest : (f : ℕ → ℕ) (xs₀ xs ys : List ℕ) (k : ℕ) → ys ≡ map f (take (length xs - k) (drop k xs)) → Mapping f xs₀ xs k

@@ -12,14 +12,14 @@ returns-then-not-accepted c =
     let u = undo_by (view64 a.rho) a.samples.now false _ (sym c.accepted.ensures ∙ c.if-not-accepted.true) refl in
     record { answer = u.0; written = u.1 }
 
-pub returns-then-k-samples : goal.returns-then-k-samples
+pub returns-then-place-samples : goal.returns-then-place-samples
 unfolding returned
-returns-then-k-samples c =
+returns-then-place-samples c =
     let a = c.args in
-    let k = c.first_beyond-k.ensures in
+    let k = c.first_beyond-place.ensures in
     let u = undo_by (view64 a.rho) a.samples.now true true
     (sym c.accepted.ensures ∙ c.if-not-accepted.false)
-    (ap (λ n. ltb n (length a.samples.now)) (sym k) ∙ lt-ltb _ _ c.if-k-samples.true) in
+    (ap (λ n. ltb n (length a.samples.now)) (sym k) ∙ lt-ltb _ _ c.if-place-samples.true) in
     record {
       answer = ap (λ n. 7 ∷ n ∷ []) k ∙ u.0;
       written = u.1;
@@ -29,11 +29,11 @@ pub returns : goal.returns
 unfolding returned
 returns c =
     let a = c.args in
-    let k = c.first_beyond-k.ensures in
+    let k = c.first_beyond-place.ensures in
     let u = undo_by (view64 a.rho) a.samples.now true false
     (sym c.accepted.ensures
     ∙ c.if-not-accepted.false)
-    (ap (λ n. ltb n (length a.samples.now)) (sym k) ∙ le-ltb _ _ c.if-k-samples.false) in
+    (ap (λ n. ltb n (length a.samples.now)) (sym k) ∙ le-ltb _ _ c.if-place-samples.false) in
     record {
       answer = u.0;
       written = c.uncorrect_all.ensures ∙ u.1;

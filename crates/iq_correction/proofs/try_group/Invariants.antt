@@ -1,5 +1,4 @@
 -- `iq_correction::try_group` meets its contract. The invariant: what stands before place j is right, if the mark so far says so. Assumes nothing.
-use Rattle.std.proofs.Common.{◌-◌}
 use Rattle.complex.specs.View.{view64}
 use Rattle.rules.specs.Iq.{corrected}
 use Rattle.iq_correction.proofs.laws.GroupRuns.{Trying}
@@ -7,6 +6,3 @@ use Rattle.iq_correction.proofs.try_group.Given as goal
 
 abbrev pub invariant-loop-j : goal.invariant-loop-j
 invariant-loop-j l = Trying (corrected (view64 l.rho)) l.part l.out l.mark l.j
-
-abbrev pub decreases-loop-j : goal.decreases-loop-j
-decreases-loop-j l = 16 - l.j

@@ -16,7 +16,7 @@ is c =
 
 all : (c : After-sub-y) → Numbers (view64 c.sub-y.result)
 all c =
-    subst (λ (z : Complex). Numbers z) (sym (is c)) (numbers (view64 c.args.rho) c.args.w c.ranges.w.fits c.requires.fact_1 c.requires.fact_2)
+    subst (λ (z : Complex). Numbers z) (sym (is c)) (numbers (view64 c.args.rho) c.args.w c.ranges.w.fits c.requires.small c.requires.finite)
 
 -- each part has room for 64 in its exponent
 first : (c : After-part_bits-2) → Numbers (view64 c.sub-y.result) → c.part_bits.result < 2 ^ 31 + 2 ^ 30
@@ -48,5 +48,5 @@ overflow_add-result-2 c =
 
 pub returns : goal.returns
 returns c =
-    tried (view64 c.args.rho) c.args.w c.ranges.w.fits c.requires.fact_1 c.requires.fact_2 (is (goal.at.returns c).After-sub-y) c.rebased-a.ensures
+    tried (view64 c.args.rho) c.args.w c.ranges.w.fits c.requires.small c.requires.finite (is (goal.at.returns c).After-sub-y) c.rebased-a.ensures
     c.rebased-b.ensures c.part_bits.ensures c.part_bits-2.ensures

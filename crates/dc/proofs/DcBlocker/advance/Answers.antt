@@ -1,10 +1,10 @@
--- `dc::DcBlocker::advance` is `stepped_by`. Assumes nothing.
-use Rattle.dc.proofs.laws.Steps.{rested_by, moved_by}
+-- `dc::DcBlocker::advance` is `moved_by`. Assumes nothing.
+use Rattle.dc.proofs.laws.Steps.{rested_by, stepped_by}
 use Rattle.std.proofs.Common.{rules}
 use Rattle.dc.proofs.DcBlocker.advance.Goals as goal
 
-pub returns-then-rests : goal.returns-then-rests
-returns-then-rests c = search (rules, rested_by)
+pub returns-then-not-rests-clause-after : goal.returns-then-not-rests-clause-after
+returns-then-not-rests-clause-after c = search (rules, stepped_by)
 
-pub returns : goal.returns
-returns c = search (rules, moved_by)
+pub returns-else-not-rests-clause-after : goal.returns-else-not-rests-clause-after
+returns-else-not-rests-clause-after c = search (rules, rested_by)

@@ -7,16 +7,16 @@ use Rattle.dc.proofs.DcBlocker.weight.Goals as goal
 use Rattle.dc.proofs.DcBlocker.weight.Goals.{After-nearest_u64_to_f64-share}
 
 -- by the comparison's answer t
-by_test : (c : After-nearest_u64_to_f64-share) (t : Bool) → let a = c.args.self.a in
-    let share = div binary64 one c.nearest_u64_to_f64-share.result in lt a share ≡ t → cond t share a ≡ weight a c.args.self.n
+by_test : (c : After-nearest_u64_to_f64-share) (t : Bool) → let a = c.args.self.now.a in
+    let share = div binary64 one c.nearest_u64_to_f64-share.result in lt a share ≡ t → cond t share a ≡ weight a c.args.self.now.n
 unfolding weight
 by_test c t e =
-    let a = c.args.self.a in
+    let a = c.args.self.now.a in
     let share = div binary64 one c.nearest_u64_to_f64-share.result in
     ap (λ (s : Bool). cond s share a) (sym e) ∙ ap (λ (x : Float). larger a (div binary64 one x)) c.nearest_u64_to_f64-share.ensures
 
-pub returns-then-a-share : goal.returns-then-a-share
-returns-then-a-share c = by_test (goal.at.returns-then-a-share c).After-nearest_u64_to_f64-share true c.if-a-share.true
+pub returns-then-self-share : goal.returns-then-self-share
+returns-then-self-share c = by_test (goal.at.returns-then-self-share c).After-nearest_u64_to_f64-share true c.if-self-share.true
 
-pub returns : goal.returns
-returns c = by_test (goal.at.returns c).After-nearest_u64_to_f64-share false c.if-a-share.false
+pub returns-else-self-share : goal.returns-else-self-share
+returns-else-self-share c = by_test (goal.at.returns-else-self-share c).After-nearest_u64_to_f64-share false c.if-self-share.false
