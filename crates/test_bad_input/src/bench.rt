@@ -36,26 +36,13 @@ pub const UNDO: u64 = 3;
 
 // Whether the words from `from` on are the same.
 pub fn same_behind(a: &[u64], b: &[u64], from: usize) -> bool {
-    if a.len() != b.len() {
-        return false;
-    }
-    let mut k: usize = from;
-    while k < a.len() {
-        if a[k] != b[k] {
-            return false;
-        }
-        k += 1;
-    }
-    true
+    a.len() == b.len() && a.iter().zip(b).skip(from).all(|(x, y)| x == y)
 }
 
 fn same_floats(a: &[f64; 33], b: &[f64; 33]) -> bool {
-    for k in 0..33 {
-        if ieee::to_bits64(a[k]) != ieee::to_bits64(b[k]) {
-            return false;
-        }
-    }
-    true
+    a.iter()
+        .zip(b)
+        .all(|(x, y)| ieee::to_bits64(*x) == ieee::to_bits64(*y))
 }
 
 fn is_same(a: Bench, b: Bench) -> bool {

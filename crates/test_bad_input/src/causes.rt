@@ -32,8 +32,8 @@ fn sample(k: usize) -> u64 {
 
 fn samples() -> [u64; 64] {
     let mut out = [0u64; 64];
-    for k in 0..64 {
-        out[k] = sample(k);
+    for (k, x) in out.iter_mut().enumerate() {
+        *x = sample(k);
     }
     out
 }
@@ -229,10 +229,8 @@ fn read(rt: &impl Print, r: Reading, c: u8) -> io::Result<Reading> {
 
 fn read_all(rt: &impl Print, text: &[u8]) -> io::Result<()> {
     let mut r = in_part(LETTER, chain(b'a'));
-    let mut k: usize = 0;
-    while k < text.len() {
-        r = read(rt, r, text[k])?;
-        k += 1;
+    for c in text {
+        r = read(rt, r, *c)?;
     }
     Ok(())
 }

@@ -96,8 +96,8 @@ fn sample(seed: u64, k: u64) -> u64 {
 
 pub fn samples(seed: u64) -> [u64; 64] {
     let mut out = [0u64; 64];
-    for k in 0..64 {
-        out[k] = sample(seed, k as u64 + 1000);
+    for (k, x) in out.iter_mut().enumerate() {
+        *x = sample(seed, k as u64 + 1000);
     }
     out
 }

@@ -110,8 +110,8 @@ fn print_count(rt: &impl Print, op: u64, number: u64, count: u64) -> io::Result<
 }
 
 fn print(rt: &impl Print, counts: &[u64; COUNTS]) -> io::Result<()> {
-    for k in 0..CHANGED {
-        print_count(rt, k as u64 / 128, k as u64 % 128, counts[k])?;
+    for (k, count) in counts[..CHANGED].iter().enumerate() {
+        print_count(rt, k as u64 / 128, k as u64 % 128, *count)?;
     }
     Ok(())
 }

@@ -8,6 +8,9 @@ ghost use Rattle.std.specs.Prelude.{◌+◌, ◌≤◌, IfOk, length};
 use std::io;
 use std::io::Read;
 
+// The bytes of a line.
+const LINE: usize = 42;
+
 fn digit(c: u8) -> u64 {
     if c < b'a' {
         (c % 16) as u64
@@ -21,10 +24,8 @@ fn word(text: &[u8], at: usize) -> u64
     requires { at + 16 ≤ length text.now }
 {
     let mut w = 0u64;
-    let mut i = 0usize;
-    while i < 16 {
-        w = w % 0x1000_0000_0000_0000 * 16 + digit(text[at + i]) % 16;
-        i += 1;
+    for c in &text[at..at + 16] {
+        w = w % 0x1000_0000_0000_0000 * 16 + digit(*c) % 16;
     }
     w
 }
@@ -74,10 +75,8 @@ fn read_full(input: &mut impl Read, text: &mut [u8]) -> io::Result<usize>
 fn main(rt: HostRuntime) -> io::Result<()> {
     let mut text = [0u8; 65536];
     let n = read_full(&mut rt.stdin(), &mut text)?;
-    let mut at = 0usize;
-    while at + 42 <= n {
-        try_line(&rt, &text[at..at + 42])?;
-        at += 42;
+    for line in text[..n].chunks_exact(LINE) {
+        try_line(&rt, line)?;
     }
     Ok(())
 }

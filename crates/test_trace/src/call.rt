@@ -25,10 +25,8 @@ fn laid(front: usize, input: &[u64], k: usize) -> u64 {
 
 // The places in front, and then the words.
 pub fn fill(slice: &mut [u64], front: usize, input: &[u64]) {
-    let mut k: usize = 0;
-    while k < slice.len() {
-        slice[k] = laid(front, input, k);
-        k += 1;
+    for (k, x) in slice.iter_mut().enumerate() {
+        *x = laid(front, input, k);
     }
 }
 

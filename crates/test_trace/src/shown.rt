@@ -18,10 +18,8 @@ fn write_ring(rt: &impl Print, samples: u64, ring: Ring) -> io::Result<()> {
 
 fn write_rings(rt: &impl Print, log: &ConditioningLog) -> io::Result<()> {
     let marks = log.notes.log;
-    for k in 0..12 {
-        let samples = marks.counts[k];
-        let ring = marks.rings[k];
-        write_ring(rt, samples, ring)?;
+    for (samples, ring) in marks.counts.iter().zip(&marks.rings) {
+        write_ring(rt, *samples, *ring)?;
     }
     Ok(())
 }

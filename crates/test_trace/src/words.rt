@@ -7,25 +7,14 @@ use std::io;
 use std::io::{ErrorKind, Read};
 use test_operations::{Told, at_most, part};
 
-// How many words go at once, of so many.
-fn at_once(left: usize) -> usize
-    requires { 0 < left }
-    ensures { (0 < result) × (result ≤ left) × (result ≤ 512) }
-{
-    if 512 < left {
-        return 512;
-    }
-    left
-}
+// How many words go at once.
+const AT_ONCE: usize = 512;
 
 // ---- one word of a list
 
 // Word k, 0 behind the end.
 pub fn word(words: &[u64], k: usize) -> u64 {
-    if k < words.len() {
-        return words[k];
-    }
-    0
+    words.get(k).copied().unwrap_or(0)
 }
 
 // The float of word k.
@@ -63,45 +52,19 @@ fn read_part(rt: &impl Input, words: &mut [u64]) -> io::Result<bool>
 
 // Reads over the slice; whether all of its words were there.
 pub fn read_words(rt: &impl Input, words: &mut [u64]) -> io::Result<bool> {
-    let n = words.len();
-    let mut k: usize = 0;
-    while k < n {
-        let e = k + at_once(n - k);
-        if !read_part(rt, &mut words[k..e])? {
+    for part in words.chunks_mut(AT_ONCE) {
+        if !read_part(rt, part)? {
             return Ok(false);
         }
-        k = e;
     }
     Ok(true)
 }
 
 // ---- writing
 
-fn low(w: u64) -> u8 {
-    (w % 256) as u8
-}
-
-fn put_word(bytes: &mut [u8; 4096], at: usize, w: u64)
-    requires fact_1 { at + 8 ≤ 4096 }
-    requires fact_2 { 4096 ≡ length bytes.old }
-    ensures { 4096 ≡ length bytes.new }
-{
-    let mut rest = w;
-    for i in 0..8 {
-        bytes[at + i] = low(rest);
-        rest = rest >> 8;
-    }
-}
-
-fn encode(words: &[u64], bytes: &mut [u8; 4096])
-    requires fact_1 { length words.now ≤ 512 }
-    requires fact_2 { 4096 ≡ length bytes.old }
-    ensures { 4096 ≡ length bytes.new }
-{
-    let mut k: usize = 0;
-    while k < words.len() {
-        put_word(bytes, k * 8, words[k]);
-        k += 1;
+fn encode(words: &[u64], bytes: &mut [u8; 4096]) {
+    for (w, place) in words.iter().zip(bytes.chunks_exact_mut(8)) {
+        place.copy_from_slice(&w.to_le_bytes());
     }
 }
 
@@ -115,12 +78,8 @@ fn write_part(rt: &impl Print, words: &[u64]) -> io::Result<()>
 }
 
 pub fn write_words(rt: &impl Print, words: &[u64]) -> io::Result<()> {
-    let n = words.len();
-    let mut k: usize = 0;
-    while k < n {
-        let e = k + at_once(n - k);
-        write_part(rt, &words[k..e])?;
-        k = e;
+    for part in words.chunks(AT_ONCE) {
+        write_part(rt, part)?;
     }
     Ok(())
 }
@@ -149,13 +108,7 @@ fn mixed(h: u64, w: u64) -> u64 {
 }
 
 fn digest(words: &[u64]) -> u64 {
-    let mut h: u64 = 0;
-    let mut k: usize = 0;
-    while k < words.len() {
-        h = mixed(h, words[k]);
-        k += 1;
-    }
-    h
+    words.iter().fold(0, |h, w| mixed(h, *w))
 }
 
 fn write_one(rt: &impl Print, w: u64) -> io::Result<()> {
@@ -180,8 +133,8 @@ pub fn show_first(rt: &impl Print, words: &[u64], count: usize, how: u64) -> io:
 // The bits of the monitor's words.
 pub fn bits(words: &[f64; MONITOR_WORDS]) -> [u64; MONITOR_WORDS] {
     let mut out = [0u64; MONITOR_WORDS];
-    for k in 0..MONITOR_WORDS {
-        out[k] = ieee::to_bits64(words[k]);
+    for (w, x) in out.iter_mut().zip(words) {
+        *w = ieee::to_bits64(*x);
     }
     out
 }
