@@ -1,5 +1,5 @@
 -- The state that words say; any words say one. Definitions only.
-use Rattle.std.specs.Prelude.{Bool, cond, not, List, [], ◌∷◌, map, ℕ, zero, suc, ◌+◌, ◌%◌, ◌^◌, eqb, get_or, take, drop, Float}
+use Rattle.std.specs.Prelude.{Bool, cond, not, List, [], ◌∷◌, map, ℕ, zero, suc, ◌+◌, ◌%◌, ◌^◌, eqb, get_or, take, drop, Float, Option, None, Some}
 use Rattle.std.specs.Float.{binary32, binary64}
 use Rattle.std.specs.Float.Ieee.{of_bits}
 use Rattle.complex.specs.declared.Complex64.{Complex64}
@@ -21,8 +21,6 @@ use Rattle.impulse.specs.declared.ImpulseSuppressor.{ImpulseSuppressor}
 use Rattle.dc.specs.declared.DcBlocker.{DcBlocker}
 use Rattle.iq.specs.declared.Iq.{Iq}
 use Rattle.iq.specs.declared.Iq.TheVariants as iq
-use Rattle.iq_monitor.specs.declared.Begun.{Begun}
-use Rattle.iq_monitor.specs.declared.Begun.TheVariants.{Never, At}
 use Rattle.iq_monitor.specs.declared.ImageMonitor.{ImageMonitor}
 use Rattle.rules.specs.Impulse.{window_size, lookahead_size}
 use Rattle.chain_state.specs.declared.Settings.{Settings}
@@ -66,8 +64,8 @@ run_at w start len paused = cond (eqb w 0) Closed (Running (record { start = sta
 abbrev pub left_at : ℕ → ℕ → Left
 left_at w x = cond (eqb w 0) Missing (Neighbour x)
 
-abbrev pub begun_at : ℕ → ℕ → Begun
-begun_at w f = cond (eqb w 0) Never (At f)
+abbrev pub begun_at : ℕ → ℕ → Option ℕ
+begun_at w f = cond (eqb w 0) None (Some f)
 
 -- ---- the numbers of each part
 

@@ -1,5 +1,5 @@
 -- A state as words: the numbers of each part in order, then the arrays, then the log. Definitions only.
-use Rattle.std.specs.Prelude.{Bool, cond, List, [], ◌∷◌, ◌++◌, map, ℕ, Float}
+use Rattle.std.specs.Prelude.{Bool, cond, List, [], ◌∷◌, ◌++◌, map, ℕ, Float, Option, None, Some}
 use Rattle.std.specs.Float.{binary32, binary64}
 use Rattle.std.specs.Float.Ieee.{to_bits}
 use Rattle.stage_mode.specs.declared.StageMode.{StageMode}
@@ -20,8 +20,6 @@ use Rattle.impulse.specs.declared.ImpulseSuppressor.{ImpulseSuppressor}
 use Rattle.dc.specs.declared.DcBlocker.{DcBlocker}
 use Rattle.iq.specs.declared.Iq.{Iq}
 use Rattle.iq.specs.declared.Iq.TheVariants as iq
-use Rattle.iq_monitor.specs.declared.Begun.{Begun}
-use Rattle.iq_monitor.specs.declared.Begun.TheVariants.{Never, At}
 use Rattle.iq_monitor.specs.declared.ImageMonitor.{ImageMonitor}
 use Rattle.chain_state.specs.declared.Settings.{Settings}
 use Rattle.chain_state.specs.declared.Counts.{Counts}
@@ -65,11 +63,11 @@ left_parts (Neighbour x) = (1, x)
 abbrev pub left_words : Left → List ℕ
 left_words l = let p = left_parts l in p.0 ∷ p.1 ∷ []
 
-abbrev pub begun_parts : Begun → ℕ × ℕ
-begun_parts Never = (0, 0)
-begun_parts (At f) = (1, f)
+abbrev pub begun_parts : Option ℕ → ℕ × ℕ
+begun_parts None = (0, 0)
+begun_parts (Some f) = (1, f)
 
-abbrev pub begun_words : Begun → List ℕ
+abbrev pub begun_words : Option ℕ → List ℕ
 begun_words b = let p = begun_parts b in p.0 ∷ p.1 ∷ []
 
 -- ---- the numbers of each part

@@ -1,5 +1,5 @@
 -- A state's words say that state. Assumes nothing.
-use Rattle.std.specs.Prelude.{◌≡◌, refl, Bool, true, false, List, [], ◌∷◌, ◌++◌, map, ℕ, ◌+◌, ◌^◌, ◌<◌, length, take, drop, Float}
+use Rattle.std.specs.Prelude.{◌≡◌, refl, Bool, true, false, List, [], ◌∷◌, ◌++◌, map, ℕ, ◌+◌, ◌^◌, ◌<◌, length, take, drop, Float, Option, None, Some}
 use Rattle.std.proofs.Common.{sym, ap, ◌∙◌, append_assoc, append-nil, arith, mod-eq_of_lt, length-append, take_at, drop_at}
 use Rattle.std.specs.Float.{binary32, binary64}
 use Rattle.std.specs.Float.Ieee.{to_bits, of_bits}
@@ -19,8 +19,6 @@ use Rattle.impulse.specs.declared.Left.{Left}
 use Rattle.impulse.specs.declared.Left.TheVariants.{Neighbour, Missing}
 use Rattle.iq.specs.declared.Iq.{Iq}
 use Rattle.iq.specs.declared.Iq.TheVariants as iq
-use Rattle.iq_monitor.specs.declared.Begun.{Begun}
-use Rattle.iq_monitor.specs.declared.Begun.TheVariants.{Never, At}
 use Rattle.chain_state.specs.declared.InputConditioner.{InputConditioner}
 use Rattle.rules.specs.Impulse.{window_size, lookahead_size}
 use Rattle.chain_words.specs.Words.{flag_word, power_word, mode_word, iq_parts, run_parts, left_parts, begun_parts, powers_words, rings_words, words_of}
@@ -70,9 +68,9 @@ left_again : (l : Left) → (let p = left_parts l in left_at p.0 p.1) ≡ l
 left_again (Neighbour x) = refl
 left_again Missing = refl
 
-begun_again : (b : Begun) → (let p = begun_parts b in begun_at p.0 p.1) ≡ b
-begun_again (At f) = refl
-begun_again Never = refl
+begun_again : (b : Option ℕ) → (let p = begun_parts b in begun_at p.0 p.1) ≡ b
+begun_again (Some f) = refl
+begun_again None = refl
 
 -- ---- lists
 
