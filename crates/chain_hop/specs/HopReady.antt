@@ -1,17 +1,17 @@
 -- What the functions below a hop ask of the monitor's answer. Definitions only.
-use Rattle.std.specs.Prelude.{◌≤◌, ◌^◌}
+use Rattle.std.specs.Prelude.{◌≤◌, ◌^◌, Result, Ok, Err}
 use Rattle.iq_monitor.specs.declared.Evidence.{Evidence}
-use Rattle.iq_monitor.specs.declared.HopAnswer.{HopAnswer}
-use Rattle.iq_monitor.specs.declared.HopAnswer.TheVariants as monitor
+use Rattle.refusal.specs.declared.Refusal.{Refusal}
+use Rattle.iq_monitor.specs.declared.Heard.{Heard}
+use Rattle.iq_monitor.specs.declared.Heard.TheVariants as heard
 
 -- a window that ends after it starts, in range
 abbrev pub Window : Evidence → Type 0
 Window e = (e.start ≤ e.end) × (e.end ≤ 2 ^ 52)
 
 -- an answer whose window, if it has one, is so
-abbrev pub Told : HopAnswer → Type 0
-Told monitor.Nothing = Unit {0}
-Told monitor.NoReport = Unit {0}
-Told (monitor.Report e) = Window e
-Told monitor.Early = Unit {0}
-Told (monitor.Beyond k) = Unit {0}
+abbrev pub Told : Result Heard Refusal → Type 0
+Told (Ok heard.Nothing) = Unit {0}
+Told (Ok heard.NoReport) = Unit {0}
+Told (Ok (heard.Report e)) = Window e
+Told (Err e) = Unit {0}

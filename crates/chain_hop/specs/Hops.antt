@@ -1,25 +1,22 @@
 -- A hop handed to the chain: what it refuses, its answer in document 01's words, and the state and lent words after it. Definitions only.
-use Rattle.std.specs.Prelude.{Bool, true, false, not, cond, ℕ, zero, suc, ◌*◌, eqb, length, Float}
+use Rattle.std.specs.Prelude.{Bool, true, false, not, cond, ℕ, zero, suc, ◌*◌, eqb, length, Float, Result, Ok, Err}
 use mathlib.Core.List.{List, [], ◌∷◌, foldl}
 use Rattle.rules.specs.Iq.{Settled, Off, Observing, Withheld, Correcting}
 use Rattle.rules.specs.Log.{Span, ring_number, iq, Uncertain, store_width}
-use Rattle.rules.specs.Monitor.{Answer, no_report, report, suspected_span, channel_width}
-use Rattle.rules.specs.Answers.{Said, accepted, nothing, refused}
+use Rattle.rules.specs.Monitor.{Answer, report, suspected_span, channel_width}
+use Rattle.rules.specs.Answers.{Said, nothing, refused}
 use Rattle.rules.specs.Refusals.{Cause, first_of, bad_length}
 use Rattle.stage_log.specs.View.{Logged, marked_at}
 use Rattle.iq.specs.View.{settled_of}
-use Rattle.iq_monitor.specs.declared.HopAnswer.{HopAnswer}
-use Rattle.iq_monitor.specs.declared.HopAnswer.TheVariants as monitor
+use Rattle.refusal.specs.declared.Refusal.{Refusal}
+use Rattle.refusal.specs.declared.Refusal.TheVariants as why
+use Rattle.iq_monitor.specs.declared.Heard.{Heard}
+use Rattle.iq_monitor.specs.declared.Heard.TheVariants as heard
 use Rattle.iq_monitor.specs.Words.{words_fit}
 use Rattle.iq_monitor.specs.Observe.{report_from, Seen, leaving, observed, hop_said}
 use Rattle.chain_state.specs.declared.InputConditioner.{InputConditioner}
 use Rattle.chain_state.specs.Causes.{bad_state, bad_spans}
 use Rattle.chain_state.specs.Changed.{after_hop}
-use Rattle.chain_hop.specs.declared.HopFitness.{HopFitness}
-use Rattle.chain_hop.specs.declared.HopFitness.TheVariants as fitness
-use Rattle.chain_hop.specs.declared.HopSaid.{HopSaid}
-use Rattle.chain_hop.specs.declared.HopSaid.TheVariants as hop
-use Rattle.chain_hop.specs.declared.HopCalled.{HopCalled}
 
 -- ---- what is refused before the monitor sees the hop
 
@@ -38,31 +35,16 @@ hop_refusal c spans ws =
     ∷ bad_words c ws
     ∷ [])
 
--- document 01's number for each, and 0 for none
-abbrev pub fitness_number : HopFitness → ℕ
-fitness_number fitness.Fit = 0
-fitness_number fitness.BadState = 5
-fitness_number fitness.BadLength = 4
+-- the refusal of each number: 5 and 4 are the only ones here
+abbrev pub refusal_of : ℕ → Refusal
+refusal_of k = cond (eqb k 4) why.BadLength why.BadState
+
+-- and 0 for none
+abbrev pub fitness : ℕ → Result (Unit {0}) Refusal
+fitness zero = Ok tt
+fitness (suc k) = Err (refusal_of (suc k))
 
 -- ---- the answer
-
--- document 01's number and values for each
-abbrev pub said_hop : HopSaid → Said Answer
-said_hop hop.Nothing = nothing
-said_hop hop.NoReport = accepted no_report
-said_hop (hop.Report e) = accepted (report (report_from e))
-said_hop hop.BadState = refused (5 ∷ [])
-said_hop hop.BadLength = refused (4 ∷ [])
-said_hop hop.Early = refused (9 ∷ [])
-said_hop (hop.Beyond k) = refused (7 ∷ k ∷ [])
-
--- the monitor's answer as the chain's
-abbrev pub answer_of : HopAnswer → HopSaid
-answer_of monitor.Nothing = hop.Nothing
-answer_of monitor.NoReport = hop.NoReport
-answer_of (monitor.Report e) = hop.Report e
-answer_of monitor.Early = hop.Early
-answer_of (monitor.Beyond k) = hop.Beyond k
 
 abbrev pub is_off_iq : Settled → Bool
 is_off_iq Off = true
@@ -76,7 +58,7 @@ is_observing Observing = true
 is_observing (Correcting r) = false
 is_observing Withheld = false
 
-abbrev numbered : ℕ → Said Answer → Said Answer
+abbrev pub numbered : ℕ → Said Answer → Said Answer
 numbered zero s = s
 numbered (suc k) s = refused (suc k ∷ [])
 
@@ -92,46 +74,46 @@ hop_told c xs start spans ws =
 unfoldable pub watched : InputConditioner → List ℕ → ℕ → List Float → Seen
 watched c xs start ws =
     let s = c.settings in
-    cond (is_off_iq (settled_of s.iq)) (leaving c.monitor ws monitor.Nothing) (observed c.monitor s.fs s.n xs start ws)
+    cond (is_off_iq (settled_of s.iq)) (leaving c.monitor ws (Ok heard.Nothing)) (observed c.monitor s.fs s.n xs start ws)
 
 -- the window of a report that suspects it
-abbrev pub suspected_by : HopAnswer → List Span
-suspected_by monitor.Nothing = []
-suspected_by monitor.NoReport = []
-suspected_by (monitor.Report e) = suspected_span (report (report_from e))
-suspected_by monitor.Early = []
-suspected_by (monitor.Beyond k) = []
+abbrev pub suspected_by : Result Heard Refusal → List Span
+suspected_by (Ok heard.Nothing) = []
+suspected_by (Ok heard.NoReport) = []
+suspected_by (Ok (heard.Report e)) = suspected_span (report (report_from e))
+suspected_by (Err e) = []
 
 abbrev pub uncertain : ℕ → Logged → Span → Logged
 uncertain cap x m = marked_at cap x (ring_number iq Uncertain) m
 
 -- 'A suspected window is marked Uncertain only while observing.'
-abbrev pub noted : ℕ → Bool → HopAnswer → Logged → Logged
+abbrev pub noted : ℕ → Bool → Result Heard Refusal → Logged → Logged
 noted cap observes a x = foldl (uncertain cap) x (cond observes (suspected_by a) [])
 
--- what is returned, the span store, and the monitor's words
+-- the state after a hop, what is answered, the span store, and the monitor's words
 pub record Hopped : Type 0 where
-  pub called : HopCalled
+  pub state : InputConditioner
+  pub answer : Result Heard Refusal
   pub spans : List ℕ
   pub words : List Float
 
 -- by what the monitor makes of it
 abbrev pub followed : InputConditioner → List ℕ → Seen → Hopped
 followed c spans s =
-    let x = noted c.settings.spans (is_observing (settled_of c.settings.iq)) s.seen.answer (record { log = c.notes.log; spans = spans }) in
-    record { called = record { state = after_hop c s.seen.monitor x.log; answer = answer_of s.seen.answer }; spans = x.spans; words = s.words }
+    let x = noted c.settings.spans (is_observing (settled_of c.settings.iq)) s.answer (record { log = c.notes.log; spans = spans }) in
+    record { state = after_hop c s.monitor x.log; answer = s.answer; spans = x.spans; words = s.words }
 
 unfoldable pub taken : InputConditioner → List ℕ → ℕ → List ℕ → List Float → Hopped
 taken c xs start spans ws = followed c spans (watched c xs start ws)
 
 -- what leaves all as it was
-abbrev pub kept : InputConditioner → List ℕ → List Float → HopSaid → Hopped
-kept c spans ws a = record { called = record { state = c; answer = a }; spans = spans; words = ws }
+abbrev pub kept : InputConditioner → List ℕ → List Float → Result Heard Refusal → Hopped
+kept c spans ws a = record { state = c; answer = a; spans = spans; words = ws }
 
--- 5 and 4 are the only numbers here
+-- refused by a number, or by none
 abbrev pub by_number : ℕ → InputConditioner → List ℕ → List Float → Hopped → Hopped
 by_number zero c spans ws h = h
-by_number (suc k) c spans ws h = kept c spans ws (cond (eqb (suc k) 4) hop.BadLength hop.BadState)
+by_number (suc k) c spans ws h = kept c spans ws (Err (refusal_of (suc k)))
 
 unfoldable pub hop_of : InputConditioner → List ℕ → ℕ → List ℕ → List Float → Hopped
 hop_of c xs start spans ws = by_number (hop_refusal c spans ws) c spans ws (taken c xs start spans ws)

@@ -12,8 +12,6 @@ use Rattle.impulse.specs.declared.ImpulseSuppressor.{ImpulseSuppressor}
 use Rattle.impulse_arrays.specs.Fits.{window_held, arrays_fit, sorted_fits}
 use Rattle.dc.specs.declared.DcBlocker.{DcBlocker}
 use Rattle.iq.specs.View.{settled_of}
-use Rattle.iq_monitor.specs.declared.Begun.{Begun}
-use Rattle.iq_monitor.specs.declared.Begun.TheVariants.{Never, At}
 use Rattle.iq_monitor.specs.declared.ImageMonitor.{ImageMonitor}
 use Rattle.chain_config.specs.Config.{setting_refusal}
 use Rattle.chain_state.specs.declared.Settings.{Settings}
@@ -90,9 +88,9 @@ coefficient_fits Withheld = true
 coefficient_fits (Correcting r) = accepted r
 
 -- not: 'a mirror window's first after its end'
-abbrev pub begun_fits : Begun → ℕ → Bool
-begun_fits Never end = true
-begun_fits (At first) end = leb first end
+abbrev pub begun_fits : Option ℕ → ℕ → Bool
+begun_fits None end = true
+begun_fits (Some first) end = leb first end
 
 unfoldable pub monitor_fits : ImageMonitor → Bool
 monitor_fits m = counter m.end && begun_fits m.first m.end

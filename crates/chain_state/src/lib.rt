@@ -9,7 +9,7 @@ ghost use Rattle.chain_state.specs.Fits.{blocker_fits, coefficient_fits, begun_f
 use dc::DcBlocker;
 use impulse::{Gate, ImpulseSuppressor, Run};
 use iq::Iq;
-use iq_monitor::{Begun, ImageMonitor};
+use iq_monitor::ImageMonitor;
 use stage_log::Notes;
 use stage_mode::StageMode;
 
@@ -189,23 +189,19 @@ fn coefficient_fits(iq: Iq) -> bool
     }
 }
 
-fn begun_fits(first: Begun, end: u64) -> bool
+fn begun_fits(first: Option<u64>, end: u64) -> bool
     ensures { result ≡ begun_fits first end }
 {
     match first {
-        Begun::Never => true,
-        Begun::At(f) => f <= end,
+        None => true,
+        Some(f) => f <= end,
     }
 }
 
 fn monitor_fits(m: ImageMonitor) -> bool
     ensures { result ≡ monitor_fits m }
 {
-    let first = m.first;
-    if stage_log::COUNTER_LIMIT < m.end {
-        return false;
-    }
-    begun_fits(first, m.end)
+    m.end <= stage_log::COUNTER_LIMIT && begun_fits(m.first, m.end)
 }
 
 // ---- the state

@@ -18,8 +18,6 @@ use Rattle.impulse.specs.declared.ImpulseSuppressor.{ImpulseSuppressor}
 use Rattle.dc.specs.declared.DcBlocker.{DcBlocker}
 use Rattle.iq.specs.declared.Iq.{Iq}
 use Rattle.iq.specs.declared.Iq.TheVariants as iq
-use Rattle.iq_monitor.specs.declared.Begun.{Begun}
-use Rattle.iq_monitor.specs.declared.Begun.TheVariants.{Never, At}
 use Rattle.iq_monitor.specs.declared.ImageMonitor.{ImageMonitor}
 use Rattle.rules.specs.Impulse.{window_size, lookahead_size}
 use Rattle.chain_state.specs.declared.Settings.{Settings}
@@ -63,8 +61,8 @@ run_at w start len paused = cond (eqb w 0) None (Some (record { start = start; l
 abbrev pub left_at : ℕ → ℕ → Option ℕ
 left_at w x = cond (eqb w 0) None (Some x)
 
-abbrev pub begun_at : ℕ → ℕ → Begun
-begun_at w f = cond (eqb w 0) Never (At f)
+abbrev pub begun_at : ℕ → ℕ → Option ℕ
+begun_at w f = cond (eqb w 0) None (Some f)
 
 -- ---- the numbers of each part
 

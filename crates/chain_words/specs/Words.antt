@@ -17,8 +17,6 @@ use Rattle.impulse.specs.declared.ImpulseSuppressor.{ImpulseSuppressor}
 use Rattle.dc.specs.declared.DcBlocker.{DcBlocker}
 use Rattle.iq.specs.declared.Iq.{Iq}
 use Rattle.iq.specs.declared.Iq.TheVariants as iq
-use Rattle.iq_monitor.specs.declared.Begun.{Begun}
-use Rattle.iq_monitor.specs.declared.Begun.TheVariants.{Never, At}
 use Rattle.iq_monitor.specs.declared.ImageMonitor.{ImageMonitor}
 use Rattle.chain_state.specs.declared.Settings.{Settings}
 use Rattle.chain_state.specs.declared.Counts.{Counts}
@@ -62,11 +60,11 @@ left_parts (Some x) = (1, x)
 abbrev pub left_words : Option ℕ → List ℕ
 left_words l = let p = left_parts l in p.0 ∷ p.1 ∷ []
 
-abbrev pub begun_parts : Begun → ℕ × ℕ
-begun_parts Never = (0, 0)
-begun_parts (At f) = (1, f)
+abbrev pub begun_parts : Option ℕ → ℕ × ℕ
+begun_parts None = (0, 0)
+begun_parts (Some f) = (1, f)
 
-abbrev pub begun_words : Begun → List ℕ
+abbrev pub begun_words : Option ℕ → List ℕ
 begun_words b = let p = begun_parts b in p.0 ∷ p.1 ∷ []
 
 -- ---- the numbers of each part

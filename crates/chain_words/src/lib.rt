@@ -20,7 +20,7 @@ use dc::DcBlocker;
 use impulse::{Block, Gate, GateSettings, ImpulseSuppressor, Mending, Run};
 use impulse_pause::PauseEdition;
 use iq::Iq;
-use iq_monitor::{Begun, ImageMonitor};
+use iq_monitor::ImageMonitor;
 use stage_log::{Log, Notes, Ring};
 use stage_mode::StageMode;
 
@@ -224,21 +224,21 @@ fn left_at(w: u64, x: u64) -> Option<u64>
     }
 }
 
-fn begun_words(first: Begun) -> [u64; 2]
+fn begun_words(first: Option<u64>) -> [u64; 2]
     ensures { result ≡ begun_words first }
 {
     match first {
-        Begun::At(f) => [1, f],
-        Begun::Never => [0, 0],
+        Some(f) => [1, f],
+        None => [0, 0],
     }
 }
 
-fn begun_at(w: u64, f: u64) -> Begun
+fn begun_at(w: u64, f: u64) -> Option<u64>
     ensures { result ≡ begun_at w f }
 {
     match w {
-        0 => Begun::Never,
-        _ => Begun::At(f),
+        0 => None,
+        _ => Some(f),
     }
 }
 

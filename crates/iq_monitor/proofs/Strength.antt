@@ -77,11 +77,3 @@ next_strongest ps j k e f =
     ap (λ (c : Choice). stronger_of ps c k) f
     ∙ sym (ap (strongest (length ps) (power_at ps)) (add-one k)
     ∙ ap (λ (b : Bool). cond b (stronger_of ps (strongest (length ps) (power_at ps) k) k) (strongest (length ps) (power_at ps) k)) e)
-
--- the code's test is the definition's
-pub told : (ps : List Float) (j k : ℕ) (t : Bool) → j < length ps → k < length ps → lt (get_or ps k nan) (get_or ps j nan) ≡ t
-    → cond t (channel_at j) (channel_at k) ≡ stronger_of ps (channel_at j) k
-told ps j k t a b e =
-    ap (λ (u : Bool). cond u (channel_at j) (channel_at k)) (sym e)
-    ∙ ap (λ (x : Float). cond (lt x (get_or ps j nan)) (channel_at j) (channel_at k)) (read_any ps k nan zero_f b)
-    ∙ ap (λ (x : Float). cond (lt (get_or ps k zero_f) x) (channel_at j) (channel_at k)) (read_any ps j nan zero_f a)

@@ -1,10 +1,10 @@
 -- A list of hops handed to the monitor, and what the rules say of it in the monitor's types. Definitions only.
-use Rattle.std.specs.Prelude.{◌≡◌, false, List, [], ◌∷◌, map, ℕ, Float}
+use Rattle.std.specs.Prelude.{◌≡◌, false, List, [], ◌∷◌, map, ℕ, Float, None, Some, Result, Ok}
 use Rattle.rules.specs.Monitor.{Hop, hop_end, Answer, no_report, report, window_length, answers, open_window, monitor_words}
 use Rattle.rules.specs.Refusals.{bad_start, any_beyond}
-use Rattle.iq_monitor.specs.declared.Begun.TheVariants.{Never, At}
-use Rattle.iq_monitor.specs.declared.HopAnswer.{HopAnswer}
-use Rattle.iq_monitor.specs.declared.HopAnswer.TheVariants as answer
+use Rattle.refusal.specs.declared.Refusal.{Refusal}
+use Rattle.iq_monitor.specs.declared.Heard.{Heard}
+use Rattle.iq_monitor.specs.declared.Heard.TheVariants as heard
 use Rattle.iq_monitor.specs.declared.ImageMonitor.{ImageMonitor}
 use Rattle.iq_monitor.specs.Observe.{Seen, evidence, monitor_of, is_none, observed}
 
@@ -29,27 +29,27 @@ last_end n end (h ∷ hs) = last_end n (hop_end n h) hs
 -- ---- the monitor over a list of hops
 
 pub record Watched : Type 0 where
-  pub answered : List HopAnswer
+  pub answered : List (Result Heard Refusal)
   pub monitor : ImageMonitor
   pub words : List Float
 
 abbrev pub followed : Seen → Watched → Watched
-followed s rest = record { answered = s.seen.answer ∷ rest.answered; monitor = rest.monitor; words = rest.words }
+followed s rest = record { answered = s.answer ∷ rest.answered; monitor = rest.monitor; words = rest.words }
 
 unfoldable pub watched : Float → ℕ → ImageMonitor → List Float → List Hop → Watched
 watched fs n m ws [] = record { answered = []; monitor = m; words = ws }
-watched fs n m ws (h ∷ hs) = let s = observed m fs n h.channels h.start ws in followed s (watched fs n s.seen.monitor s.words hs)
+watched fs n m ws (h ∷ hs) = let s = observed m fs n h.channels h.start ws in followed s (watched fs n s.monitor s.words hs)
 
 -- ---- the rules', in the same types
 
-abbrev pub answer_of : Answer → HopAnswer
-answer_of no_report = answer.NoReport
-answer_of (report r) = answer.Report (evidence r)
+abbrev pub answer_of : Answer → Result Heard Refusal
+answer_of no_report = Ok heard.NoReport
+answer_of (report r) = Ok (heard.Report (evidence r))
 
 -- the monitor whose open window is w
 abbrev pub window_state : List Hop → ℕ → ImageMonitor
-window_state [] end = monitor_of Never end
-window_state (h ∷ w) end = monitor_of (At h.start) end
+window_state [] end = monitor_of None end
+window_state (h ∷ w) end = monitor_of (Some h.start) end
 
 -- after hops hs, where the window w was open and the last hop ended at `end`
 abbrev pub by_rules : Float → ℕ → List Hop → ℕ → List Hop → Watched

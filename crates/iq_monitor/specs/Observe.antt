@@ -1,5 +1,5 @@
 -- What the monitor makes of a hop, over its structs: the machine that the code is. Definitions only.
-use Rattle.std.specs.Prelude.{◌≡◌, Bool, true, not, ◌||◌, cond, List, [], ◌∷◌, ℕ, ◌+◌, ◌-◌, ◌*◌, ◌/◌, ◌≤◌, ◌<◌, ltb, leb, eqb, length, get_or, take, replicate, Float}
+use Rattle.std.specs.Prelude.{◌≡◌, Bool, true, not, ◌||◌, cond, List, [], ◌∷◌, ℕ, ◌+◌, ◌-◌, ◌*◌, ◌/◌, ◌≤◌, ◌<◌, ltb, leb, eqb, length, get_or, take, replicate, Float, Option, None, Some, Result, Ok, Err, unwrap_or}
 use Rattle.std.specs.Float.{nan}
 use Rattle.complex.specs.Complex.{Complex}
 use Rattle.rules.specs.Constants.{zero_f}
@@ -8,28 +8,26 @@ use Rattle.rules.specs.Monitor.{channel_width}
 use Rattle.rules.specs.Answers.{Said, accepted, nothing, refused}
 use Rattle.rules.specs.Refusals.{first_of, bad_start, any_beyond, first_beyond_from}
 use Rattle.amplitude_limit.specs.Limit.{returned}
-use Rattle.iq_monitor.specs.declared.Strongest.{Strongest}
-use Rattle.iq_monitor.specs.declared.Strongest.TheVariants.{Nobody, Channel}
+use Rattle.refusal.specs.declared.Refusal.{Refusal}
+use Rattle.refusal.specs.declared.Refusal.TheVariants as why
+use Rattle.refusal.specs.Words.{said_by}
 use Rattle.iq_monitor.specs.declared.Pair as code
 use Rattle.iq_monitor.specs.declared.Evidence.{Evidence}
-use Rattle.iq_monitor.specs.declared.Begun.{Begun}
-use Rattle.iq_monitor.specs.declared.Begun.TheVariants.{Never, At}
-use Rattle.iq_monitor.specs.declared.HopAnswer.{HopAnswer}
-use Rattle.iq_monitor.specs.declared.HopAnswer.TheVariants as answer
+use Rattle.iq_monitor.specs.declared.Heard.{Heard}
+use Rattle.iq_monitor.specs.declared.Heard.TheVariants as heard
 use Rattle.iq_monitor.specs.declared.ImageMonitor.{ImageMonitor}
-use Rattle.iq_monitor.specs.declared.Observed.{Observed}
 use Rattle.iq_monitor.specs.Words.{added_hop}
 
 -- ---- the code's types and the rules'
 
-abbrev pub choice : Strongest → Choice
-choice Nobody = nobody
-choice (Channel k) = channel_at k
+abbrev pub choice : Option ℕ → Choice
+choice None = nobody
+choice (Some k) = channel_at k
 
 -- a channel of n
-abbrev pub Among : ℕ → Strongest → Type 0
-Among n Nobody = Unit {0}
-Among n (Channel k) = k < n
+abbrev pub Among : ℕ → Option ℕ → Type 0
+Among n None = Unit {0}
+Among n (Some k) = k < n
 
 abbrev pub evidence : Report → Evidence
 evidence r =
@@ -59,12 +57,13 @@ report_from e =
     }
 
 -- a hop's answer in document 01's words
-abbrev pub said : HopAnswer → Said Answer
-said answer.Nothing = nothing
-said answer.NoReport = accepted no_report
-said (answer.Report e) = accepted (report (report_from e))
-said answer.Early = refused (9 ∷ [])
-said (answer.Beyond k) = refused (7 ∷ k ∷ [])
+abbrev pub said_heard : Heard → Said Answer
+said_heard heard.Nothing = nothing
+said_heard heard.NoReport = accepted no_report
+said_heard (heard.Report e) = accepted (report (report_from e))
+
+abbrev pub said : Result Heard Refusal → Said Answer
+said r = said_by said_heard r
 
 -- ---- the report, from the words
 
@@ -92,18 +91,19 @@ report_in n ws first end = reported n (take n ws) (cross_in n ws) first end
 -- ---- a hop
 
 abbrev pub fresh : ImageMonitor
-fresh = record { first = Never; end = 0 }
+fresh = record { first = None; end = 0 }
 
-abbrev pub first_or : Begun → ℕ → ℕ
-first_or Never start = start
-first_or (At f) start = f
+-- where the window starts that a hop belongs to
+abbrev pub first_or : Option ℕ → ℕ → ℕ
+first_or first start = unwrap_or first start
 
--- what is returned, and the words
+-- the monitor after a hop, what is answered, and the words
 pub record Seen : Type 0 where
-  pub seen : Observed
+  pub monitor : ImageMonitor
+  pub answer : Result Heard Refusal
   pub words : List Float
 
-abbrev pub monitor_of : Begun → ℕ → ImageMonitor
+abbrev pub monitor_of : Option ℕ → ℕ → ImageMonitor
 monitor_of f e = record { first = f; end = e }
 
 -- 'When end − first ≥ max(1, ceiling of 5·fs)'
@@ -119,14 +119,16 @@ closing m xs start ws =
     let n = length xs in
     let end = end_of xs start in
     record {
-      seen = record { monitor = monitor_of Never end; answer = answer.Report (evidence (report_in n (added_hop xs ws n) (first_or m.first start) end)) };
+      monitor = monitor_of None end;
+      answer = Ok (heard.Report (evidence (report_in n (added_hop xs ws n) (first_or m.first start) end)));
       words = replicate (channel_width * n) zero_f;
     }
 
 abbrev pub adding : ImageMonitor → List ℕ → ℕ → List Float → Seen
 adding m xs start ws =
     record {
-      seen = record { monitor = monitor_of (At (first_or m.first start)) (end_of xs start); answer = answer.NoReport };
+      monitor = monitor_of (Some (first_or m.first start)) (end_of xs start);
+      answer = Ok heard.NoReport;
       words = added_hop xs ws (length xs);
     }
 
@@ -135,8 +137,8 @@ unfoldable pub accepted_of : ImageMonitor → Float → List ℕ → ℕ → Lis
 accepted_of m fs xs start ws = cond (full fs (first_or m.first start) (end_of xs start)) (closing m xs start ws) (adding m xs start ws)
 
 -- one that leaves all as it was
-abbrev pub leaving : ImageMonitor → List Float → HopAnswer → Seen
-leaving m ws a = record { seen = record { monitor = m; answer = a }; words = ws }
+abbrev pub leaving : ImageMonitor → List Float → Result Heard Refusal → Seen
+leaving m ws a = record { monitor = m; answer = a; words = ws }
 
 -- 'wrong length or n < 8 answers nothing'
 abbrev pub is_none : ℕ → List ℕ → Bool
@@ -145,9 +147,9 @@ is_none n xs = not (eqb (length xs) n) || ltb n 8
 -- 'then 9, 7'
 unfoldable pub observed : ImageMonitor → Float → ℕ → List ℕ → ℕ → List Float → Seen
 observed m fs n xs start ws =
-    cond (is_none n xs) (leaving m ws answer.Nothing)
-    (cond (bad_start m.end start).holds (leaving m ws answer.Early)
-    (cond (any_beyond xs).holds (leaving m ws (answer.Beyond (first_beyond_from 0 xs))) (accepted_of m fs xs start ws)))
+    cond (is_none n xs) (leaving m ws (Ok heard.Nothing))
+    (cond (bad_start m.end start).holds (leaving m ws (Err why.Early))
+    (cond (any_beyond xs).holds (leaving m ws (Err (why.OutOfRange (first_beyond_from 0 xs)))) (accepted_of m fs xs start ws)))
 
 -- ---- the answer, in document 01's words
 

@@ -1,13 +1,22 @@
 -- The monitor's lent words: n powers, n real and n imaginary product sums, n for sorting. A hop added to them, and number 5's tests. Definitions only.
-use Rattle.std.specs.Prelude.{Bool, ◌&&◌, List, ℕ, zero, suc, ◌+◌, ◌*◌, length, get_or, set, take, drop, Float}
+use Rattle.std.specs.Prelude.{◌≡◌, Bool, ◌&&◌, List, ℕ, zero, suc, ◌+◌, ◌*◌, ◌≤◌, length, get_or, set, take, drop, Float}
 use Rattle.std.specs.Float.{nan, binary64}
 use Rattle.std.specs.Float.Ieee.{add, le}
 use Rattle.ieee.specs.Plain.{sign_clear}
 use Rattle.complex.specs.Complex.{Complex, product, power, sample_of}
-use Rattle.rules.specs.Constants.{zero_f, word_limit}
+use Rattle.rules.specs.Constants.{zero_f, word_limit, size_limit}
 use Rattle.rules.specs.Guard.{magnitude}
 use Rattle.rules.specs.Lists.{at, all_of}
-use Rattle.rules.specs.Monitor.{mirror_of}
+use Rattle.rules.specs.Monitor.{mirror_of, channel_width}
+use Rattle.rules.specs.Refusals.{first_beyond_from}
+
+-- the lent words of n channels
+abbrev pub LentWords : ℕ → List Float → Type 0
+LentWords n ws = (length ws ≡ channel_width * n) × (n ≤ size_limit)
+
+-- no channel of a hop is out of range
+abbrev pub Within : List ℕ → Type 0
+Within xs = first_beyond_from 0 xs ≡ length xs
 
 -- x more in the word at i
 abbrev pub more : List Float → ℕ → Float → List Float

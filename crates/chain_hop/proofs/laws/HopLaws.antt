@@ -1,13 +1,13 @@
 -- What a hop makes of its state and lent words, by the answers of its tests. Assumes nothing.
-use Rattle.std.specs.Prelude.{◌≡◌, true, false, not, List, [], ◌∷◌, ℕ, ◌+◌, ◌*◌, ◌^◌, ◌≤◌, ◌<◌, eqb, length, Float}
+use Rattle.std.specs.Prelude.{◌≡◌, true, false, not, List, ℕ, zero, suc, ◌+◌, ◌*◌, ◌^◌, ◌≤◌, ◌<◌, eqb, length, Float, Option, None, Some, Result, Ok, Err}
 use Rattle.std.proofs.Math.Path.{refl, sym, ap}
 use Rattle.std.proofs.Common.{◌∙◌, subst, eqb-true, leb-true}
 use Rattle.std.proofs.Math.Bool.{Bool, cond}
 use Rattle.std.proofs.lemmas.Bool.{false≢true}
 use native.Mathlib.Omega.{arith}
-use Rattle.rules.specs.Monitor.{reported, channel_width}
+use Rattle.rules.specs.Monitor.{Answer, reported, channel_width}
 use Rattle.rules.specs.Log.{span_of, store_width}
-use Rattle.rules.specs.Answers.{nothing, refused}
+use Rattle.rules.specs.Answers.{Said, nothing}
 use Rattle.rules.specs.Refusals.{first_of, bad_start, any_beyond, first_beyond_from}
 use Rattle.rules.specs.Constants.{size_limit, total_limit}
 use Rattle.stage_log.specs.declared.Log.{Log}
@@ -16,12 +16,11 @@ use Rattle.stage_log.specs.Ready.{Fits}
 use Rattle.stage_log.specs.Check.{log_fits, ends_fit}
 use Rattle.stage_log.proofs.laws.CheckLaws.{log_sound, log_range}
 use Rattle.iq.specs.View.{settled_of}
-use Rattle.iq_monitor.specs.declared.Begun.{Begun}
-use Rattle.iq_monitor.specs.declared.Begun.TheVariants.{Never, At}
-use Rattle.iq_monitor.specs.declared.HopAnswer.{HopAnswer}
-use Rattle.iq_monitor.specs.declared.HopAnswer.TheVariants as monitor
+use Rattle.refusal.specs.declared.Refusal.{Refusal}
+use Rattle.refusal.specs.declared.Refusal.TheVariants as why
+use Rattle.iq_monitor.specs.declared.Heard.{Heard}
+use Rattle.iq_monitor.specs.declared.Heard.TheVariants as heard
 use Rattle.iq_monitor.specs.declared.ImageMonitor.{ImageMonitor}
-use Rattle.iq_monitor.specs.declared.Observed.{Observed}
 use Rattle.iq_monitor.specs.Words.{words_fit}
 use Rattle.iq_monitor.specs.Observe.{said, Seen, report_in, first_or, end_of, full, closing, adding, accepted_of, leaving, is_none, observed, hop_said}
 use Rattle.iq_monitor.proofs.laws.ObserveLaws.{observed_by, accepted_by, said_is, is_some, is_next}
@@ -29,10 +28,7 @@ use Rattle.chain_state.specs.declared.InputConditioner.{InputConditioner}
 use Rattle.chain_state.specs.Fits.{begun_fits, state_fits}
 use Rattle.chain_state.specs.Changed.{after_hop}
 use Rattle.chain_state.proofs.laws.FitsLaws.{state_fit}
-use Rattle.chain_hop.specs.declared.HopSaid.{HopSaid}
-use Rattle.chain_hop.specs.declared.HopSaid.TheVariants as hop
-use Rattle.chain_hop.specs.declared.HopCalled.{HopCalled}
-use Rattle.chain_hop.specs.Hops.{hop_refusal, said_hop, answer_of, is_off_iq, is_observing, hop_told, watched, noted, taken, kept, hop_of}
+use Rattle.chain_hop.specs.Hops.{hop_refusal, fitness, is_off_iq, is_observing, numbered, hop_told, watched, noted, Hopped, followed, taken, kept, by_number, hop_of}
 use Rattle.chain_hop.specs.HopReady.{Told}
 
 -- ---- 5, 4, 5 by the answers of the tests
@@ -87,13 +83,13 @@ module _ (c : InputConditioner) (spans : List ℕ) (ws : List Float) where
 
 -- ---- a report's window
 
-first_before : (f : Begun) (end start : ℕ) → begun_fits f end ≡ true → end ≤ start → first_or f start ≤ start
-first_before Never end start b h = omega arith
-first_before (At f) end start b h = let l : f ≤ end = leb-true f end b in omega arith
+first_before : (f : Option ℕ) (end start : ℕ) → begun_fits f end ≡ true → end ≤ start → first_or f start ≤ start
+first_before None end start b h = omega arith
+first_before (Some f) end start b h = let l : f ≤ end = leb-true f end b in omega arith
 
 module _ (m : ImageMonitor) (fs : Float) (n : ℕ) (xs : List ℕ) (start : ℕ) (ws : List Float) where
   abbrev Fine : Seen → Type 0
-  Fine s = Told s.seen.answer
+  Fine s = Told s.answer
 
   told_closing : first_or m.first start ≤ start → start ≤ total_limit → length xs ≤ size_limit → Fine (closing m xs start ws)
   unfolding report_in reported
@@ -105,8 +101,8 @@ module _ (m : ImageMonitor) (fs : Float) (n : ℕ) (xs : List ℕ) (start : ℕ)
   told_accepted false f h l = tt
 
   told_by_lem : (a b d : Bool) → is_none n xs ≡ a → (bad_start m.end start).holds ≡ b → begun_fits m.first m.end ≡ true → n ≤ size_limit
-      → Fine (cond a (leaving m ws monitor.Nothing)
-      (cond b (leaving m ws monitor.Early) (cond d (leaving m ws (monitor.Beyond (first_beyond_from 0 xs))) (accepted_of m fs xs start ws))))
+      → Fine (cond a (leaving m ws (Ok heard.Nothing))
+      (cond b (leaving m ws (Err why.Early)) (cond d (leaving m ws (Err (why.OutOfRange (first_beyond_from 0 xs)))) (accepted_of m fs xs start ws))))
   told_by_lem true b d e f g h = tt
   told_by_lem false true d e f g h = tt
   told_by_lem false false true e f g h = tt
@@ -128,18 +124,18 @@ module _ (m : ImageMonitor) (fs : Float) (n : ℕ) (xs : List ℕ) (start : ℕ)
 
 module _ (c : InputConditioner) (xs : List ℕ) (start : ℕ) (ws : List Float) where
   pub watched_by : (t : Bool) → is_off_iq (settled_of c.settings.iq) ≡ t
-      → watched c xs start ws ≡ cond t (leaving c.monitor ws monitor.Nothing) (observed c.monitor c.settings.fs c.settings.n xs start ws)
+      → watched c xs start ws ≡ cond t (leaving c.monitor ws (Ok heard.Nothing)) (observed c.monitor c.settings.fs c.settings.n xs start ws)
   unfolding watched
-  watched_by t e = ap (λ (b : Bool). cond b (leaving c.monitor ws monitor.Nothing) (observed c.monitor c.settings.fs c.settings.n xs start ws)) e
+  watched_by t e = ap (λ (b : Bool). cond b (leaving c.monitor ws (Ok heard.Nothing)) (observed c.monitor c.settings.fs c.settings.n xs start ws)) e
 
-  pub told_watched : state_fits c ≡ true → Told (watched c xs start ws).seen.answer
-  told_watched e = subst (λ (s : Seen). Told s.seen.answer) (sym (watched_by off refl)) (go off)
+  pub told_watched : state_fits c ≡ true → Told (watched c xs start ws).answer
+  told_watched e = subst (λ (s : Seen). Told s.answer) (sym (watched_by off refl)) (go off)
     where
       off : Bool
       off = is_off_iq (settled_of c.settings.iq)
 
       go : (t : Bool)
-          → Told (cond t (leaving c.monitor ws monitor.Nothing) (observed c.monitor c.settings.fs c.settings.n xs start ws)).seen.answer
+          → Told (cond t (leaving c.monitor ws (Ok heard.Nothing)) (observed c.monitor c.settings.fs c.settings.n xs start ws)).answer
       go true = tt
       go false = let f = state_fit c e in told_observed c.monitor c.settings.fs c.settings.n xs start ws f.first f.settings.size
 
@@ -161,71 +157,79 @@ module _ (c : InputConditioner) (xs : List ℕ) (start : ℕ) (spans : List ℕ)
   abbrev before : Logged
   before = record { log = c.notes.log; spans = spans }
 
-  abbrev noting : HopAnswer → Logged
+  abbrev noting : Result Heard Refusal → Logged
   noting a = noted c.settings.spans (is_observing (settled_of c.settings.iq)) a before
 
-  -- from what the monitor answered and what was marked
-  pub taken_by : (o : Observed) (l : Log) (out : List ℕ) (a : HopSaid) → o ≡ (watched c xs start ws).seen
-      → ◌≡◌ {A = Logged} (record { log = l; spans = out }) (noting o.answer) → a ≡ answer_of o.answer
-      → (◌≡◌ {A = HopCalled} (record { state = after_hop c o.monitor l; answer = a }) (taken c xs start spans ws).called)
-      × (out ≡ (taken c xs start spans ws).spans)
+  -- from what the monitor made of it and what was marked
+  taken_with : (m : ImageMonitor) (a : Result Heard Refusal) (l : Log) (out : List ℕ) (w : List Float)
+      → ◌≡◌ {A = Seen} (record { monitor = m; answer = a; words = w }) (watched c xs start ws)
+      → ◌≡◌ {A = Logged} (record { log = l; spans = out }) (noting a)
+      → ◌≡◌ {A = Hopped} (record { state = after_hop c m l; answer = a; spans = out; words = w }) (taken c xs start spans ws)
   unfolding taken
-  taken_by o l out a p q r =
-      let f : Observed → HopCalled = λ s. record { state = after_hop c s.monitor (noting s.answer).log; answer = answer_of s.answer } in (
-        (λ i. record { state = after_hop c o.monitor (q i).log; answer = r i }) ∙ ap f p,
-        ap (λ (x : Logged). x.spans) q ∙ ap (λ (s : Observed). (noting s.answer).spans) p,
-      )
+  taken_with m a l out w p q = (λ i. record { state = after_hop c m (q i).log; answer = a; spans = (q i).spans; words = w }) ∙ ap (followed c spans) p
 
-  pub taken_words : (taken c xs start spans ws).words ≡ (watched c xs start ws).words
-  unfolding taken
-  taken_words = refl
+  -- the same, where s is the state after the monitor has seen it
+  pub taken_by : (s : InputConditioner) (a : Result Heard Refusal) (l : Log) (out : List ℕ) (w : List Float) → s ≡ after_hop c s.monitor c.notes.log
+      → ◌≡◌ {A = Seen} (record { monitor = s.monitor; answer = a; words = w }) (watched c xs start ws)
+      → ◌≡◌ {A = Logged} (record { log = l; spans = out })
+      (noted s.settings.spans (is_observing (settled_of s.settings.iq)) a (record { log = s.notes.log; spans = spans }))
+      → ◌≡◌ {A = Hopped} (record { state = after_hop s s.monitor l; answer = a; spans = out; words = w }) (taken c xs start spans ws)
+  taken_by s a l out w e p q =
+      (λ i. record { state = after_hop (e i) s.monitor l; answer = a; spans = out; words = w })
+      ∙ taken_with s.monitor a l out w p
+      (q
+      ∙ ap (λ (v : InputConditioner). noted v.settings.spans (is_observing (settled_of v.settings.iq)) a (record { log = v.notes.log; spans = spans })) e)
 
   -- ---- by the number
 
-  said_answer : (a : HopAnswer) → said_hop (answer_of a) ≡ said a
-  said_answer monitor.Nothing = refl
-  said_answer monitor.NoReport = refl
-  said_answer (monitor.Report e) = refl
-  said_answer monitor.Early = refl
-  said_answer (monitor.Beyond k) = refl
+  pub hop_taken : hop_refusal c spans ws ≡ 0 → hop_of c xs start spans ws ≡ taken c xs start spans ws
+  unfolding hop_of
+  hop_taken e = rw e
 
-  said_watched : said_hop (taken c xs start spans ws).called.answer
-      ≡ cond (is_off_iq (settled_of c.settings.iq)) nothing (hop_said c.monitor c.settings.fs c.settings.n xs start ws)
+  refused_by : (k : ℕ) (r : Refusal) (h : Hopped) → Err r ≡ fitness k → kept c spans ws (Err r) ≡ by_number k c spans ws h
+  refused_by zero r h e = cc
+  refused_by (suc k) r h e = cc
+
+  -- refused by what the tests of the state and the lent words give
+  pub hop_refused : (r : Refusal) → Err r ≡ fitness (hop_refusal c spans ws) → kept c spans ws (Err r) ≡ hop_of c xs start spans ws
+  unfolding hop_of
+  hop_refused r e = refused_by (hop_refusal c spans ws) r (taken c xs start spans ws) e
+
+  -- ---- the answer in document 01's words
+
+  abbrev told : Said Answer
+  told = cond (is_off_iq (settled_of c.settings.iq)) nothing (hop_said c.monitor c.settings.fs c.settings.n xs start ws)
+
+  said_watched : said (taken c xs start spans ws).answer ≡ told
   unfolding taken
-  said_watched = said_answer (watched c xs start ws).seen.answer ∙ ap (λ (s : Seen). said s.seen.answer) (watched_by c xs start ws off refl) ∙ go off
+  said_watched = ap (λ (s : Seen). said s.answer) (watched_by c xs start ws off refl) ∙ go off
     where
       off : Bool
       off = is_off_iq (settled_of c.settings.iq)
 
       go : (t : Bool)
-          → said (cond t (leaving c.monitor ws monitor.Nothing) (observed c.monitor c.settings.fs c.settings.n xs start ws)).seen.answer
+          → said (cond t (leaving c.monitor ws (Ok heard.Nothing)) (observed c.monitor c.settings.fs c.settings.n xs start ws)).answer
           ≡ cond t nothing (hop_said c.monitor c.settings.fs c.settings.n xs start ws)
       go true = refl
       go false = said_is c.monitor c.settings.fs c.settings.n xs start ws
 
-  -- none
-  pub hop_taken : hop_refusal c spans ws ≡ 0 → hop_of c xs start spans ws ≡ taken c xs start spans ws
-  unfolding hop_of
-  hop_taken e = rw e
+  said_by_tests : (s a b e f : Bool)
+      → said (by_number (hop_number s a b e f) c spans ws (taken c xs start spans ws)).answer ≡ numbered (hop_number s a b e f) told
+  said_by_tests true true true true true = said_watched
+  said_by_tests true true true true false = refl
+  said_by_tests true true true false f = refl
+  said_by_tests true true false e f = refl
+  said_by_tests true false b e f = refl
+  said_by_tests false a b e f = refl
 
-  pub told_taken : hop_refusal c spans ws ≡ 0 → said_hop (taken c xs start spans ws).called.answer ≡ hop_told c xs start spans ws
-  unfolding hop_told
-  told_taken e = rw e said_watched
+  pub said_hop_is : said (hop_of c xs start spans ws).answer ≡ hop_told c xs start spans ws
+  unfolding hop_of hop_told
+  said_hop_is =
+      subst (λ (k : ℕ). said (by_number k c spans ws (taken c xs start spans ws)).answer ≡ numbered k told)
+      (refusal_by c spans ws _ _ _ _ _ refl refl refl refl refl)
+      (said_by_tests (state_fits c) (spans_right c spans ws) (words_right c spans ws) (ends_right c spans ws) (fit_right c spans ws))
 
-  -- 5
-  pub hop_bad_state : hop_refusal c spans ws ≡ 5 → hop_of c xs start spans ws ≡ kept c spans ws hop.BadState
-  unfolding hop_of
-  hop_bad_state e = rw e
-
-  pub told_bad_state : hop_refusal c spans ws ≡ 5 → hop_told c xs start spans ws ≡ refused (5 ∷ [])
-  unfolding hop_told
-  told_bad_state e = rw e
-
-  -- 4
-  pub hop_bad_length : hop_refusal c spans ws ≡ 4 → hop_of c xs start spans ws ≡ kept c spans ws hop.BadLength
-  unfolding hop_of
-  hop_bad_length e = rw e
-
-  pub told_bad_length : hop_refusal c spans ws ≡ 4 → hop_told c xs start spans ws ≡ refused (4 ∷ [])
-  unfolding hop_told
-  told_bad_length e = rw e
+-- no number, no refusal
+pub none_refused : (k : ℕ) → Ok tt ≡ fitness k → k ≡ 0
+none_refused zero e = refl
+none_refused (suc k) e = cc

@@ -16,8 +16,6 @@ use Rattle.impulse_pause.specs.View.{number_of, numbered}
 use Rattle.complex.specs.declared.Complex64.{Complex64}
 use Rattle.iq.specs.declared.Iq.{Iq}
 use Rattle.iq.specs.declared.Iq.TheVariants as iq
-use Rattle.iq_monitor.specs.declared.Begun.{Begun}
-use Rattle.iq_monitor.specs.declared.Begun.TheVariants.{Never, At}
 use Rattle.chain_state.specs.declared.InputConditioner.{InputConditioner}
 use Rattle.rules.specs.Impulse.{window_size, lookahead_size}
 use Rattle.chain_words.specs.Words.{flag_word, power_word, mode_word, iq_parts, run_parts, left_parts, begun_parts, powers_words, rings_words, words_of}
@@ -67,9 +65,9 @@ left_again : (l : Option ℕ) → (let p = left_parts l in left_at p.0 p.1) ≡ 
 left_again (Some x) = refl
 left_again None = refl
 
-begun_again : (b : Begun) → (let p = begun_parts b in begun_at p.0 p.1) ≡ b
-begun_again (At f) = refl
-begun_again Never = refl
+begun_again : (b : Option ℕ) → (let p = begun_parts b in begun_at p.0 p.1) ≡ b
+begun_again (Some f) = refl
+begun_again None = refl
 
 -- ---- lists
 

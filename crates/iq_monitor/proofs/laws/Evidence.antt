@@ -1,5 +1,5 @@
 -- THE EVIDENCE of a list of hops is the rules' evidence: each answer, the monitor and every word. Assumes nothing.
-use Rattle.std.specs.Prelude.{◌≡◌, Bool, true, false, cond, ℕ, zero, suc, ◌+◌, ◌*◌, ◌-◌, ◌<◌, leb, length, get_or, replicate, Float}
+use Rattle.std.specs.Prelude.{◌≡◌, Bool, true, false, cond, ℕ, zero, suc, ◌+◌, ◌*◌, ◌-◌, ◌<◌, leb, length, get_or, replicate, Float, None, Some, Ok}
 use Rattle.std.proofs.Math.Path.{refl, ap}
 use Rattle.std.proofs.Common.{sym, ◌∙◌, subst, arith, get_or-append-add}
 use mathlib.Core.List.{List, [], ◌∷◌, ◌++◌}
@@ -14,8 +14,7 @@ use Rattle.rules.specs.Monitor.{Hop, hop_end, Choice, nobody, channel_at, eligib
 use Rattle.rules.specs.Monitor.{power_sum, real_sum, imag_sum, window_length, window_start, due, report_of, Answer, no_report, report, answer_to, next_window, answers}
 use Rattle.rules.specs.Monitor.{open_window, monitor_words, channel_width}
 use Rattle.rules.specs.Refusals.{bad_start}
-use Rattle.iq_monitor.specs.declared.Begun.TheVariants.{Never, At}
-use Rattle.iq_monitor.specs.declared.HopAnswer.TheVariants as answer
+use Rattle.iq_monitor.specs.declared.Heard.TheVariants as heard
 use Rattle.iq_monitor.proofs.laws.WordsLaws.{added_words, no_words, powers_are}
 use Rattle.iq_monitor.specs.Observe.{Seen, power_at, cross_in, report_in, evidence, fresh, first_or, monitor_of, full, closing, adding, accepted_of, observed}
 use Rattle.iq_monitor.proofs.laws.ObserveLaws.{accepted_by, observed_by, is_some}
@@ -110,7 +109,8 @@ abbrev seen_by : ℕ → Bool → List Hop → Hop → Seen
 seen_by n t w h =
     let next = cond t [] (w ++ (h ∷ [])) in
     record {
-      seen = record { monitor = window_state next (hop_end n h); answer = answer_of (cond t (report (report_of n w h)) no_report) };
+      monitor = window_state next (hop_end n h);
+      answer = answer_of (cond t (report (report_of n w h)) no_report);
       words =
           monitor_words n next;
     }
@@ -118,13 +118,13 @@ seen_by n t w h =
 abbrev pub stepped : ℕ → ℕ → List Hop → Hop → Seen
 stepped n enough w h =
     let next = next_window n enough w h in
-    record { seen = record { monitor = window_state next (hop_end n h); answer = answer_of (answer_to n enough w h) }; words = monitor_words n next }
+    record { monitor = window_state next (hop_end n h); answer = answer_of (answer_to n enough w h); words = monitor_words n next }
 
 start_is : (w : List Hop) (end : ℕ) (h : Hop) → first_or (window_state w end).first h.start ≡ window_start (w ++ (h ∷ []))
 start_is [] end h = refl
 start_is (g ∷ w) end h = refl
 
-state_is : (w : List Hop) (h : Hop) (end : ℕ) → monitor_of (At (window_start (w ++ (h ∷ [])))) end ≡ window_state (w ++ (h ∷ [])) end
+state_is : (w : List Hop) (h : Hop) (end : ℕ) → monitor_of (Some (window_start (w ++ (h ∷ [])))) end ≡ window_state (w ++ (h ∷ [])) end
 state_is [] h end = refl
 state_is (g ∷ w) h end = refl
 
@@ -138,11 +138,11 @@ hop_seen fs w end h true =
     ap (λ (l : List Float). report_in n l (first_or (window_state w end).first h.start) (hop_end n h)) (added_words n w h refl)
     ∙ ap (λ (f : ℕ). report_in n (monitor_words n all) f (hop_end n h)) (start_is w end h)
     ∙ report_is n all (window_start all) (hop_end n h) in
-    λ i. record { seen = record { monitor = monitor_of Never (hop_end n h); answer = answer.Report (evidence (r i)) }; words = sym (no_words n) i }
+    λ i. record { monitor = monitor_of None (hop_end n h); answer = Ok (heard.Report (evidence (r i))); words = sym (no_words n) i }
 hop_seen fs w end h false =
     let n = length h.channels in
-    let s = ap (λ (f : ℕ). monitor_of (At f) (hop_end n h)) (start_is w end h) ∙ state_is w h (hop_end n h) in
-    λ i. record { seen = record { monitor = s i; answer = answer.NoReport }; words = added_words n w h refl i }
+    let s = ap (λ (f : ℕ). monitor_of (Some f) (hop_end n h)) (start_is w end h) ∙ state_is w h (hop_end n h) in
+    λ i. record { monitor = s i; answer = Ok heard.NoReport; words = added_words n w h refl i }
 
 accepted_step : (fs : Float) (w : List Hop) (end : ℕ) (h : Hop) → let n = length h.channels in
     accepted_of (window_state w end) fs h.channels h.start (monitor_words n w) ≡ stepped n (window_length fs) w h
@@ -175,7 +175,7 @@ unfolding watched answers open_window last_end
 hops_seen fs n w end [] o = refl
 hops_seen fs n w end (h ∷ hs) o =
     let enough = window_length fs in
-    ap (λ (s : Seen). followed s (watched fs n s.seen.monitor s.words hs)) (one_hop fs n w end h o.0)
+    ap (λ (s : Seen). followed s (watched fs n s.monitor s.words hs)) (one_hop fs n w end h o.0)
     ∙ ap (followed (stepped n enough w h)) (hops_seen fs n (next_window n enough w h) (hop_end n h) hs o.1)
 
 -- THE EVIDENCE, from a fresh monitor and words of 0

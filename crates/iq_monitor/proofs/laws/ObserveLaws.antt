@@ -1,5 +1,5 @@
 -- What the monitor makes of a hop, by its tests' answers. Assumes nothing.
-use Rattle.std.specs.Prelude.{◌≡◌, not, ◌||◌, List, ℕ, ◌≤◌, ◌<◌, ◌^◌, T, eqb, ltb, length, Float}
+use Rattle.std.specs.Prelude.{◌≡◌, not, ◌||◌, List, ℕ, ◌≤◌, ◌<◌, ◌^◌, T, eqb, ltb, length, Float, Ok, Err}
 use Rattle.std.proofs.Math.Path.{refl, ap}
 use Rattle.std.proofs.Common.{◌∙◌, subst, eqb-true, ltb-false, eq-eqb, ne_eqb, lt-ltb, le-ltb}
 use Rattle.std.proofs.Math.Bool.{Bool, true, false, cond}
@@ -7,7 +7,8 @@ use Rattle.rules.specs.Answers.{accepted, nothing}
 use Rattle.rules.specs.Monitor.{report, no_report}
 use Rattle.rules.specs.Refusals.{first_of, bad_start, any_beyond, first_beyond_from}
 use Rattle.amplitude_limit.specs.Limit.{returned}
-use Rattle.iq_monitor.specs.declared.HopAnswer.TheVariants as answer
+use Rattle.refusal.specs.declared.Refusal.TheVariants as why
+use Rattle.iq_monitor.specs.declared.Heard.TheVariants as heard
 use Rattle.iq_monitor.specs.declared.ImageMonitor.{ImageMonitor}
 use Rattle.iq_monitor.specs.Words.{added_hop}
 use Rattle.iq_monitor.specs.Observe.{Seen, report_in, said, refused_or, hop_returned, answer_in, hop_said, first_or, end_of, full, closing, adding, accepted_of}
@@ -23,38 +24,42 @@ module _ (m : ImageMonitor) (fs : Float) (n : ℕ) (xs : List ℕ) (start : ℕ)
   -- the answers to the three tests
   pub observed_by : (a b d : Bool) → is_none n xs ≡ a → (bad_start m.end start).holds ≡ b → (any_beyond xs).holds ≡ d
       → observed m fs n xs start ws
-      ≡ cond a (leaving m ws answer.Nothing)
-      (cond b (leaving m ws answer.Early) (cond d (leaving m ws (answer.Beyond (first_beyond_from 0 xs))) (accepted_of m fs xs start ws)))
+      ≡ cond a (leaving m ws (Ok heard.Nothing))
+      (cond b (leaving m ws (Err why.Early)) (cond d (leaving m ws (Err (why.OutOfRange (first_beyond_from 0 xs)))) (accepted_of m fs xs start ws)))
   unfolding observed
   observed_by a b d e f g =
-      let late : Bool → Seen = λ t. cond t (leaving m ws (answer.Beyond (first_beyond_from 0 xs))) (accepted_of m fs xs start ws) in
-      ap (λ (t : Bool). cond t (leaving m ws answer.Nothing) (cond (bad_start m.end start).holds (leaving m ws answer.Early) (late (any_beyond xs).holds))) e
-      ∙ ap (λ (t : Bool). cond a (leaving m ws answer.Nothing) (cond t (leaving m ws answer.Early) (late (any_beyond xs).holds))) f
-      ∙ ap (λ (t : Bool). cond a (leaving m ws answer.Nothing) (cond b (leaving m ws answer.Early) (late t))) g
+      let late : Bool → Seen = λ t. cond t (leaving m ws (Err (why.OutOfRange (first_beyond_from 0 xs)))) (accepted_of m fs xs start ws) in
+      ap (λ (t : Bool). cond t (leaving m ws (Ok heard.Nothing)) (cond (bad_start m.end start).holds (leaving m ws (Err why.Early)) (late (any_beyond xs).holds))) e
+      ∙ ap (λ (t : Bool). cond a (leaving m ws (Ok heard.Nothing)) (cond t (leaving m ws (Err why.Early)) (late (any_beyond xs).holds))) f
+      ∙ ap (λ (t : Bool). cond a (leaving m ws (Ok heard.Nothing)) (cond b (leaving m ws (Err why.Early)) (late t))) g
 
-  said_accepted : (t : Bool) → said (cond t (closing m xs start ws) (adding m xs start ws)).seen.answer
+  said_accepted : (t : Bool) → said (cond t (closing m xs start ws) (adding m xs start ws)).answer
       ≡ accepted (cond t (report (report_in (length xs) (added_hop xs ws (length xs)) (first_or m.first start) (end_of xs start))) no_report)
   said_accepted true = refl
   said_accepted false = refl
 
-  said_by : (a b d : Bool)
-      → said (cond a (leaving m ws answer.Nothing)
-      (cond b (leaving m ws answer.Early) (cond d (leaving m ws (answer.Beyond (first_beyond_from 0 xs))) (accepted_of m fs xs start ws)))).seen.answer
+  said_tests : (a b d : Bool)
+      → said (cond a (leaving m ws (Ok heard.Nothing))
+      (cond b (leaving m ws (Err why.Early)) (cond d (leaving m ws (Err (why.OutOfRange (first_beyond_from 0 xs)))) (accepted_of m fs xs start ws)))).answer
       ≡ cond a nothing (refused_or (returned (cond b 9 (cond d 7 0)) (first_beyond_from 0 xs)) (answer_in m fs xs start ws))
   unfolding accepted_of answer_in returned
-  said_by true b d = refl
-  said_by false true d = refl
-  said_by false false true = refl
-  said_by false false false = said_accepted (full fs (first_or m.first start) (end_of xs start))
+  said_tests true b d = refl
+  said_tests false true d = refl
+  said_tests false false true = refl
+  said_tests false false false = said_accepted (full fs (first_or m.first start) (end_of xs start))
 
   -- the answer in document 01's words
-  pub said_is : said (observed m fs n xs start ws).seen.answer ≡ hop_said m fs n xs start ws
+  pub said_is : said (observed m fs n xs start ws).answer ≡ hop_said m fs n xs start ws
   unfolding hop_said hop_returned first_of
   said_is =
       let a = is_none n xs in
       let b = (bad_start m.end start).holds in
       let d = (any_beyond xs).holds in
-      ap (λ (s : Seen). said s.seen.answer) (observed_by a b d refl refl refl) ∙ said_by a b d
+      ap (λ (s : Seen). said s.answer) (observed_by a b d refl refl refl) ∙ said_tests a b d
+
+  -- what is seen so is answered so
+  pub said_seen : (s : Seen) → s ≡ observed m fs n xs start ws → said s.answer ≡ hop_said m fs n xs start ws
+  said_seen s e = ap (λ (v : Seen). said v.answer) e ∙ said_is
 
 pub wrong_length : (n : ℕ) (xs : List ℕ) → (length xs ≡ n → ⊥) → is_none n xs ≡ true
 wrong_length n xs h = ap (λ (t : Bool). not t || ltb n 8) (ne_eqb (length xs) n h)

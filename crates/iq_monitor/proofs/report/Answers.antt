@@ -1,12 +1,12 @@
 -- `iq_monitor::report` is the evidence of the words. Assumes nothing.
-use mathlib.Core.Path.{◌≡◌, sym, ap, ◌∙◌, subst}
+use mathlib.Core.Path.{◌≡◌, ap, ◌∙◌}
 use native.Mathlib.Omega.{arith}
 use Prim.Native.Nat.{ℕ}
 use mathlib.Core.Bool.{Bool}
 use mathlib.Core.List.{List}
 use lib.ListN.{length, take}
 use lib.Ieee.{Float}
-use Rattle.iq_monitor.specs.Observe.{Among, power_at, pair_in, report_in, evidence}
+use Rattle.iq_monitor.specs.Observe.{power_at, pair_in, report_in, evidence}
 use Rattle.rules.specs.Monitor.{strongest, suspicious, floor_of, reported}
 use lib.Seq.{length-take-le}
 use Rattle.iq_monitor.specs.declared.Pair.{Pair}
@@ -15,7 +15,7 @@ use Rattle.iq_monitor.proofs.report.Goals as goal
 use Rattle.iq_monitor.proofs.report.Goals.{Start}
 
 powers_count : (c : Start) → length (take c.args.n c.args.words.now) ≡ c.args.n
-powers_count c = length-take-le c.args.n c.args.words.now (omega (arith, c.requires.fact_1))
+powers_count c = length-take-le c.args.n c.args.words.now (omega (arith, c.requires.lent.0))
 
 made : (n : ℕ) (ws : List Float) (first end : ℕ) (pair : Pair) (floor : Float) (s : Bool) → pair ≡ pair_in n ws (strongest n (power_at (take n ws)) n)
     → floor ≡ floor_of (take n ws) → s ≡ suspicious floor pair.p pair.q
@@ -25,20 +25,6 @@ unfolding report_in reported
 made n ws first end pair floor s e f t =
     let u = t ∙ ap (λ (x : Float). suspicious x pair.p pair.q) f ∙ ap (λ (r : Pair). suspicious (floor_of (take n ws)) r.p r.q) e in
     λ i. record { start = first; end = end; suspected = u i; coherence = (e i).coherence; floor = f i; strongest = (e i).p; mirror = (e i).q }
-
-pub slice_bounds-strongest_channel-end-2 : goal.slice_bounds-strongest_channel-end-2
-slice_bounds-strongest_channel-end-2 c = sym (powers_count (goal.at.slice_bounds-strongest_channel-end-2 c).Start)
-
-pub strongest_channel-best-requires : goal.strongest_channel-best-requires
-strongest_channel-best-requires c = let e = powers_count (goal.at.strongest_channel-best-requires c).Start in omega (arith, c.requires.fact_2)
-
-pub pair_of-pair-requires : goal.pair_of-pair-requires
-pair_of-pair-requires c = let best = c.strongest_channel-best in
-    record {
-      fact_1 = c.requires.fact_1;
-      fact_2 = c.requires.fact_2;
-      fact_3 = subst (λ (m : ℕ). Among m best.result) (powers_count (goal.at.pair_of-pair-requires c).Start) best.ensures.1;
-    }
 
 pub returns : goal.returns
 returns c =

@@ -1,14 +1,10 @@
 -- `iq_monitor::strongest_among` goes over channels that are all eligible. Assumes nothing.
 use mathlib.Core.Path.{◌≡◌}
-use Prim.Native.Nat.{◌-◌, ◌≤◌, ◌<◌}
+use Prim.Native.Nat.{◌<◌}
 use lib.ListN.{length}
 use Rattle.rules.specs.Monitor.{channel_at, strongest}
 use Rattle.iq_monitor.specs.Observe.{power_at}
 use Rattle.iq_monitor.proofs.strongest_among.Given as goal
 
 abbrev pub invariant-loop-k : goal.invariant-loop-k
-invariant-loop-k l =
-    (l.from ≤ l.k) × (l.k ≤ l.end) × (l.best < length l.powers) × (channel_at l.best ≡ strongest (length l.powers) (power_at l.powers) l.k)
-
-abbrev pub decreases-loop-k : goal.decreases-loop-k
-decreases-loop-k l = l.end - l.k
+invariant-loop-k l = (l.best < length l.powers) × (channel_at l.best ≡ strongest (length l.powers) (power_at l.powers) l.k)

@@ -5,7 +5,6 @@ use mathlib.Core.List.{List, [], ◌∷◌}
 use Prim.Native.Nat.{ℕ, zero, suc}
 use lib.ListN.{take, drop}
 use lib.Ieee.{Float}
-use lib.Seq.{length-take-le}
 use Rattle.ieee.specs.Plain.{sign_clear}
 use Rattle.rules.specs.Lists.{all_of}
 use Rattle.iq_monitor.specs.Words.{power_fits, sum_fits, words_fit}
@@ -30,19 +29,12 @@ tested (suc n) (x ∷ ws) =
     both false true p d false c e = refl
     both false false p d a c e = refl
 
-pub slice_bounds-all_plain-end : goal.slice_bounds-all_plain-end
-slice_bounds-all_plain-end c = sym (length-take-le _ _ c.requires)
-
 pub returns-then-all_fit : goal.returns-then-all_fit
 returns-then-all_fit c =
     let a = c.args in
-    c.all_plain.ensures.0
-    ∙ sym (tested a.n a.words.now
-    ∙ ap (λ (b : Bool). b && all_of sign_clear (take a.n a.words.now))
-    (sym c.all_fit.ensures ∙ c.if-all_fit.true))
+    c.all_plain.ensures.0 ∙ sym (tested a.n a.words.now ∙ ap (λ (b : Bool). b && all_of sign_clear (take a.n a.words.now)) (sym c.if-all_fit.ensures))
 
-pub returns : goal.returns
-returns c =
+pub returns-else-all_fit : goal.returns-else-all_fit
+returns-else-all_fit c =
     let a = c.args in
-    sym (tested a.n a.words.now
-    ∙ ap (λ (b : Bool). b && all_of sign_clear (take a.n a.words.now)) (sym c.all_fit.ensures ∙ c.if-all_fit.false))
+    c.if-all_fit.false ∙ sym (tested a.n a.words.now ∙ ap (λ (b : Bool). b && all_of sign_clear (take a.n a.words.now)) (sym c.if-all_fit.ensures))
