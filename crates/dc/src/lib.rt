@@ -136,7 +136,7 @@ impl DcBlocker {
         DcBlocker {
             a: self.a,
             n,
-            dc: level.add(step),
+            dc: level + step,
         }
     }
 
@@ -175,7 +175,7 @@ impl DcBlocker {
         ensures { result ≡ processed self x }
     {
         let level = self.dc;
-        let y = Complex64::unpack(x).sub(level).rounded();
+        let y = (Complex64::unpack(x) - level).rounded();
         let moving = y.value;
         if self.is_plain(moving) {
             return Taken {
@@ -199,7 +199,7 @@ impl DcBlocker {
         ensures { result ≡ observed self x }
     {
         let level = self.dc;
-        let y = Complex64::unpack(x).sub(level).rounded();
+        let y = (Complex64::unpack(x) - level).rounded();
         let moving = y.value;
         if self.is_plain(moving) {
             return Stepped {
@@ -222,7 +222,7 @@ impl DcBlocker {
     {
         let level = self.dc;
         let z = Complex64::unpack(y);
-        let x = z.add(level).rounded();
+        let x = (z + level).rounded();
         if self.is_plain(z) {
             return Undone {
                 blocker: self.moved(z),
