@@ -19,10 +19,7 @@ const LIMIT: f64 = 1.0e18;
 pub fn is_limited(x: f64) -> bool
     ensures { result ≡ limited x }
 {
-    if -LIMIT <= x {
-        return x <= LIMIT;
-    }
-    false
+    -LIMIT <= x && x <= LIMIT
 }
 
 fn part_within(x: f32) -> bool
@@ -36,24 +33,17 @@ pub fn within(w: u64) -> bool
     ensures { result ≡ within_limit w }
 {
     let z = Complex32::unpack(w);
-    let re = part_within(z.re);
-    let im = part_within(z.im);
-    re && im
+    part_within(z.re) && part_within(z.im)
 }
 
 // The first place of a sample that is not within the limit, and the number of samples if all are.
 fn scan(samples: &[u64]) -> usize
     ensures { result ≡ first_beyond_from 0 samples.now }
 {
-    let mut k: usize = 0;
-    while k < samples.len() {
-        if within(samples[k]) {
-            k += 1;
-        } else {
-            return k;
-        }
-    }
-    k
+    samples
+        .iter()
+        .position(|w| !within(*w))
+        .unwrap_or(samples.len())
 }
 
 // A half's highest bit is set if its part's pattern, the sign aside, is above the limit.
@@ -67,10 +57,7 @@ fn raised(w: u64, limit: u64) -> u64
 fn halves_clear(n: u64) -> bool
     ensures { result ≡ halves_clear n }
 {
-    if n % 0x1_0000_0000 < 0x8000_0000 {
-        return n < 0x8000_0000_0000_0000;
-    }
-    false
+    n % 0x1_0000_0000 < 0x8000_0000 && n < 0x8000_0000_0000_0000
 }
 
 // Whether the patterns of both parts of all samples, the signs aside, are up to a limit: with no
@@ -80,10 +67,8 @@ pub fn all_under(samples: &[u64], limit: u64) -> bool
     ensures { result ≡ all_of (under limit) samples.now }
 {
     let mut bits: u64 = 0;
-    let mut k: usize = 0;
-    while k < samples.len() {
-        bits = bits | raised(samples[k], limit);
-        k += 1;
+    for w in samples {
+        bits |= raised(*w, limit);
     }
     halves_clear(bits)
 }

@@ -281,7 +281,7 @@ fn gate_settings_words(s: GateSettings) -> [u64; 3]
     ensures { result ≡ gate_settings_words s }
 {
     let edition = s.edition;
-    [flag_word(s.apply), edition.number(), s.blocklen]
+    [flag_word(s.apply), u64::from(edition), s.blocklen]
 }
 
 fn read_gate_settings(words: &[u64; STATE_WORDS]) -> GateSettings
@@ -289,7 +289,7 @@ fn read_gate_settings(words: &[u64; STATE_WORDS]) -> GateSettings
 {
     GateSettings {
         apply: flag_of(words[APPLY]),
-        edition: PauseEdition::numbered(words[EDITION]),
+        edition: PauseEdition::from(words[EDITION]),
         blocklen: words[BLOCK_LENGTH],
     }
 }

@@ -8,6 +8,10 @@ ghost use Rattle.complex.specs.Complex.{sum, difference, product, power, quotien
 ghost use Rattle.complex.specs.Complex.{word_of, sample_of};
 ghost use Rattle.complex.specs.View.{view32, make32, view64, make64, single_of};
 
+use std::ops::{Add, Div, Mul, Sub};
+
+// Two types and not one of a type parameter: the float's operations would be a trait's, whose methods and
+// laws are again one for each format, and of them four methods here are the same.
 #[derive(Clone, Copy)]
 pub struct Complex32 {
     pub re: f32,
@@ -48,24 +52,6 @@ impl Complex32 {
         re + im * 0x1_0000_0000
     }
 
-    pub fn add(self, b: Complex32) -> Complex32
-        ensures { result ≡ make32 (sum binary32 (view32 self) (view32 b)) }
-    {
-        Complex32 {
-            re: self.re + b.re,
-            im: self.im + b.im,
-        }
-    }
-
-    pub fn sub(self, b: Complex32) -> Complex32
-        ensures { result ≡ make32 (difference binary32 (view32 self) (view32 b)) }
-    {
-        Complex32 {
-            re: self.re - b.re,
-            im: self.im - b.im,
-        }
-    }
-
     pub fn scale(self, r: f32) -> Complex32
         ensures { result ≡ make32 (scaled binary32 (view32 self) r) }
     {
@@ -103,48 +89,11 @@ impl Complex64 {
         }
     }
 
-    pub fn add(self, b: Complex64) -> Complex64
-        ensures { result ≡ make64 (sum binary64 (view64 self) (view64 b)) }
-    {
-        Complex64 {
-            re: self.re + b.re,
-            im: self.im + b.im,
-        }
-    }
-
-    pub fn sub(self, b: Complex64) -> Complex64
-        ensures { result ≡ make64 (difference binary64 (view64 self) (view64 b)) }
-    {
-        Complex64 {
-            re: self.re - b.re,
-            im: self.im - b.im,
-        }
-    }
-
-    pub fn mul(self, b: Complex64) -> Complex64
-        ensures { result ≡ make64 (product binary64 (view64 self) (view64 b)) }
-    {
-        Complex64 {
-            re: self.re * b.re - self.im * b.im,
-            im: self.re * b.im + self.im * b.re,
-        }
-    }
-
     // The power.
     pub fn norm_sqr(self) -> f64
         ensures { result ≡ power binary64 (view64 self) }
     {
         self.re * self.re + self.im * self.im
-    }
-
-    pub fn div(self, b: Complex64) -> Complex64
-        ensures { result ≡ make64 (quotient binary64 (view64 self) (view64 b)) }
-    {
-        let p = b.norm_sqr();
-        Complex64 {
-            re: (self.re * b.re + self.im * b.im) / p,
-            im: (self.im * b.re - self.re * b.im) / p,
-        }
     }
 
     // 1 − self.
@@ -225,6 +174,85 @@ impl Complex64 {
                 im: im.value,
             },
             word: re.bits as u64 + im.bits as u64 * 0x1_0000_0000,
+        }
+    }
+}
+
+impl Add for Complex32 {
+    type Output = Complex32;
+
+    ghost add_gives = { λ a b c. c ≡ make32 (sum binary32 (view32 a) (view32 b)) };
+
+    fn add(self, b: Complex32) -> Complex32 {
+        Complex32 {
+            re: self.re + b.re,
+            im: self.im + b.im,
+        }
+    }
+}
+
+impl Sub for Complex32 {
+    type Output = Complex32;
+
+    ghost sub_gives = { λ a b c. c ≡ make32 (difference binary32 (view32 a) (view32 b)) };
+
+    fn sub(self, b: Complex32) -> Complex32 {
+        Complex32 {
+            re: self.re - b.re,
+            im: self.im - b.im,
+        }
+    }
+}
+
+impl Add for Complex64 {
+    type Output = Complex64;
+
+    ghost add_gives = { λ a b c. c ≡ make64 (sum binary64 (view64 a) (view64 b)) };
+
+    fn add(self, b: Complex64) -> Complex64 {
+        Complex64 {
+            re: self.re + b.re,
+            im: self.im + b.im,
+        }
+    }
+}
+
+impl Sub for Complex64 {
+    type Output = Complex64;
+
+    ghost sub_gives = { λ a b c. c ≡ make64 (difference binary64 (view64 a) (view64 b)) };
+
+    fn sub(self, b: Complex64) -> Complex64 {
+        Complex64 {
+            re: self.re - b.re,
+            im: self.im - b.im,
+        }
+    }
+}
+
+impl Mul for Complex64 {
+    type Output = Complex64;
+
+    ghost mul_gives = { λ a b c. c ≡ make64 (product binary64 (view64 a) (view64 b)) };
+
+    fn mul(self, b: Complex64) -> Complex64 {
+        Complex64 {
+            re: self.re * b.re - self.im * b.im,
+            im: self.re * b.im + self.im * b.re,
+        }
+    }
+}
+
+impl Div for Complex64 {
+    type Output = Complex64;
+
+    ghost div_gives = { λ a b c. c ≡ make64 (quotient binary64 (view64 a) (view64 b)) };
+
+    fn div(self, b: Complex64) -> Complex64 {
+        let p = b.norm_sqr();
+        Complex64 {
+            re: (self.re * b.re + self.im * b.im) / p,
+            im: (self.im * b.re - self.re * b.im) / p,
         }
     }
 }

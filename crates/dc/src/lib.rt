@@ -102,7 +102,7 @@ impl DcBlocker {
         requires { self.old.n + 1 < 2 ^ 64 }
         ensures { self.new ≡ blocker_of self.old.a (pushed self.old.a (level_of self.old) (view64 y)) }
     {
-        self.dc = self.dc.add(y.scale(self.weight()));
+        self.dc = self.dc + y.scale(self.weight());
         self.n += 1;
     }
 
@@ -148,7 +148,7 @@ impl DcBlocker {
         ensures after { self.new ≡ processed self.old x }
         ensures answer { result ≡ taken_of self.old x }
     {
-        let y = Complex64::unpack(x).sub(self.dc).rounded();
+        let y = (Complex64::unpack(x) - self.dc).rounded();
         Taken {
             word: y.word,
             clamped: self.step(y.value),
@@ -161,7 +161,7 @@ impl DcBlocker {
         ensures after { self.new ≡ processed self.old x }
         ensures clamped { result ≡ (taken_of self.old x).clamped }
     {
-        let y = Complex64::unpack(x).sub(self.dc).rounded();
+        let y = (Complex64::unpack(x) - self.dc).rounded();
         self.step(y.value)
     }
 
@@ -172,7 +172,7 @@ impl DcBlocker {
         ensures word { result ≡ restored_word self.old y }
     {
         let z = Complex64::unpack(y);
-        let x = z.add(self.dc).rounded();
+        let x = (z + self.dc).rounded();
         self.step(z);
         x.word
     }

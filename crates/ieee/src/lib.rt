@@ -65,19 +65,6 @@ pub fn widen_bits(n: u32) -> f64
     f32::from_bits(n) as f64
 }
 
-// a − b, or 0 where that is negative.
-fn below(a: u64, b: u64) -> u64
-    ensures { result ≡ a - b }
-{
-    if b < a { a - b } else { 0 }
-}
-
-fn least(a: u64, b: u64) -> u64
-    ensures { result ≡ min a b }
-{
-    if a < b { a } else { b }
-}
-
 // The significand of an f64 whose exponent's field is e and whose digits' field is t.
 fn significand(e: u64, t: u64) -> u64
     requires { t < 2 ^ 52 }
@@ -105,14 +92,14 @@ fn normalise(b: u64) -> Normal
     Normal {
         digits: m << shift,
         shift,
-        place: below(e, 1),
+        place: e.saturating_sub(1),
     }
 }
 
 // m / 2^r, rounded to the nearest whole number, a tie to the even one.
 fn shifted(m: u64, r: u64) -> u64
-    requires fact_1 { m < 2 ^ 62 }
-    requires fact_2 { r < 64 }
+    requires digits { m < 2 ^ 62 }
+    requires shift { r < 64 }
     ensures { result ≡ closest m (2 ^ r) }
 {
     let u = 1u64 << r;
@@ -136,8 +123,8 @@ fn narrow_magnitude(b: u64) -> u32
     let n = normalise(b);
     // at this place an f32 has all its digits, and its exponent's field is still 1
     let first = 887 + n.shift;
-    let q = shifted(n.digits, least(38 + below(first, n.place), 63));
-    least(below(n.place, first) * 0x80_0000 + q, 0x7f80_0000) as u32
+    let q = shifted(n.digits, (38 + first.saturating_sub(n.place)).min(63));
+    (n.place.saturating_sub(first) * 0x80_0000 + q).min(0x7f80_0000) as u32
 }
 
 // The same with the sign in front.
@@ -190,10 +177,7 @@ fn is_normal(x: f64) -> bool
         return false;
     }
     let size = f64::to_bits(x) % 0x8000_0000_0000_0000;
-    if 0x3810_0000_0000_0000 <= size {
-        return size < 0x47e0_0000_0000_0000;
-    }
-    false
+    0x3810_0000_0000_0000 <= size && size < 0x47e0_0000_0000_0000
 }
 
 // Such an x rounded to f32: 29 digits are dropped, and a carry goes into the exponent by itself.
@@ -232,21 +216,16 @@ fn round_each(x: f64, y: f64) -> Singles
 pub fn rounded_both(x: f64, y: f64) -> Singles
     ensures { RoundedBoth x y result }
 {
-    if !is_normal(x) {
-        let s = round_each(x, y);
-        let first = s.first;
-        let second = s.second;
-        return Singles { first, second };
+    if is_normal(x) && is_normal(y) {
+        return Singles {
+            first: round_normal(x),
+            second: round_normal(y),
+        };
     }
-    if !is_normal(y) {
-        let s = round_each(x, y);
-        let first = s.first;
-        let second = s.second;
-        return Singles { first, second };
-    }
+    let s = round_each(x, y);
     Singles {
-        first: round_normal(x),
-        second: round_normal(y),
+        first: s.first,
+        second: s.second,
     }
 }
 
@@ -266,14 +245,12 @@ fn root_digits(w: u64) -> u64
     let mut m = w;
     let mut rest = 0u64;
     let mut r = 0u64;
-    let mut i = 0u64;
-    while i < 54 {
+    for _ in 0..54u64 {
         rest = rest * 4 + m / 0x4000_0000_0000_0000;
         m = m % 0x4000_0000_0000_0000 * 4;
         let bit = (r * 4 < rest) as u64;
         rest = rest - (r * 4 + 1) * bit;
         r = r * 2 + bit;
-        i += 1;
     }
     r
 }
@@ -331,8 +308,8 @@ fn half_root(w: u64, x: f64) -> u64
 
 // The f64 nearest to the square root of the f64 of the bits b, which is finite and above zero.
 fn root_finite(b: u64) -> f64
-    requires fact_1 { 0 < b }
-    requires fact_2 { b < 0x7ff0_0000_0000_0000 }
+    requires positive { 0 < b }
+    requires finite { b < 0x7ff0_0000_0000_0000 }
     ensures { result ≡ rooted (from_bits binary64 b) }
 {
     let n = normalise(b);
@@ -364,8 +341,8 @@ pub fn root(x: f64) -> f64
 
 // m / 2^r as a whole number: the least that is not below it, or the nearest, the larger of two.
 fn dropped(m: u64, r: u64, up: bool) -> u64
-    requires fact_1 { m < 2 ^ 62 }
-    requires fact_2 { r < 64 }
+    requires digits { m < 2 ^ 62 }
+    requires shift { r < 64 }
     ensures { result ≡ div_by up m (2 ^ r) }
 {
     let u = 1u64 << r;
@@ -387,7 +364,7 @@ fn whole_positive(b: u64, up: bool) -> u64
     // at this place the last digit is a one
     let first = 1074 + n.shift;
     if place <= first {
-        return dropped(digits, least(first - place, 63), up);
+        return dropped(digits, (first - place).min(63), up);
     }
     if place <= first + 2 {
         return digits << (place - first);

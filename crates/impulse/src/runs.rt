@@ -53,7 +53,7 @@ fn between(left: Complex32, right: Complex32, t: u64, n: u64) -> Complex32
     ensures { result ≡ make32 (between (view32 left) (view32 right) t n) }
 {
     let fraction = ((t + 1) as f32) / ((n + 1) as f32);
-    left.add(right.sub(left).scale(fraction))
+    left + (right - left).scale(fraction)
 }
 
 fn mended_word(left: u64, right: u64, t: u64, n: u64) -> u64

@@ -6,7 +6,7 @@ ghost use Rattle.rules.specs.Pauses.{second, above_entry, within_exit, pauses};
 ghost use Rattle.impulse_pause.specs.View.{edition_of, number_of, numbered};
 
 // The edition of the rule.
-#[derive(Clone, Copy)]
+#[derive(Clone, Copy, PartialEq, Eq, Debug)]
 pub enum PauseEdition {
     First,
     Second,
@@ -44,26 +44,6 @@ impl PauseEdition {
     // The share up to which a paused block is the last of its stretch, under edition 2.
     pub const EXIT_FRACTION: f64 = 0.0005;
 
-    // 1 or 2.
-    pub fn number(self) -> u64
-        ensures { result ≡ number_of self }
-    {
-        match self {
-            PauseEdition::First => 1,
-            PauseEdition::Second => 2,
-        }
-    }
-
-    // The edition of that number. Any number but 2 says the first.
-    pub fn numbered(number: u64) -> PauseEdition
-        ensures { result ≡ numbered number }
-    {
-        if number == 2 {
-            return PauseEdition::Second;
-        }
-        PauseEdition::First
-    }
-
     // Whether a block that begins with this edition is paused: its length, whether the last one was
     // paused, and how many of that were flagged.
     pub fn pauses(self, blocklen: u64, was: bool, flagged: u64) -> bool
@@ -72,6 +52,30 @@ impl PauseEdition {
         match self {
             PauseEdition::First => above_entry(blocklen, flagged),
             PauseEdition::Second => second_pauses(blocklen, was, flagged),
+        }
+    }
+}
+
+// 1 or 2.
+impl From<PauseEdition> for u64 {
+    ghost from_gives = { λ edition n. n ≡ number_of edition };
+
+    fn from(edition: PauseEdition) -> u64 {
+        match edition {
+            PauseEdition::First => 1,
+            PauseEdition::Second => 2,
+        }
+    }
+}
+
+// The edition of that number. Any number but 2 says the first.
+impl From<u64> for PauseEdition {
+    ghost from_gives = { λ number edition. edition ≡ numbered number };
+
+    fn from(number: u64) -> PauseEdition {
+        match number {
+            2 => PauseEdition::Second,
+            _ => PauseEdition::First,
         }
     }
 }

@@ -124,7 +124,7 @@ impl IqCalibration {
         ensures { result ≡ make64 (coefficient (calibration_of self)) }
     {
         let w = self.turned();
-        w.one_minus().div(w.one_plus())
+        w.one_minus() / w.one_plus()
     }
 
     // Whether it is valid, and measured where the receiver is.

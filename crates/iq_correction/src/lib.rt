@@ -26,7 +26,7 @@ pub fn correct(rho: Complex64, w: u64) -> u64
     ensures { result ≡ corrected (view64 rho) w }
 {
     let m = Complex64::unpack(w);
-    let y = m.sub(rho.mul(m.conj())).rounded();
+    let y = (m - rho * m.conj()).rounded();
     y.word
 }
 
@@ -42,7 +42,7 @@ fn uncorrect(rho: Complex64, divisor: f64, w: u64) -> u64
     ensures { result ≡ uncorrected_by (view64 rho) divisor w }
 {
     let y = Complex64::unpack(w);
-    let m = y.add(rho.mul(y.conj())).unscale(divisor).rounded();
+    let m = (y + rho * y.conj()).unscale(divisor).rounded();
     m.word
 }
 
@@ -101,7 +101,7 @@ fn try_sample(rho: Complex64, w: u64) -> Tried
         re: finite_part((w % 0x1_0000_0000) as u32),
         im: finite_part((w / 0x1_0000_0000) as u32),
     };
-    let y = m.sub(rho.mul(m.conj()));
+    let y = m - rho * m.conj();
     let re = f64::to_bits(y.re);
     let im = f64::to_bits(y.im);
     let a = rebased(re);

@@ -90,7 +90,7 @@ fn terms_of(x: &[u64], k: usize) -> Terms
     let w = wide(x[m]);
     Terms {
         power: v.norm_sqr(),
-        product: v.mul(w),
+        product: v * w,
     }
 }
 

@@ -54,7 +54,7 @@ fn version_fits(version: u64) -> bool
 fn edition_by(version: u64) -> PauseEdition
     ensures { edition_of result ≡ edition_by version }
 {
-    PauseEdition::numbered(version)
+    PauseEdition::from(version)
 }
 
 // The mode bytes, and the byte that says whether a calibration is present.

@@ -1,7 +1,7 @@
 -- The structs of the code with their words, as document 01's rules have them; a mark in one of the twelve parts of the span store. Definitions only.
 use Rattle.std.specs.Prelude.{List, [], ◌∷◌, ◌++◌, map, ℕ, ◌*◌, get_or, set, take, drop, replicate}
 use Rattle.rules.specs.Log as rules
-use Rattle.rules.specs.Log.{Span, mark, repair_words, impulse, dc, iq, Repaired, Flagged, Corrected, Uncertain}
+use Rattle.rules.specs.Log.{Span, span_of, mark, repair_words, impulse, dc, iq, Repaired, Flagged, Corrected, Uncertain}
 use Rattle.stage_log.specs.declared.Stage.{Stage}
 use Rattle.stage_log.specs.declared.Stage.TheVariants.{Impulse, Dc, Iq}
 use Rattle.stage_log.specs.declared.Mark.{Mark}
@@ -11,6 +11,7 @@ use Rattle.stage_log.specs.declared.Marks.{Marks}
 use Rattle.stage_log.specs.declared.Log.{Log}
 use Rattle.stage_log.specs.declared.Notes.{Notes}
 use Rattle.stage_log.specs.declared.Repair.{Repair}
+use Rattle.stage_log.specs.declared.Span as declared
 
 abbrev pub stage_of : Stage → rules.Stage
 stage_of Impulse = impulse
@@ -33,6 +34,9 @@ bare r = record { head = r.head; count = r.count; dropped = r.dropped }
 
 abbrev pub marks_in : Marks → List ℕ → rules.Marks
 marks_in m ws = record { samples = m.samples; ring = ring_in m.ring ws }
+
+abbrev pub span_in : declared.Span → Span
+span_in s = span_of s.start s.len
 
 -- a repair's words
 abbrev pub words_of_repair : Repair → List ℕ

@@ -2,11 +2,11 @@
 // ring's numbers go by value; its words are a part of the store that is lent on.
 #![tactic(auto)]
 
-ghost use Rattle.std.specs.Prelude.{◌≡◌, true, List, [], ◌∷◌, ℕ, ◌+◌, ◌-◌, ◌*◌, ◌%◌, ◌<◌, ◌^◌, min, length, get_or};
+ghost use Rattle.std.specs.Prelude.{◌≡◌, true, List, [], ◌∷◌, ℕ, ◌+◌, ◌-◌, ◌*◌, ◌%◌, ◌<◌, ◌^◌, length, get_or};
 ghost use Rattle.rules.specs.Log.{Sound, repair_width, store_width};
 ghost use Rattle.rules.specs.Log.{spans_of};
 ghost use Rattle.rules.specs.Log.{ring_number, stage_number, mark_number, span_of, joins, lengthened, roomed, append, mark};
-ghost use Rattle.stage_log.specs.View.{stage_of, mark_of, ring_in, marks_in, Logged, fresh_ring, fresh_log, fresh_notes, marked_at, words_of_repair};
+ghost use Rattle.stage_log.specs.View.{stage_of, mark_of, ring_in, marks_in, span_in, Logged, fresh_ring, fresh_log, fresh_notes, marked_at, words_of_repair};
 ghost use Rattle.stage_log.specs.Ready.{Open, Markable, Fits};
 ghost use Rattle.stage_log.specs.Check.{end_fits, ring_fits, log_fits, ends_fit, dropped_in_all};
 
@@ -31,14 +31,14 @@ pub const SUM_LIMIT: u64 = 0x2_0000_0000_0000;
 // 2^52: the largest counter.
 pub const COUNTER_LIMIT: u64 = 0x10_0000_0000_0000;
 
-#[derive(Clone, Copy)]
+#[derive(Clone, Copy, PartialEq, Eq, Debug)]
 pub enum Stage {
     Impulse,
     Dc,
     Iq,
 }
 
-#[derive(Clone, Copy)]
+#[derive(Clone, Copy, PartialEq, Eq, Debug)]
 pub enum Mark {
     Repaired,
     Flagged,
@@ -46,11 +46,11 @@ pub enum Mark {
     Uncertain,
 }
 
-impl Stage {
-    pub fn number(self) -> usize
-        ensures { result ≡ stage_number (stage_of self) }
-    {
-        match self {
+impl From<Stage> for usize {
+    ghost from_gives = { λ stage n. n ≡ stage_number (stage_of stage) };
+
+    fn from(stage: Stage) -> usize {
+        match stage {
             Stage::Impulse => 0,
             Stage::Dc => 1,
             Stage::Iq => 2,
@@ -58,11 +58,11 @@ impl Stage {
     }
 }
 
-impl Mark {
-    pub fn number(self) -> usize
-        ensures { result ≡ mark_number (mark_of self) }
-    {
-        match self {
+impl From<Mark> for usize {
+    ghost from_gives = { λ kind n. n ≡ mark_number (mark_of kind) };
+
+    fn from(kind: Mark) -> usize {
+        match kind {
             Mark::Repaired => 0,
             Mark::Flagged => 1,
             Mark::Corrected => 2,
@@ -72,7 +72,7 @@ impl Mark {
 }
 
 // Where the oldest entry stands, how many there are, and how many were dropped.
-#[derive(Clone, Copy)]
+#[derive(Clone, Copy, PartialEq, Eq, Debug)]
 pub struct Ring {
     pub head: usize,
     pub count: usize,
@@ -80,20 +80,20 @@ pub struct Ring {
 }
 
 // A ring of spans, and how many samples it was told of.
-#[derive(Drop)]
+#[derive(Clone, Copy, PartialEq, Eq, Debug)]
 pub struct Marks {
     pub samples: u64,
     pub ring: Ring,
 }
 
-#[derive(Clone, Copy)]
+#[derive(Clone, Copy, PartialEq, Eq, Debug)]
 pub struct Log {
     pub rings: [Ring; RINGS],
     pub counts: [u64; RINGS],
 }
 
 // All that the log is told: the rings of spans, the ring of repairs, and how many runs were too long.
-#[derive(Clone, Copy)]
+#[derive(Clone, Copy, PartialEq, Eq, Debug)]
 pub struct Notes {
     pub log: Log,
     pub repairs: Ring,
@@ -101,14 +101,14 @@ pub struct Notes {
 }
 
 // A span, as a ring holds it.
-#[derive(Drop)]
+#[derive(Clone, Copy, PartialEq, Eq, Debug)]
 pub struct Span {
     pub start: u64,
     pub len: u64,
 }
 
 // A mended run: its first sample, its length, and the words that stood there, unused ones 0.
-#[derive(Drop)]
+#[derive(Clone, Copy, PartialEq, Eq, Debug)]
 pub struct Repair {
     pub start: u64,
     pub len: u64,
@@ -122,7 +122,7 @@ pub struct Repair {
 pub fn ring_number(stage: Stage, kind: Mark) -> usize
     ensures { result ≡ ring_number (stage_of stage) (mark_of kind) }
 {
-    stage.number() * 4 + kind.number()
+    usize::from(stage) * 4 + usize::from(kind)
 }
 
 impl Ring {
@@ -172,9 +172,8 @@ impl Ring {
         ensures { (result.head ≡ self.head) × (result.count ≡ self.count + 1) × (result.dropped ≡ self.dropped) }
     {
         Ring {
-            head: self.head,
             count: self.count + 1,
-            dropped: self.dropped,
+            ..self
         }
     }
 }
@@ -184,60 +183,52 @@ fn joins_newest(ring: Ring, words: &[u64], capacity: usize, start: u64) -> bool
     requires { Open 2 capacity (ring_in ring words.now) }
     ensures { result ≡ joins capacity (ring_in ring words.now) start }
 {
-    let held = ring.count;
-    if held == 0 {
+    if ring.count == 0 {
         return false;
     }
     let place = ring.newest_place(capacity) * SPAN_WORDS;
     let s = words[place];
-    let l = words[place + 1];
-    if start < s {
-        return false;
-    }
-    start - s == l
+    s <= start && start - s == words[place + 1]
 }
 
-// Lengthens the newest span.
-fn lengthen(ring: Ring, words: &mut [u64], capacity: usize, start: u64, len: u64)
-    requires fact { Open 2 capacity (ring_in ring words.old) }
-    requires start_value { joins capacity (ring_in ring words.old) start ≡ true }
-    requires len_bound { start + len < 2 ^ 64 }
-    ensures { ring_in ring words.new ≡ lengthened capacity (ring_in ring words.old) len }
+// Lengthens the newest span by one that begins where it ends.
+fn lengthen(ring: Ring, words: &mut [u64], capacity: usize, span: Span)
+    requires room { Open 2 capacity (ring_in ring words.old) }
+    requires joins { joins capacity (ring_in ring words.old) span.start ≡ true }
+    requires end { span.start + span.len < 2 ^ 64 }
+    ensures { ring_in ring words.new ≡ lengthened capacity (ring_in ring words.old) span.len }
 {
     let place = ring.newest_place(capacity) * SPAN_WORDS + 1;
-    words[place] = words[place] + len;
+    words[place] += span.len;
 }
 
 // A new span, behind the others.
-fn enter_span(ring: Ring, words: &mut [u64], capacity: usize, start: u64, len: u64) -> Ring
+fn enter_span(ring: Ring, words: &mut [u64], capacity: usize, span: Span) -> Ring
     requires { Open 2 capacity (ring_in ring words.old) }
-    ensures { ring_in result words.new ≡ append capacity (ring_in ring words.old) (start ∷ len ∷ []) }
+    ensures { ring_in result words.new ≡ append capacity (ring_in ring words.old) (span.start ∷ span.len ∷ []) }
 {
     let q = ring.with_room(capacity);
     let place = q.next_place(capacity) * SPAN_WORDS;
-    words[place] = start;
-    words[place + 1] = len;
+    words[place] = span.start;
+    words[place + 1] = span.len;
     q.with_one_more()
 }
 
-// Marks len samples from start on in the ring whose words these are.
-pub fn mark_ring(m: Marks, words: &mut [u64], capacity: usize, start: u64, len: u64) -> Marks
-    requires { Markable capacity (marks_in m words.old) (span_of start len) }
-    ensures { marks_in result words.new ≡ mark capacity (marks_in m words.old) (span_of start len) }
-{
-    if len == 0 {
-        return m;
-    }
-    let samples = m.samples + len;
-    let ring = m.ring;
-    if joins_newest(ring, words, capacity, start) {
-        lengthen(ring, words, capacity, start, len);
-        return Marks { samples, ring };
-    }
-    let entered = enter_span(ring, words, capacity, start, len);
-    Marks {
-        samples,
-        ring: entered,
+impl Marks {
+    // Marks a span in the ring whose words these are.
+    pub fn mark(&mut self, words: &mut [u64], capacity: usize, span: Span)
+        requires { Markable capacity (marks_in self.old words.old) (span_in span) }
+        ensures { marks_in self.new words.new ≡ mark capacity (marks_in self.old words.old) (span_in span) }
+    {
+        if span.len == 0 {
+            return;
+        }
+        self.samples += span.len;
+        if joins_newest(self.ring, words, capacity, span.start) {
+            lengthen(self.ring, words, capacity, span);
+        } else {
+            self.ring = enter_span(self.ring, words, capacity, span);
+        }
     }
 }
 
@@ -245,11 +236,9 @@ impl Notes {
     pub fn fresh() -> Notes
         ensures { result ≡ fresh_notes }
     {
-        let log = Log::fresh();
-        let repairs = Ring::fresh();
         Notes {
-            log,
-            repairs,
+            log: Log::fresh(),
+            repairs: Ring::fresh(),
             longruns: 0,
         }
     }
@@ -259,35 +248,29 @@ impl Log {
     pub fn fresh() -> Log
         ensures { result ≡ fresh_log }
     {
-        let empty = Ring::fresh();
         Log {
-            rings: [empty; RINGS],
+            rings: [Ring::fresh(); RINGS],
             counts: [0; RINGS],
         }
     }
 
-    // Marks len samples from start on in ring number which, whose part of the store is lent on.
-    fn mark_at(self, spans: &mut [u64], capacity: usize, which: usize, start: u64, len: u64) -> Log
+    // Marks a span in ring number which, whose part of the store is lent on.
+    fn mark_at(self, spans: &mut [u64], capacity: usize, which: usize, span: Span) -> Log
         requires which_bound { which < 12 }
-        requires fits { Fits capacity (record { log = self; spans = spans.old }) which (span_of start len) }
+        requires fits { Fits capacity (record { log = self; spans = spans.old }) which (span_in span) }
         ensures { ◌≡◌ {A = Logged} (record { log = result; spans = spans.new })
-            (marked_at capacity (record { log = self; spans = spans.old }) which (span_of start len)) }
+            (marked_at capacity (record { log = self; spans = spans.old }) which (span_in span)) }
     {
         let a = which * (capacity * SPAN_WORDS);
         let e = a + capacity * SPAN_WORDS;
-        let ring = self.rings[which];
-        let samples = self.counts[which];
-        let m = mark_ring(
-            Marks { samples, ring },
-            &mut spans[a..e],
-            capacity,
-            start,
-            len,
-        );
-        let marked = m.ring;
+        let mut marks = Marks {
+            samples: self.counts[which],
+            ring: self.rings[which],
+        };
+        marks.mark(&mut spans[a..e], capacity, span);
         let mut out = self;
-        out.rings[which] = marked;
-        out.counts[which] = m.samples;
+        out.rings[which] = marks.ring;
+        out.counts[which] = marks.samples;
         out
     }
 
@@ -306,7 +289,7 @@ impl Log {
             (marked_at capacity (record { log = self; spans = spans.old }) (ring_number (stage_of stage) (mark_of kind)) (span_of start len)) }
     {
         let which = ring_number(stage, kind);
-        self.mark_at(spans, capacity, which, start, len)
+        self.mark_at(spans, capacity, which, Span { start, len })
     }
 }
 
@@ -334,11 +317,11 @@ pub fn span_at(ring: Ring, words: &[u64], capacity: usize, i: usize) -> Span
     requires i_lt_count { i < ring.count }
     ensures { span_of result.start result.len ≡ get_or (spans_of capacity (ring_in ring words.now)) i (span_of 0 0) }
 {
-    let head = ring.head;
-    let place = (head + i) % capacity * SPAN_WORDS;
-    let start = words[place];
-    let len = words[place + 1];
-    Span { start, len }
+    let place = (ring.head + i) % capacity * SPAN_WORDS;
+    Span {
+        start: words[place],
+        len: words[place + 1],
+    }
 }
 
 // Whether the newest span, if there is one, ends in range.
@@ -351,37 +334,17 @@ fn end_fits(ring: Ring, words: &[u64], capacity: usize) -> bool
     }
     let place = ring.newest_place(capacity) * SPAN_WORDS;
     let s = words[place];
-    let l = words[place + 1];
-    if SUM_LIMIT < s {
-        return false;
-    }
-    l <= SUM_LIMIT - s
+    s <= SUM_LIMIT && words[place + 1] <= SUM_LIMIT - s
 }
 
 // Whether a ring's numbers are in range.
 pub fn ring_fits(ring: Ring, count: u64, capacity: usize) -> bool
     ensures { result ≡ ring_fits capacity ring count }
 {
-    if capacity <= ring.head {
-        return false;
-    }
-    if capacity < ring.count {
-        return false;
-    }
-    if COUNTER_LIMIT < ring.dropped {
-        return false;
-    }
-    count <= COUNTER_LIMIT
-}
-
-// The sum, or the greatest u64 if it is more.
-fn capped_sum(a: u64, b: u64) -> u64
-    ensures { result ≡ min (a + b) (2 ^ 64 - 1) }
-{
-    if 0xffff_ffff_ffff_ffff - a < b {
-        return 0xffff_ffff_ffff_ffff;
-    }
-    a + b
+    ring.head < capacity
+        && ring.count <= capacity
+        && ring.dropped <= COUNTER_LIMIT
+        && count <= COUNTER_LIMIT
 }
 
 impl Log {
@@ -389,10 +352,8 @@ impl Log {
     pub fn fits(self, capacity: usize) -> bool
         ensures { result ≡ log_fits capacity self }
     {
-        for k in 0..RINGS {
-            let ring = self.rings[k];
-            let count = self.counts[k];
-            if !ring_fits(ring, count, capacity) {
+        for (k, ring) in self.rings.iter().enumerate() {
+            if !ring_fits(*ring, self.counts[k], capacity) {
                 return false;
             }
         }
@@ -404,11 +365,10 @@ impl Log {
         requires { (log_fits capacity self ≡ true) × (length spans.now ≡ capacity * store_width) }
         ensures { result ≡ ends_fit capacity (record { log = self; spans = spans.now }) }
     {
-        for k in 0..RINGS {
+        for (k, ring) in self.rings.iter().enumerate() {
             let a = k * (capacity * SPAN_WORDS);
             let e = a + capacity * SPAN_WORDS;
-            let ring = self.rings[k];
-            if !end_fits(ring, &spans[a..e], capacity) {
+            if !end_fits(*ring, &spans[a..e], capacity) {
                 return false;
             }
         }
@@ -420,9 +380,8 @@ impl Log {
         ensures { result ≡ dropped_in_all self }
     {
         let mut sum: u64 = 0;
-        for k in 0..RINGS {
-            let ring = self.rings[k];
-            sum = capped_sum(sum, ring.dropped);
+        for ring in &self.rings {
+            sum = sum.saturating_add(ring.dropped);
         }
         sum
     }

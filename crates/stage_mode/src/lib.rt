@@ -5,7 +5,7 @@ ghost use Rattle.std.specs.Prelude.{◌≡◌};
 ghost use Rattle.rules.specs.Mode.{is_apply, runs};
 ghost use Rattle.stage_mode.specs.View.{mode_of};
 
-#[derive(Clone, Copy)]
+#[derive(Clone, Copy, PartialEq, Eq, Debug)]
 pub enum StageMode {
     Off,
     Observe,
@@ -17,20 +17,12 @@ impl StageMode {
     pub fn runs(self) -> bool
         ensures { result ≡ runs (mode_of self) }
     {
-        match self {
-            StageMode::Off => false,
-            StageMode::Observe => true,
-            StageMode::Apply => true,
-        }
+        self != StageMode::Off
     }
 
     pub fn applies(self) -> bool
         ensures { result ≡ is_apply (mode_of self) }
     {
-        match self {
-            StageMode::Off => false,
-            StageMode::Observe => false,
-            StageMode::Apply => true,
-        }
+        self == StageMode::Apply
     }
 }

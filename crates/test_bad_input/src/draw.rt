@@ -138,6 +138,6 @@ pub fn configuration(seed: u64) -> ConditioningConfig {
         calibration: any_calibration(seed),
         spans: any_word(seed, 123, 2) as usize,
         repairs: any_word(seed, 124, 2) as usize,
-        edition: PauseEdition::numbered(drawn(seed, 132) % 4),
+        edition: PauseEdition::from(drawn(seed, 132) % 4),
     }
 }

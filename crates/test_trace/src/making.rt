@@ -34,7 +34,7 @@ fn configuration(w: &[u64]) -> ConditioningConfig {
         calibration: calibration(w),
         spans: word(w, 10) as usize,
         repairs: word(w, 11) as usize,
-        edition: PauseEdition::numbered(word(w, 12)),
+        edition: PauseEdition::from(word(w, 12)),
     }
 }
 
@@ -65,7 +65,7 @@ fn write_configuration(rt: &impl Print, c: ConditioningConfig) -> io::Result<()>
         c.n as u64,
     ];
     let middle = calibration_words(calibration);
-    let back = [c.spans as u64, c.repairs as u64, edition.number()];
+    let back = [c.spans as u64, c.repairs as u64, u64::from(edition)];
     write_words(rt, &front)?;
     write_words(rt, &middle)?;
     write_words(rt, &back)

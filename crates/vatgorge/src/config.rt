@@ -84,7 +84,7 @@ pub fn read_config(words: &[u64; CONFIG_WORDS]) -> ConditioningConfig
         ),
         spans: words[SPAN_CAPACITY] as usize,
         repairs: words[REPAIR_CAPACITY] as usize,
-        edition: PauseEdition::numbered(words[EDITION]),
+        edition: PauseEdition::from(words[EDITION]),
     }
 }
 
@@ -126,7 +126,7 @@ fn config_words(config: ConditioningConfig) -> [u64; CONFIG_WORDS]
         calibrated[3],
         config.spans as u64,
         config.repairs as u64,
-        edition.number(),
+        u64::from(edition),
     ]
 }
 

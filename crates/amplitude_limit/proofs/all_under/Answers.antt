@@ -10,24 +10,24 @@ use Rattle.amplitude_limit.specs.Limit.{under, halves_clear}
 use Rattle.amplitude_limit.proofs.Halves.{or_clear}
 use Rattle.amplitude_limit.proofs.all_under.Goals as goal
 
-pub loop-k-init : goal.loop-k-init
+pub loop-w-init : goal.loop-w-init
 unfolding halves_clear
-loop-k-init c = (omega arith, refl)
+loop-w-init c = (omega arith, refl)
 
-pub loop-k-preserved : goal.loop-k-preserved
-loop-k-preserved c =
+pub loop-w-preserved : goal.loop-w-preserved
+loop-w-preserved c =
     let l = c.args.samples.now in
     let limit = c.args.limit in
-    let v = c.loop-k in
+    let v = c.loop-w in
     let b = c.raised-bits in (
       omega arith,
-      ap (λ (t : Bool). t && all_of (under limit) (drop (v.k + 1) l)) (or_clear v.bits b.result)
-          ∙ good_next (under limit) 0 l v.k (halves_clear v.bits) (halves_clear b.result) c.loop-k-test.true b.ensures v.invariant.1,
+      ap (λ (t : Bool). t && all_of (under limit) (drop (v.w-index + 1) l)) (or_clear v.bits b.result)
+          ∙ good_next (under limit) 0 l v.w-index (halves_clear v.bits) (halves_clear b.result) c.loop-w-test.true b.ensures v.invariant.1,
     )
 
 pub returns : goal.returns
 returns c =
-    let v = c.loop-k in
+    let v = c.loop-w in
     c.halves_clear.ensures
-    ∙ good_done (under c.args.limit) c.args.samples.now v.k
-    (halves_clear v.bits) c.loop-k-test.false v.invariant.1
+    ∙ good_done (under c.args.limit) c.args.samples.now v.w-index
+    (halves_clear v.bits) c.loop-w-test.false v.invariant.1

@@ -14,5 +14,5 @@ by_first x t e = sym (limited_is x ∙ ap (λ (s : Bool). s && le x part_limit) 
 pub returns-then-x : goal.returns-then-x
 returns-then-x c = by_first c.args.x true c.if-x.true
 
-pub returns : goal.returns
-returns c = by_first c.args.x false c.if-x.false
+pub returns-else-x : goal.returns-else-x
+returns-else-x c = c.if-x.false ∙ by_first c.args.x false c.if-x.false

@@ -1,13 +1,12 @@
--- A size at most L is a number from -L to L; parts under a limit; where a scan stands, and what place it finds. Assumes nothing.
-use Rattle.std.specs.Prelude.{◌≡◌, refl, Bool, true, false, ◌&&◌, cond, List, [], ◌∷◌, ℕ, zero, suc, ◌+◌, ◌/◌, ◌%◌, ◌^◌, ◌<◌, ◌≤◌, T, leb, length, drop, get_or, Float}
-use Rattle.std.proofs.Common.{sym, ap, ◌∙◌, subst, suc-le-suc, add-zero, add_comm, le_of_suc-le-suc, add-one, arith, leb→le, drop_of_length-le}
+-- A size at most L is a number from -L to L; parts under a limit; what place a scan finds. Assumes nothing.
+use Rattle.std.specs.Prelude.{◌≡◌, refl, Bool, true, false, ◌&&◌, cond, List, [], ◌∷◌, ℕ, zero, suc, ◌+◌, ◌/◌, ◌%◌, ◌^◌, ◌<◌, ◌≤◌, T, leb, length, get_or, Float}
+use Rattle.std.proofs.Common.{sym, ◌∙◌, subst, suc-le-suc, add-zero, add_comm, le_of_suc-le-suc, add-one, arith, leb→le}
 use Rattle.std.specs.Float.Ieee.{le, neg}
 use Rattle.std.specs.Float.Ieee.Fits.{and_l, and_r}
 use Rattle.rules.specs.Constants.{part_limit}
 use Rattle.rules.proofs.laws.SizeLaws.{part_between}
 use Rattle.rules.specs.Lists.{All}
 use Rattle.rules.specs.Refusals.{within_limit, first_beyond_from}
-use Rattle.amplitude_limit.proofs.laws.Slices.{left}
 use Rattle.amplitude_limit.specs.Limit.{limited, under}
 
 pub limited_is : (x : Float) → limited x ≡ (le (neg part_limit) x && le x part_limit)
@@ -22,17 +21,7 @@ parts_under limit w t =
     let b = leb (w / 2 ^ 32 % 2 ^ 31) limit in
     (leb→le (w % 2 ^ 31) limit (and_l a b t), leb→le (w / 2 ^ 32 % 2 ^ 31) limit (and_r a b t))
 
--- ---- a scan that has come to k
-
-pub scan_here : (xs : List ℕ) (k : ℕ) → k < length xs
-    → first_beyond_from k (drop k xs) ≡ cond (within_limit (get_or xs k 0)) (first_beyond_from (k + 1) (drop (k + 1) xs)) k
-unfolding first_beyond_from
-scan_here xs k h = ap (first_beyond_from k) (left xs k h)
-    ∙ ap (λ (n : ℕ). cond (within_limit (get_or xs k 0)) (first_beyond_from n (drop (k + 1) xs)) k) (sym (add-one k))
-
-pub scan_end : (xs : List ℕ) (k : ℕ) → length xs ≤ k → first_beyond_from k (drop k xs) ≡ k
-unfolding first_beyond_from
-scan_end xs k h = ap (first_beyond_from k) (drop_of_length-le xs h)
+-- ---- all are within the limit
 
 pub scan_within : (k : ℕ) (ws : List ℕ) → All (λ w. T (within_limit w)) ws → first_beyond_from k ws ≡ k + length ws
 unfolding first_beyond_from

@@ -1,21 +1,21 @@
 -- `amplitude_limit::within` is `within_limit`: both parts. Assumes nothing.
-use mathlib.Core.Path.{◌≡◌, sym, ap, ◌∙◌}
-use mathlib.Core.Bool.{Bool, ◌&&◌}
+use Rattle.std.proofs.Common.{◌≡◌, refl, ℕ, Bool, ◌&&◌, sym, ap, ◌∙◌}
 use Rattle.complex.specs.Complex.{sample_of}
 use Rattle.rules.specs.Refusals.{within_limit}
 use Rattle.amplitude_limit.specs.Limit.{limited}
 use Rattle.amplitude_limit.proofs.within.Goals as goal
-use Rattle.amplitude_limit.proofs.within.Goals.{After-part_within-im}
 
-both : (c : After-part_within-im) → (c.part_within-re.result && c.part_within-im.result) ≡ within_limit c.args.w
+both : (w : ℕ) → (limited (sample_of w).re && limited (sample_of w).im) ≡ within_limit w
 unfolding within_limit limited
-both c =
-    let z = c.unpack-z.ensures in
-    ap (λ (t : Bool). t && c.part_within-im.result) (c.part_within-re.ensures ∙ ap (λ s. limited s.re) z)
-    ∙ ap (λ (t : Bool). limited (sample_of c.args.w).re && t) (c.part_within-im.ensures ∙ ap (λ s. limited s.im) z)
+both w = refl
 
-pub returns-then-re : goal.returns-then-re
-returns-then-re c = sym (ap (λ (t : Bool). t && c.part_within-im.result) c.if-re.true) ∙ both (goal.at.returns-then-re c).After-part_within-im
+pub returns-then-part_within : goal.returns-then-part_within
+returns-then-part_within c =
+    let re = sym c.if-part_within.true ∙ c.part_within.ensures ∙ ap (λ z. limited z.re) c.unpack-z.ensures in
+    let im = c.part_within-then-part_within.ensures ∙ ap (λ z. limited z.im) c.unpack-z.ensures in
+    im ∙ ap (λ (t : Bool). t && limited (sample_of c.args.w).im) re ∙ both c.args.w
 
-pub returns-else-re : goal.returns-else-re
-returns-else-re c = c.if-re.false ∙ sym (ap (λ (t : Bool). t && c.part_within-im.result) c.if-re.false) ∙ both (goal.at.returns-else-re c).After-part_within-im
+pub returns-else-part_within : goal.returns-else-part_within
+returns-else-part_within c =
+    let re = sym c.if-part_within.false ∙ c.part_within.ensures ∙ ap (λ z. limited z.re) c.unpack-z.ensures in
+    c.if-part_within.false ∙ ap (λ (t : Bool). t && limited (sample_of c.args.w).im) re ∙ both c.args.w

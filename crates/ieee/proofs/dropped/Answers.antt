@@ -32,16 +32,16 @@ away_is : (m u v : ℕ) (t : Bool) → 0 < u → (u ≡ 1) ⊎ (u ≡ 2 * (u / 2
 away_is m u v t U h e p = ap (λ (x : ℕ). (m + x / 2) / u) e ∙ away m u U h ∙ ap (λ (b : Bool). div_by b m u) (sym p)
 
 pub overflow_sub-result : goal.overflow_sub-result
-overflow_sub-result c = let k = known c.args.r c.requires.fact_2 in omega arith
+overflow_sub-result c = let k = known c.args.r c.requires.shift in omega arith
 
 pub overflow_add-result : goal.overflow_add-result
-overflow_add-result c = let k = known c.args.r c.requires.fact_2 in omega arith
+overflow_add-result c = let k = known c.args.r c.requires.shift in omega arith
 
 pub overflow_add-result-else-up : goal.overflow_add-result-else-up
-overflow_add-result-else-up c = let k = known c.args.r c.requires.fact_2 in omega arith
+overflow_add-result-else-up c = let k = known c.args.r c.requires.shift in omega arith
 
 pub returns-then-up : goal.returns-then-up
-returns-then-up c = let k = known c.args.r c.requires.fact_2 in up_is _ _ _ _ k.unit c.if-up.true
+returns-then-up c = let k = known c.args.r c.requires.shift in up_is _ _ _ _ k.unit c.if-up.true
 
 pub returns-else-up : goal.returns-else-up
-returns-else-up c = let k = known c.args.r c.requires.fact_2 in away_is _ _ _ _ k.some (halves _) k.unit c.if-up.false
+returns-else-up c = let k = known c.args.r c.requires.shift in away_is _ _ _ _ k.some (halves _) k.unit c.if-up.false

@@ -1,5 +1,5 @@
 -- `ieee::is_normal` meets its contract: a NaN has the bits of no number. Assumes nothing.
-use Rattle.std.proofs.Common.{◌≡◌, ◌*◌, ◌%◌, ◌^◌, Bool, false, ◌&&◌, ltb, sym, refl, ap, ◌∙◌, le-leb}
+use Rattle.std.proofs.Common.{◌≡◌, ◌*◌, ◌%◌, ◌^◌, Bool, false, ◌&&◌, leb, ltb, sym, refl, ap, ◌∙◌, le-leb}
 use lib.Ieee.{Float, nan, binary64, to_bits}
 use borrow.Author.Tests.{lt-leb}
 use Rattle.ieee.specs.Narrow.{normal_in}
@@ -21,7 +21,8 @@ returns-then-size-ge4039728865751334912 c =
     let size = to_bits binary64 c.args.x % 2 ^ 63 in
     ap (λ (t : Bool). t && ltb size (1150 * 2 ^ 52)) (sym (le-leb (897 * 2 ^ 52) size c.if-size-ge4039728865751334912.true))
 
-pub returns : goal.returns
-returns c =
+pub returns-else-size-ge4039728865751334912 : goal.returns-else-size-ge4039728865751334912
+returns-else-size-ge4039728865751334912 c =
     let size = to_bits binary64 c.args.x % 2 ^ 63 in
-    ap (λ (t : Bool). t && ltb size (1150 * 2 ^ 52)) (sym (lt-leb (897 * 2 ^ 52) size c.if-size-ge4039728865751334912.false))
+    let below : leb (897 * 2 ^ 52) size ≡ false = lt-leb (897 * 2 ^ 52) size c.if-size-ge4039728865751334912.false in
+    below ∙ ap (λ (t : Bool). t && ltb size (1150 * 2 ^ 52)) (sym below)

@@ -45,31 +45,31 @@ made b n d u q k p a h1 h2 h3 h4 h5 = cc
 pub overflow_add-first : goal.overflow_add-first
 overflow_add-first c = let g = ground _ _ c.normalise-n.ensures in omega arith
 
-pub overflow_add-below : goal.overflow_add-below
-overflow_add-below c = let g = ground _ _ c.normalise-n.ensures in omega arith
+pub overflow_add-saturating_sub : goal.overflow_add-saturating_sub
+overflow_add-saturating_sub c = let g = ground _ _ c.normalise-n.ensures in omega arith
 
 pub shifted-q-requires : goal.shifted-q-requires
 shifted-q-requires c =
     record {
-      fact_1 = (ground _ _ c.normalise-n.ensures).high;
-      fact_2 = drop_lt _ _ _ c.least.ensures (lit< tt);
+      digits = (ground _ _ c.normalise-n.ensures).high;
+      shift = drop_lt _ _ _ c.min.ensures (lit< tt);
     }
 
-pub overflow_mul-below : goal.overflow_mul-below
-overflow_mul-below c = record { fits = field_lt _ _ _ c.below-2.ensures (ground _ _ c.normalise-n.ensures).far }
+pub overflow_mul-saturating_sub : goal.overflow_mul-saturating_sub
+overflow_mul-saturating_sub c = record { fits = field_lt _ _ _ c.saturating_sub-2.ensures (ground _ _ c.normalise-n.ensures).far }
 
-pub overflow_add-below-2 : goal.overflow_add-below-2
-overflow_add-below-2 c =
+pub overflow_add-saturating_sub-2 : goal.overflow_add-saturating_sub-2
+overflow_add-saturating_sub-2 c =
     let g = ground _ _ c.normalise-n.ensures in
-    record { fits = sum_lt _ _ _ _ _ _ c.below-2.ensures g.far c.shifted-q.ensures g.high }
+    record { fits = sum_lt _ _ _ _ _ _ c.saturating_sub-2.ensures g.far c.shifted-q.ensures g.high }
 
 pub overflow_cast-result : goal.overflow_cast-result
-overflow_cast-result c = record { fits = pattern_lt _ _ c.least-2.ensures }
+overflow_cast-result c = record { fits = pattern_lt _ _ c.min-2.ensures }
 
 pub returns : goal.returns
 returns c =
-    made _ _ _ _ _ _ _ c.normalise-n.ensures c.below.ensures
-    c.least.ensures
+    made _ _ _ _ _ _ _ c.normalise-n.ensures c.saturating_sub.ensures
+    c.min.ensures
     c.shifted-q.ensures
-    c.below-2.ensures
-    c.least-2.ensures
+    c.saturating_sub-2.ensures
+    c.min-2.ensures

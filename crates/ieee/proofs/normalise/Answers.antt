@@ -22,7 +22,7 @@ moved m n e h = mod-eq_of_lt (lt_of_lt_of_le h (lit≤ tt)) ∙ ap (λ (m : ℕ)
 pub returns : goal.returns
 returns c =
     record {
-      place = c.below.ensures;
+      place = c.saturating_sub.ensures;
       shift = ap shift_of c.significand-m.ensures;
       digits = moved _ _ c.significand-m.ensures (place c.before).high;
     }

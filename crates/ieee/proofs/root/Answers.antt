@@ -63,8 +63,8 @@ returns-then-b-ge9218868437227405312 c =
 pub root_finite-requires : goal.root_finite-requires
 root_finite-requires c =
     record {
-      fact_1 = omega arith;
-      fact_2 = omega arith;
+      positive = omega arith;
+      finite = omega arith;
     }
 
 pub returns : goal.returns

@@ -1,4 +1,4 @@
--- `ieee::root_digits` meets its contract. Its invariant is `Found` of `proofs/Rooting.antt`, and its measure what is left of the turns. Assumes nothing.
+-- `ieee::root_digits` meets its contract. Its invariant is `Found` of `proofs/Rooting.antt`. Assumes nothing.
 use Rattle.std.proofs.Common.{ℕ, ◌+◌, ◌-◌, ◌*◌, ◌/◌, ◌%◌, ◌^◌, ◌<◌, ◌≤◌, Bool, true, false, not, T, ltb, refl, arith, ltb→lt, nltb→le}
 use mir.Val.{bool_byte}
 use Rattle.ieee.proofs.Rooting.{Found, found_none, found_same, found_zero, found_one, found_all}
@@ -12,38 +12,38 @@ by_bit P a b h k = go (ltb a b) (ltb→lt a b) (nltb→le a b)
     go true l g = h (l tt)
     go false l g = k (g tt)
 
-pub loop-i-init : goal.loop-i-init
-loop-i-init c = found_none c.args.w c.ranges.w.fits
+pub loop-init : goal.loop-init
+loop-init c = found_none c.args.w c.ranges.w.fits
 
-pub overflow_mul-rest-in-loop-i-2 : goal.overflow_mul-rest-in-loop-i-2
-overflow_mul-rest-in-loop-i-2 c =
+pub overflow_mul-rest-in-loop-2 : goal.overflow_mul-rest-in-loop-2
+overflow_mul-rest-in-loop-2 c =
     record {
       fits =
-          by_bit (λ (t : ℕ). (c.loop-i.r * 4 + 1) * t < 2 ^ 64) (c.loop-i.r * 4) (c.loop-i.rest * 4 + c.loop-i.m / 2 ^ 62)
+          by_bit (λ (t : ℕ). (c.loop.r * 4 + 1) * t < 2 ^ 64) (c.loop.r * 4) (c.loop.rest * 4 + c.loop.m / 2 ^ 62)
           (λ h. omega arith) (λ h. omega arith);
     }
 
 pub overflow_sub-rest : goal.overflow_sub-rest
 overflow_sub-rest c =
-    by_bit (λ (t : ℕ). (c.loop-i.r * 4 + 1) * t ≤ c.loop-i.rest * 4 + c.loop-i.m / 2 ^ 62) (c.loop-i.r * 4)
-    (c.loop-i.rest * 4 + c.loop-i.m / 2 ^ 62) (λ h. omega arith) (λ h. omega arith)
+    by_bit (λ (t : ℕ). (c.loop.r * 4 + 1) * t ≤ c.loop.rest * 4 + c.loop.m / 2 ^ 62) (c.loop.r * 4)
+    (c.loop.rest * 4 + c.loop.m / 2 ^ 62) (λ h. omega arith) (λ h. omega arith)
 
 pub overflow_add-r : goal.overflow_add-r
 overflow_add-r c =
     record {
       fits =
-          by_bit (λ (t : ℕ). c.loop-i.r * 2 + t < 2 ^ 64) (c.loop-i.r * 4) (c.loop-i.rest * 4 + c.loop-i.m / 2 ^ 62)
+          by_bit (λ (t : ℕ). c.loop.r * 2 + t < 2 ^ 64) (c.loop.r * 4) (c.loop.rest * 4 + c.loop.m / 2 ^ 62)
           (λ h. omega arith) (λ h. omega arith);
     }
 
-pub loop-i-preserved : goal.loop-i-preserved
-loop-i-preserved c =
-    let s = c.loop-i in
+pub loop-preserved : goal.loop-preserved
+loop-preserved c =
+    let s = c.loop in
     let rest = s.rest * 4 + s.m / 2 ^ 62 in
-    let t = c.loop-i-test.true in
-    by_bit (λ (t : ℕ). Found c.args.w (s.m % 2 ^ 62 * 4) (rest - (s.r * 4 + 1) * t) (s.r * 2 + t) (s.i + 1)) _ _
+    let t = c.loop-test.true in
+    by_bit (λ (t : ℕ). Found c.args.w (s.m % 2 ^ 62 * 4) (rest - (s.r * 4 + 1) * t) (s.r * 2 + t) (s.counter + 1)) _ _
     (λ h. found_same (omega arith) (omega arith) (found_one _ _ _ _ _ _ s.invariant t refl h))
     (λ h. found_same (omega arith) (omega arith) (found_zero _ _ _ _ _ _ s.invariant t refl h))
 
 pub returns : goal.returns
-returns c = found_all _ _ _ _ _ c.loop-i.invariant c.loop-i-test.false
+returns c = found_all _ _ _ _ _ c.loop.invariant c.loop-test.false

@@ -56,7 +56,7 @@ field : (y c : ℕ) → c ≤ 61 → y ≤ 2045 → (1030 + y + (y + c) % 2 - c)
 field y c h l = omega arith
 
 at : (c : goal.After-struct_known-1) → Ground c.args.b c.normalise-n.result
-at c = ground _ _ c.requires.fact_1 c.requires.fact_2 c.normalise-n.ensures
+at c = ground _ _ c.requires.positive c.requires.finite c.normalise-n.ensures
 
 g_small : (c : goal.After-struct_known-3-1) → c.half_root-g.result < 2 ^ 54
 g_small c = let h = c.half_root-g.ensures in let r = root_small _ h.R (mod-lt _ (pow_pos 64)) h.low in omega arith
@@ -81,7 +81,7 @@ returns c =
     let g = at c.before.before.before.before.before.before in
     let h = c.half_root-g.ensures in
     let w = word b n u g in
-    let L = c.requires.fact_2 in
+    let L = c.requires.finite in
     let N = number_bits b (omega arith) in
     c.from_bits64-2.ensures
     ∙ ap (of_bits binary64)

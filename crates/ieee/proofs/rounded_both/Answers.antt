@@ -3,7 +3,7 @@ use Rattle.std.proofs.Common.{T, sym, ◌∙◌, subst}
 use Rattle.ieee.proofs.rounded_both.Goals as goal
 
 pub round_normal-requires : goal.round_normal-requires
-round_normal-requires c = subst T (sym c.if-not-is_normal.false ∙ c.is_normal.ensures) tt
+round_normal-requires c = subst T (sym c.if-is_normal.true ∙ c.is_normal.ensures) tt
 
-pub round_normal-requires-2 : goal.round_normal-requires-2
-round_normal-requires-2 c = subst T (sym c.if-not-is_normal-2.false ∙ c.is_normal-2.ensures) tt
+pub round_normal-requires-then-is_normal-2 : goal.round_normal-requires-then-is_normal-2
+round_normal-requires-then-is_normal-2 c = subst T (sym c.if-is_normal-2.true ∙ c.is_normal-then-is_normal.ensures) tt

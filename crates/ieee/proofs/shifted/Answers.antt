@@ -28,22 +28,22 @@ known m r R =
     }
 
 pub overflow_sub-rest : goal.overflow_sub-rest
-overflow_sub-rest c = let k = known c.args.m c.args.r c.requires.fact_2 in omega arith
+overflow_sub-rest c = let k = known c.args.m c.args.r c.requires.shift in omega arith
 
 pub overflow_mul-rest : goal.overflow_mul-rest
-overflow_mul-rest c = let k = known c.args.m c.args.r c.requires.fact_2 in omega arith
+overflow_mul-rest c = let k = known c.args.m c.args.r c.requires.shift in omega arith
 
 pub overflow_add-rest : goal.overflow_add-rest
-overflow_add-rest c = let k = known c.args.m c.args.r c.requires.fact_2 in omega arith
+overflow_add-rest c = let k = known c.args.m c.args.r c.requires.shift in omega arith
 
 pub overflow_add-result : goal.overflow_add-result
-overflow_add-result c = let k = known c.args.m c.args.r c.requires.fact_2 in omega arith
+overflow_add-result c = let k = known c.args.m c.args.r c.requires.shift in omega arith
 
 pub returns-then-rest-q : goal.returns-then-rest-q
 returns-then-rest-q c =
     let m = c.args.m in
     let r = c.args.r in
-    let k = known m r c.requires.fact_2 in
+    let k = known m r c.requires.shift in
     let h : 2 ^ r < m % 2 ^ r * 2 + m / 2 ^ r % 2 = omega arith in
     sym (closest_up m (2 ^ r) h)
 
@@ -51,6 +51,6 @@ pub returns-else-rest-q : goal.returns-else-rest-q
 returns-else-rest-q c =
     let m = c.args.m in
     let r = c.args.r in
-    let k = known m r c.requires.fact_2 in
+    let k = known m r c.requires.shift in
     let h : m % 2 ^ r * 2 + m / 2 ^ r % 2 ≤ 2 ^ r = omega arith in
     sym (closest_down m (2 ^ r) h)

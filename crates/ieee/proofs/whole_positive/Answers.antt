@@ -50,14 +50,14 @@ overflow_add-first c = let g = ground _ _ c.normalise-n.ensures in omega arith
 pub dropped-requires : goal.dropped-requires
 dropped-requires c =
     record {
-      fact_1 = (ground _ _ c.normalise-n.ensures).high;
-      fact_2 = omega arith;
+      digits = (ground _ _ c.normalise-n.ensures).high;
+      shift = omega arith;
     }
 
 pub returns-then-place-first : goal.returns-then-place-first
 returns-then-place-first c =
     cut c.args.b c.normalise-n.result c.args.up c.requires c.normalise-n.ensures _ _ c.if-place-first.true
-    c.least.ensures c.dropped.ensures
+    c.min.ensures c.dropped.ensures
 
 pub overflow_add-first-2 : goal.overflow_add-first-2
 overflow_add-first-2 c = let g = ground _ _ c.normalise-n.ensures in omega arith

@@ -24,21 +24,22 @@ pub returns-then-ring-eq0 : goal.returns-then-ring-eq0
 unfolding end_fits
 returns-then-ring-eq0 c = simp (le-ltb 0 c.args.ring.count (omega arith))
 
-pub returns-then-s-gt-SUM_LIMIT : goal.returns-then-s-gt-SUM_LIMIT
+pub returns-else-s-le-SUM_LIMIT : goal.returns-else-s-le-SUM_LIMIT
 unfolding end_fits
-returns-then-s-gt-SUM_LIMIT c =
+returns-else-s-le-SUM_LIMIT c =
     let a = c.args in
     let ws = a.words.now in
     let p = c.newest_place-place.result in
     rw (← c.newest_place-place.ensures.0)
     (simp (
+      lt-leb _ _ c.if-s-le-SUM_LIMIT.false,
       lt-ltb 0 a.ring.count (omega (arith, c.if-ring-eq0.false)),
-      sum_above (at ws (p * 2)) (at ws (p * 2 + 1)) (2 ^ 49) c.if-s-gt-SUM_LIMIT.true,
+      sum_above (at ws (p * 2)) (at ws (p * 2 + 1)) (2 ^ 49) c.if-s-le-SUM_LIMIT.false,
     ))
 
-pub returns : goal.returns
+pub returns-then-s-le-SUM_LIMIT : goal.returns-then-s-le-SUM_LIMIT
 unfolding end_fits
-returns c =
+returns-then-s-le-SUM_LIMIT c =
     let a = c.args in
-    rw (← c.newest_place-place.ensures.0, sum_same _ _ (2 ^ 49) c.if-s-gt-SUM_LIMIT.false)
+    rw (← c.newest_place-place.ensures.0, sum_same _ _ (2 ^ 49) c.if-s-le-SUM_LIMIT.true)
     (simp (lt-ltb 0 a.ring.count (omega (arith, c.if-ring-eq0.false))))

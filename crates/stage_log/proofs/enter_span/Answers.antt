@@ -49,6 +49,6 @@ returns c =
       head = m.0 i;
       count = m.1 i;
       dropped = m.2 i;
-      words = write a.words.now (p i * 2) (a.start ∷ a.len ∷ []);
+      words = write a.words.now (p i * 2) (a.span.start ∷ a.span.len ∷ []);
     })
-    ∙ append_by 2 a.capacity a.ring q a.words.now (c.with_room-q.ensures a.words.now) (a.start ∷ a.len ∷ [])
+    ∙ append_by 2 a.capacity a.ring q a.words.now (c.with_room-q.ensures a.words.now) (a.span.start ∷ a.span.len ∷ [])

@@ -17,16 +17,16 @@ inside c =
     omega (arith, place_fits 2 a.capacity ((a.ring.head + a.i) % a.capacity) (mod-lt (a.ring.head + a.i) c.requires.sound.some), c.requires.sound.long)
 
 pub overflow_mul-place : goal.overflow_mul-place
-overflow_mul-place c = omega (arith, inside c)
+overflow_mul-place c = omega (arith, inside (goal.at.overflow_mul-place c).Start)
 
 pub offset_bounds-words-place : goal.offset_bounds-words-place
-offset_bounds-words-place c = omega (arith, inside c)
+offset_bounds-words-place c = omega (arith, inside (goal.at.offset_bounds-words-place c).Start)
 
 pub bounds-words-place : goal.bounds-words-place
 bounds-words-place c = omega (arith, inside (goal.at.bounds-words-place c).Start)
 
-pub overflow_add-len : goal.overflow_add-len
-overflow_add-len c = omega (arith, inside (goal.at.overflow_add-len c).Start)
+pub overflow_add-result : goal.overflow_add-result
+overflow_add-result c = omega (arith, inside (goal.at.overflow_add-result c).Start)
 
 pub offset_bounds-words-place-2 : goal.offset_bounds-words-place-2
 offset_bounds-words-place-2 c = omega (arith, inside (goal.at.offset_bounds-words-place-2 c).Start)

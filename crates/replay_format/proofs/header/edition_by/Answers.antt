@@ -5,4 +5,4 @@ use Rattle.replay_format.proofs.laws.HeaderLaws.{edition_by_lem}
 use Rattle.replay_format.proofs.header.edition_by.Goals as goal
 
 pub returns : goal.returns
-returns c = ap edition_of c.numbered.ensures ∙ edition_by_lem c.args.version
+returns c = ap edition_of c.from.ensures ∙ edition_by_lem c.args.version

@@ -8,8 +8,5 @@ use Rattle.stage_log.proofs.Log.dropped.Given as goal
 abbrev pub each : Log → ℕ → ℕ
 each l k = (ring_of l k).dropped
 
-abbrev pub invariant-loop-k : goal.invariant-loop-k
-invariant-loop-k l = (l.k ≤ 12) × (l.sum ≡ min (sum_to (each l.self) l.k) (2 ^ 64 - 1))
-
-abbrev pub decreases-loop-k : goal.decreases-loop-k
-decreases-loop-k l = 12 - l.k
+abbrev pub invariant-loop-ring : goal.invariant-loop-ring
+invariant-loop-ring l = (l.ring-index ≤ 12) × (l.sum ≡ min (sum_to (each l.fn.self) l.ring-index) (2 ^ 64 - 1))

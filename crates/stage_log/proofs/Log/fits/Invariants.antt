@@ -1,7 +1,7 @@
 -- `stage_log::Log::fits` meets its contract: each ring before number k fits. Assumes nothing.
 use mathlib.Core.Path.{◌≡◌}
 use mathlib.Core.Bool.{Bool, true}
-use Prim.Native.Nat.{ℕ, ◌-◌, ◌≤◌}
+use Prim.Native.Nat.{ℕ, ◌≤◌}
 use Rattle.stage_log.specs.declared.Log.{Log}
 use Rattle.stage_log.specs.Check.{all_to, ring_fits, ring_of, count_of}
 use Rattle.stage_log.proofs.Log.fits.Given as goal
@@ -10,7 +10,4 @@ abbrev pub test : ℕ → Log → ℕ → Bool
 test cap l j = ring_fits cap (ring_of l j) (count_of l j)
 
 abbrev pub invariant-loop-k : goal.invariant-loop-k
-invariant-loop-k l = (l.k ≤ 12) × (all_to (test l.capacity l.self) l.k ≡ true)
-
-abbrev pub decreases-loop-k : goal.decreases-loop-k
-decreases-loop-k l = 12 - l.k
+invariant-loop-k l = (l.k ≤ 12) × (all_to (test l.capacity l.fn.self) l.k ≡ true)

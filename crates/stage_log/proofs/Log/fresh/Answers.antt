@@ -4,4 +4,4 @@ use Rattle.stage_log.proofs.Log.fresh.Goals as goal
 
 pub returns : goal.returns
 unfolding fresh_log
-returns c = rw c.fresh-empty.ensures
+returns c = rw c.fresh.ensures

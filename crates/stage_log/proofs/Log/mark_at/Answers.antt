@@ -20,13 +20,13 @@ pub offset_bounds-spans-a : goal.offset_bounds-spans-a
 offset_bounds-spans-a c =
     omega (arith, within c.args.which (c.args.capacity * 2) c.requires.which_bound)
 
-pub slice_bounds-mark_ring-end : goal.slice_bounds-mark_ring-end
-slice_bounds-mark_ring-end c =
+pub slice_bounds-mark-end : goal.slice_bounds-mark-end
+slice_bounds-mark-end c =
     omega (arith, within c.args.which (c.args.capacity * 2) c.requires.which_bound)
 
-pub mark_ring-m-requires : goal.mark_ring-m-requires
+pub mark-requires : goal.mark-requires
 unfolding marks_at
-mark_ring-m-requires c =
+mark-requires c =
     rw add-sub_cancel_left c.requires.fits.marks
 
 pub returns : goal.returns
@@ -36,4 +36,4 @@ returns c =
     let size = a.capacity * 2 in
     let part = add-sub_cancel_left (a.which * size) size in
     rw part (ap (with_marks a.capacity (record { log = a.self; spans = a.spans.now }) a.which)
-    (rw part at c.mark_ring-m.ensures))
+    (rw part at c.mark.ensures))

@@ -2,4 +2,4 @@
 use Rattle.stage_log.proofs.Notes.fresh.Goals as goal
 
 pub returns : goal.returns
-returns c = rw (c.fresh-log.ensures, c.fresh-repairs.ensures)
+returns c = rw (c.fresh.ensures, c.fresh-2.ensures)

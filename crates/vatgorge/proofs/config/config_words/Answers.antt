@@ -6,7 +6,7 @@ pub returns : goal.returns
 unfolding config_words
 returns c =
     rw (
-      c.number.ensures,
+      c.from.ensures,
       c.to_bits64-2.ensures,
       c.to_bits64.ensures,
       c.mode_word-3.ensures,

@@ -6,7 +6,7 @@ pub returns : goal.returns
 unfolding config_in
 returns c =
     rw (
-      c.numbered.ensures,
+      c.from.ensures,
       c.calibration_at.ensures,
       c.from_bits64-2.ensures,
       c.from_bits64.ensures,

@@ -1,14 +1,14 @@
--- `stage_log::mark_ring` meets its contract. Assumes nothing.
+-- `stage_log::Marks::mark` meets its contract. Assumes nothing.
 use mathlib.Core.Path.{◌≡◌, ap, sym, ◌∙◌}
 use mathlib.Core.Bool.{Bool, true, false, cond}
 use Prim.Native.Nat.{ℕ, ◌+◌, ◌<◌}
 use native.Mathlib.Omega.{arith}
 use borrow.Author.Tests.{eq-eqb}
 use Rattle.rules.specs.Log as rules
-use Rattle.rules.specs.Log.{Span, span_of, span_words, mark, joins, lengthened, append}
+use Rattle.rules.specs.Log.{Span, span_words, mark, joins, lengthened, append}
 use Rattle.rules.proofs.laws.MarkLaws.{mark_some}
-use Rattle.stage_log.specs.View.{ring_in, marks_in}
-use Rattle.stage_log.proofs.mark_ring.Goals as goal
+use Rattle.stage_log.specs.View.{ring_in, marks_in, span_in}
+use Rattle.stage_log.proofs.Marks.mark.Goals as goal
 
 -- what the two ways come to
 module _ (cap : ℕ) (r : rules.Marks) (m : Span) (q : rules.Ring) (some : 0 < m.len) where
@@ -22,32 +22,32 @@ module _ (cap : ℕ) (r : rules.Marks) (m : Span) (q : rules.Ring) (some : 0 < m
       })
       ∙ sym (mark_some cap r m some)
 
-pub returns-then-len-eq0 : goal.returns-then-len-eq0
+pub returns-then-span-eq0 : goal.returns-then-span-eq0
 unfolding mark
-returns-then-len-eq0 c = rw (eq-eqb c.args.len 0 c.if-len-eq0.true)
+returns-then-span-eq0 c = rw (eq-eqb c.args.span.len 0 c.if-span-eq0.true)
 
 pub lengthen-requires : goal.lengthen-requires
 lengthen-requires c =
     let p = c.requires in
     record {
-      fact = p.ring;
-      start_value = sym c.joins_newest.ensures ∙ c.if-joins_newest.true;
-      len_bound = omega (arith, p.last);
+      room = p.ring;
+      joins = sym c.joins_newest.ensures ∙ c.if-joins_newest.true;
+      end = omega (arith, p.last);
     }
 
 pub returns-then-joins_newest : goal.returns-then-joins_newest
 returns-then-joins_newest c =
     let a = c.args in
-    by_test a.capacity (marks_in a.m a.words.now) (span_of a.start a.len) (ring_in a.m.ring c.lengthen.new.words)
-    (omega (arith, c.if-len-eq0.false))
+    by_test a.capacity (marks_in a.self.now a.words.now) (span_in a.span) (ring_in a.self.now.ring c.lengthen.new.words)
+    (omega (arith, c.if-span-eq0.false))
     true (sym c.joins_newest.ensures ∙ c.if-joins_newest.true)
     c.lengthen.ensures
 
-pub returns : goal.returns
-returns c =
+pub returns-else-joins_newest : goal.returns-else-joins_newest
+returns-else-joins_newest c =
     let a = c.args in
-    by_test a.capacity (marks_in a.m a.words.now) (span_of a.start a.len)
-    (ring_in c.enter_span-entered.result c.enter_span-entered.new.words)
-    (omega (arith, c.if-len-eq0.false))
+    by_test a.capacity (marks_in a.self.now a.words.now) (span_in a.span)
+    (ring_in c.enter_span-self.result c.enter_span-self.new.words)
+    (omega (arith, c.if-span-eq0.false))
     false (sym c.joins_newest.ensures ∙ c.if-joins_newest.false)
-    c.enter_span-entered.ensures
+    c.enter_span-self.ensures

@@ -1,8 +1,0 @@
--- `complex::Complex32::sub` is `difference`, operation by operation. Assumes nothing.
-use mathlib.Core.Path.{refl}
-use Rattle.complex.specs.Complex.{difference}
-use Rattle.complex.proofs.Complex32.sub.Goals as goal
-
-pub returns : goal.returns
-unfolding difference
-returns c = refl

@@ -1,8 +1,0 @@
--- `complex::Complex64::add` is `sum`, operation by operation. Assumes nothing.
-use mathlib.Core.Path.{refl}
-use Rattle.complex.specs.Complex.{sum}
-use Rattle.complex.proofs.Complex64.add.Goals as goal
-
-pub returns : goal.returns
-unfolding sum
-returns c = refl
