@@ -18,7 +18,7 @@ use impulse_pause::PauseEdition;
 use stage_log::Repair;
 
 // An open run of flagged samples. `paused`: one of them lies in a paused block.
-#[derive(Clone, Copy)]
+#[derive(Clone, Copy, PartialEq, Debug)]
 pub struct Run {
     pub start: u64,
     pub len: u64,
@@ -36,14 +36,14 @@ pub struct GateSettings {
 
 // What a repair is made from: the open run, and its left neighbour, the newest judged sample that is not
 // flagged.
-#[derive(Clone, Copy)]
+#[derive(Clone, Copy, PartialEq, Debug)]
 pub struct Mending {
     pub run: Option<Run>,
     pub left: Option<u64>,
 }
 
 // A block of samples: its number, how many of its judged samples are flagged, and whether it is paused.
-#[derive(Clone, Copy)]
+#[derive(Clone, Copy, PartialEq, Debug)]
 pub struct Block {
     pub number: u64,
     pub flagged: u64,
@@ -285,7 +285,7 @@ impl ImpulseSuppressor {
                 ended: Ended::Going,
             };
         }
-        let x = self.pending[(j % ImpulseSuppressor::LOOKAHEAD as u64) as usize];
+        let x = self.pending[runs::place(j)];
         let ended = self.gate.ending(x, &mut self.pending);
         self.gate.take_neighbour(x);
         Judged { uncertain, ended }
@@ -325,11 +325,10 @@ impl ImpulseSuppressor {
         let answer = released(self.gate.settings.apply, i, out, x);
         self.gate.received = i + 1;
         let d = self.verdict(i, rising);
-        let ended = d.ended;
         Pushed {
             answer,
             uncertain: d.uncertain,
-            ended,
+            ended: d.ended,
         }
     }
 }

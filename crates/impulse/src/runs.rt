@@ -10,15 +10,19 @@ use crate::ImpulseSuppressor;
 use complex::Complex32;
 use stage_log::Repair;
 
+// Where sample k stands.
+pub fn place(k: u64) -> usize
+    ensures { result ≡ k % lookahead_size }
+{
+    (k % ImpulseSuppressor::LOOKAHEAD as u64) as usize
+}
+
 // Sample i takes its place, and the one that stood there is answered.
 pub fn hold(pending: &mut [u64; ImpulseSuppressor::LOOKAHEAD], i: u64, x: u64) -> u64
     ensures result { result ≡ get_or pending.old (i % lookahead_size) 0 }
     ensures words { pending.new ≡ set pending.old (i % lookahead_size) x }
 {
-    std::mem::replace(
-        &mut pending[(i % ImpulseSuppressor::LOOKAHEAD as u64) as usize],
-        x,
-    )
+    std::mem::replace(&mut pending[place(i)], x)
 }
 
 // Original t of the run of n that starts at `start`, and 0 past its end.
@@ -27,8 +31,7 @@ fn original(pending: &[u64; ImpulseSuppressor::LOOKAHEAD], start: u64, n: u64, t
     ensures { result ≡ get_or (read_run lookahead_size pending.now start n) t 0 }
 {
     if t < n {
-        let place = ((start + t) % ImpulseSuppressor::LOOKAHEAD as u64) as usize;
-        return pending[place];
+        return pending[place(start + t)];
     }
     0
 }
@@ -76,7 +79,6 @@ pub fn mend(
     ensures { pending.new ≡ write_run lookahead_size pending.old left right start n n }
 {
     for t in 0..n {
-        let place = ((start + t) % ImpulseSuppressor::LOOKAHEAD as u64) as usize;
-        pending[place] = mended_word(left, right, t, n);
+        pending[place(start + t)] = mended_word(left, right, t, n);
     }
 }

@@ -130,6 +130,7 @@ fn sorts_to(
 
 // ---- a full window, without sorting it
 
+// Functions, since only a number that is passed by value is known to be a value of its type.
 fn below(a: f32, b: f32) -> bool
     ensures result { result ≡ lt a b }
     ensures values { Held a × Held b }
@@ -144,7 +145,9 @@ fn equal(a: f32, b: f32) -> bool
     a == b
 }
 
-// Whether the powers are above 0, and each above the one before.
+// Whether the powers are above 0, and each above the one before. There is no branch in the loop, here and
+// below. `impulse_window::ascends` has the other comparison: one function over both would have to say what
+// its closure computes and of which values, in more lines than the loop has.
 fn strictly_ascends(sorted: &[f32; ImpulseSuppressor::WINDOW]) -> bool
     ensures result { result ≡ climbs lt zero_f sorted.now }
     ensures values { All Held sorted.now }

@@ -164,19 +164,17 @@ fn take(
 {
     let j = impulse::next_judged(suppressor.gate.received);
     let p = suppressor.push(samples[k]);
-    let answer = p.answer;
-    let ended = p.ended;
     note(
         notes,
         p.uncertain,
         j,
-        ended,
+        p.ended,
         spans,
         span_capacity,
         repairs,
         repair_capacity,
     );
-    put(samples, out, answer)
+    put(samples, out, p.answer)
 }
 
 // Takes the samples behind the first `held`, one after the other; the answer is how many were released.

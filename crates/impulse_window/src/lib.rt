@@ -31,10 +31,7 @@ fn beside(sorted: &[f32; WINDOW], gap: usize, k: usize) -> f32
     requires { (gap < window_size) × (k < window_size - 1) }
     ensures { result ≡ get_or (without sorted.now gap) k nan }
 {
-    if k < gap {
-        return sorted[k];
-    }
-    sorted[k + 1]
+    if k < gap { sorted[k] } else { sorted[k + 1] }
 }
 
 // Where p goes among the first n powers, the gap left out: before the first that is not below it.
@@ -84,6 +81,7 @@ fn exchange(sorted: &mut [f32; WINDOW], old: f32, p: f32)
 
 // ---- the same by minima and maxima, where the powers ascend from 0 on
 
+// A function, since only a number that is passed by value is known to be a value of its type.
 fn at_most(a: f32, b: f32) -> bool
     ensures result { result ≡ le a b }
     ensures values { Held a × Held b }
@@ -91,7 +89,7 @@ fn at_most(a: f32, b: f32) -> bool
     a <= b
 }
 
-// Whether they do. None is a NaN then.
+// Whether they do. None is a NaN then. There is no branch in the loop, here and in `blended`.
 fn ascends(sorted: &[f32; WINDOW]) -> bool
     ensures result { result ≡ climbs le zero_f sorted.now }
     ensures values { All Held sorted.now }
@@ -106,29 +104,20 @@ fn ascends(sorted: &[f32; WINDOW]) -> bool
 fn least(a: f32, b: f32) -> f32
     ensures { result ≡ least a b }
 {
-    if a < b {
-        return a;
-    }
-    b
+    if a < b { a } else { b }
 }
 
 fn most(a: f32, b: f32) -> f32
     ensures { result ≡ most a b }
 {
-    if a < b {
-        return b;
-    }
-    a
+    if a < b { b } else { a }
 }
 
 // With the old power gone, b comes in the place of an a that is not below it.
 fn moved(old: f32, a: f32, b: f32) -> f32
     ensures { result ≡ moved old a b }
 {
-    if a < old {
-        return a;
-    }
-    b
+    if a < old { a } else { b }
 }
 
 // What comes in the place of b, which stands between a and c.
@@ -219,10 +208,7 @@ fn reference(sorted: &[f32; WINDOW], n: usize) -> f64
 fn stands_out(r: f64, p: f32) -> bool
     ensures { result ≡ stands_out r p }
 {
-    if r > 0.0 {
-        return ieee::widen(p) > IMPULSE_RATIO * r;
-    }
-    false
+    r > 0.0 && ieee::widen(p) > IMPULSE_RATIO * r
 }
 
 // A power of at most 144 times a 32nd of the greatest kept one, x, is not above 144 times the mean.
@@ -239,10 +225,7 @@ fn is_quiet(sorted: &[f32; WINDOW], k: usize, rising: bool, p: f32) -> bool
     requires rising { rising ≡ true → Rising 0 sorted.now }
     ensures { result ≡ true → stands_out (mean (take k sorted.now)) p ≡ false }
 {
-    if !rising {
-        return false;
-    }
-    if k == 0 {
+    if !rising || k == 0 {
         return false;
     }
     is_near(sorted[k - 1], p)

@@ -11,6 +11,6 @@ use Rattle.impulse_window.proofs.beside.Goals as goal
 pub returns-then-k-gap : goal.returns-then-k-gap
 returns-then-k-gap c = let a = c.args in sym (without_before a.sorted.now a.gap a.k nan (search rules))
 
-pub returns : goal.returns
-returns c = let a = c.args in
+pub returns-else-k-gap : goal.returns-else-k-gap
+returns-else-k-gap c = let a = c.args in
     ap (λ (i : ℕ). get_or a.sorted.now i nan) (add-one a.k) ∙ sym (without_behind a.sorted.now a.gap a.k nan (search rules))

@@ -3,18 +3,11 @@ use mathlib.Core.Path.{◌≡◌, sym, ◌∙◌, subst}
 use mathlib.Core.Bool.{false}
 use Prim.Native.Nat.{ℕ, suc, ◌-◌}
 use native.Mathlib.Omega.{arith}
-use lib.Dec.{T}
 use lib.ListN.{take}
 use Rattle.rules.specs.Impulse.{stands_out}
 use Rattle.impulse_window.specs.Ordered.{mean}
 use Rattle.impulse_window.proofs.Quiet.{quiet}
 use Rattle.impulse_window.proofs.is_quiet.Goals as goal
-
-pub returns-then-not-rising : goal.returns-then-not-rising
-returns-then-not-rising c = λ e. absurd (subst T (sym e) tt)
-
-pub returns-then-k-eq0 : goal.returns-then-k-eq0
-returns-then-k-eq0 c = λ e. absurd (subst T (sym e) tt)
 
 pub returns : goal.returns
 returns c =

@@ -6,6 +6,6 @@ pub returns-then-r : goal.returns-then-r
 unfolding stands_out
 returns-then-r c = simp (c.if-r.true, c.widen.ensures)
 
-pub returns : goal.returns
+pub returns-else-r : goal.returns-else-r
 unfolding stands_out
-returns c = simp c.if-r.false
+returns-else-r c = simp c.if-r.false

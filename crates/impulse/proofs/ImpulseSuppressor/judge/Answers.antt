@@ -76,5 +76,5 @@ returns c =
     let d = sym (by_flag (setting_of m.gate) m.gate a.j a.p m.sorted m.pending false f) in
     record {
       result = simp (c.ending-ended.ensures.result, e, t) (ap judged_of d);
-      state = simp (c.take_neighbour.ensures, c.ending-ended.ensures.words, e, t) (ap (judged_by m) d);
+      state = simp (c.take_neighbour.ensures, c.ending-ended.ensures.words, c.place.ensures, e, t) (ap (judged_by m) d);
     }

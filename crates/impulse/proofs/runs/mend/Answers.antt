@@ -25,7 +25,8 @@ pub loop-t-preserved : goal.loop-t-preserved
 loop-t-preserved c =
     let i = c.loop-t in
     let a = c.args in
-    more lookahead_size i.pending a.pending.now a.left a.right a.start a.n i.t c.mended_word.result i.invariant c.mended_word.ensures
+    rw c.place.ensures
+    (more lookahead_size i.pending a.pending.now a.left a.right a.start a.n i.t c.mended_word.result i.invariant c.mended_word.ensures)
 
 pub returns : goal.returns
 returns c =

@@ -28,7 +28,7 @@ read_at size l a (suc n) t h = go (ℕ_discrete t n) (read_at size l a n t) (rea
     go (no e) r len = get_or-append (read_run size l a n) (get_or l ((a + n) % size) 0 ∷ []) 0 t (omega arith) ∙ r (omega arith)
 
 pub returns-then-t-n : goal.returns-then-t-n
-returns-then-t-n c = let a = c.args in sym (read_at lookahead_size a.pending.now a.start a.n a.t c.if-t-n.true)
+returns-then-t-n c = let a = c.args in rw c.place.ensures (sym (read_at lookahead_size a.pending.now a.start a.n a.t c.if-t-n.true))
 
 pub returns : goal.returns
 returns c = let a = c.args in let n = read_length lookahead_size a.pending.now a.start a.n in
