@@ -8,6 +8,7 @@ use native.Mathlib.Numerals.{add-one}
 use lib.ListN.{length, get_or, take, drop, set, length-set, length-append, length-drop, drop_of_length-le, get_or-append}
 use lib.Seq.{take_all, take-suc, drop-cons, take-append-le, take_at, drop_at, get_or-append-add, set_split, take-suc-set, drop-set-lt, get_or-take, take-take}
 use lib.Seq.{length-take-le}
+use Rattle.std.proofs.lemmas.List.{take-append-drop, drop-take}
 use lib.Ieee.{Float, nan, binary64, lt, add, mul}
 use borrow.Rule.Slice.PartMut.{mid_of, post_of, put_mid}
 use Rattle.rules.specs.Constants.{zero_f, one_half}
@@ -17,40 +18,27 @@ use Rattle.rules.proofs.laws.ListLaws.{read_any}
 use Rattle.rules.proofs.laws.SortLaws.{all_append}
 use Rattle.rules.specs.Lists.{All}
 
--- ---- `copy_powers`
-abbrev pub Copied : {A : Type 0} → List A → ℕ → List A → ℕ → Type 0
-Copied ws₀ n ws k = (k ≤ n) × (length ws ≡ length ws₀) × (take (3 * n + k) ws ≡ take (3 * n) ws₀ ++ take k ws₀)
+-- ---- `copy_powers`: behind the powers stand 2 n words, and then the powers again
+two_takes : {A : Type 0} (n m : ℕ) (l : List A) → take n l ++ take m (drop n l) ≡ take (n + m) l
+two_takes n m l =
+    ap (λ (x : List _). x ++ take m (drop n l)) (sym (take-take n (n + m) l (omega arith)))
+    ∙ ap (λ (x : List _). take n (take (n + m) l) ++ x) (sym (drop-take n m l))
+    ∙ take-append-drop n (take (n + m) l)
 
-pub copied_none : {A : Type 0} (ws : List A) (n : ℕ) → Copied ws n ws 0
-copied_none ws n =
-    let e : 3 * n + 0 ≡ 3 * n = omega arith in
-    (omega arith, refl, ap (λ (i : ℕ). take i ws) e ∙ sym (append-nil (take (3 * n) ws)))
-
-pub copied_next : {A : Type 0} (d : A) (ws₀ : List A) (n : ℕ) (ws : List A) (k : ℕ) → length ws₀ ≡ channel_width * n → k < n → Copied ws₀ n ws k
-    → Copied ws₀ n (set ws (3 * n + k) (get_or ws k d)) (k + 1)
-copied_next {A = A} d ws₀ n ws k len h c =
-    let i = 3 * n + k in
-    let same : get_or ws k d ≡ get_or ws₀ k d =
-    sym (get_or-take i ws k d (omega arith))
-    ∙ ap (λ (l : List A). get_or l k d) c.2
-    ∙ get_or-append (take (3 * n) ws₀) (take k ws₀) d k (let q = length-take-le (3 * n) ws₀ (omega arith) in omega arith)
-    ∙ get_or-take (3 * n) ws₀ k d (omega arith) in
-    let e : 3 * n + (k + 1) ≡ suc i = omega arith in (
-      omega arith,
-      length-set ws i (get_or ws k d) ∙ c.1,
-      ap (λ (j : ℕ). take j (set ws i (get_or ws k d))) e
-          ∙ take-suc-set ws i (get_or ws k d) (omega arith)
-          ∙ ap (λ (l : List A). l ++ (get_or ws k d ∷ [])) c.2
-          ∙ append_assoc (take (3 * n) ws₀) (take k ws₀) (get_or ws k d ∷ [])
-          ∙ ap (λ (x : A). take (3 * n) ws₀ ++ (take k ws₀ ++ (x ∷ []))) same
-          ∙ ap (λ (l : List A). take (3 * n) ws₀ ++ l) (sym (ap (λ (j : ℕ). take j ws₀) (add-one k) ∙ take-suc ws₀ k d (omega arith))),
-    )
-
-pub copied_all : {A : Type 0} (ws₀ : List A) (n : ℕ) (ws : List A) (k : ℕ) → length ws₀ ≡ channel_width * n → n ≤ k → Copied ws₀ n ws k
-    → ws ≡ take (3 * n) ws₀ ++ take n ws₀
-copied_all {A = A} ws₀ n ws k len h c =
-    let e : k ≡ n = omega arith in
-    sym (take_all (3 * n + k) ws (omega arith)) ∙ c.2 ∙ ap (λ (i : ℕ). take (3 * n) ws₀ ++ take i ws₀) e
+pub copied : {A : Type 0} (n : ℕ) (ws front back part : List A) → length ws ≡ channel_width * n → front ≡ take n ws → back ≡ drop n ws → part ≡ front
+    → front ++ put_mid (2 * n) (length back - 2 * n) back part ≡ take (3 * n) ws ++ take n ws
+copied {A = A} n ws front back part len f b p =
+    let size : length back ≡ 3 * n = ap length b ∙ length-drop n ws ∙ omega arith in
+    let none : post_of (2 * n) (length back - 2 * n) back ≡ [] =
+    drop_of_length-le (drop (2 * n) back) {i = length back - 2 * n} (let d = length-drop (2 * n) back in omega arith) in
+    ap (λ (x : List A). front ++ (take (2 * n) back ++ (part ++ x))) none
+    ∙ ap (λ (x : List A). front ++ (take (2 * n) back ++ x)) (append-nil part ∙ p ∙ f)
+    ∙ sym (append_assoc front (take (2 * n) back) (take n ws))
+    ∙ ap (λ (x : List A). x ++ take n ws)
+    (ap (λ (x : List A). x ++ take (2 * n) back) f
+    ∙ ap (λ (x : List A). take n ws ++ take (2 * n) x) b
+    ∙ two_takes n (2 * n) ws
+    ∙ ap (λ (i : ℕ). take i ws) (let e : n + 2 * n ≡ 3 * n = omega arith in e))
 
 -- ---- `sink`: what is behind i is as it was, and a is to be inserted there
 abbrev pub Sinking : List Float → ℕ → Float → List Float → ℕ → Type 0

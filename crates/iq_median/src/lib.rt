@@ -2,7 +2,7 @@
 // n powers, 2 n words that stay as they are, and n for sorting.
 #![tactic(auto)]
 
-ghost use Rattle.std.specs.Prelude.{◌≡◌, ◌+◌, ◌-◌, ◌*◌, ◌/◌, ◌≤◌, ◌<◌, T, length, get_or, take, drop, ◌++◌};
+ghost use Rattle.std.specs.Prelude.{Bool, Float, ◌≡◌, ◌+◌, ◌-◌, ◌*◌, ◌/◌, ◌≤◌, ◌<◌, T, length, get_or, take, drop, ◌++◌};
 ghost use Rattle.std.specs.Float.{nan, binary64};
 ghost use Rattle.std.specs.Float.Ieee.{lt, fits};
 ghost use Rattle.ieee.specs.Plain.{sign_clear, Plain};
@@ -10,7 +10,7 @@ ghost use Rattle.rules.specs.Lists.{all_of, All};
 ghost use Rattle.rules.specs.Sort.{insert, sort};
 ghost use Rattle.rules.specs.Monitor.{floor_of, channel_width};
 ghost use Rattle.rules.specs.Constants.{size_limit};
-ghost use Rattle.iq_median.specs.Select.{below_of, above_of, Window, Turning, Narrowed, Selected, least_above};
+ghost use Rattle.iq_median.specs.Select.{passing, below_of, above_of, Window, Turning, Narrowed, Selected, least_above};
 
 // How many words are below one, and how many above.
 #[derive(Drop)]
@@ -37,6 +37,7 @@ fn sink(part: &mut [f64], k: usize)
 {
     let a = part[k];
     let mut i = k;
+    // the walk finds the place where it stops: how many turns that takes is not known before
     while i + 1 < part.len() && part[i + 1] < a {
         part[i] = part[i + 1];
         i += 1;
@@ -48,32 +49,27 @@ fn sink(part: &mut [f64], k: usize)
 pub fn sort_words(part: &mut [f64])
     ensures { part.new ≡ sort lt part.old }
 {
-    let mut k = part.len();
-    while 0 < k {
-        k -= 1;
+    for k in (0..part.len()).rev() {
         sink(part, k);
     }
 }
 
 // The powers, over the sorting words.
 fn copy_powers(words: &mut [f64], n: usize)
-    requires fact_1 { length words.old ≡ channel_width * n }
-    requires fact_2 { n ≤ size_limit }
+    requires store { length words.old ≡ channel_width * n }
+    requires few { n ≤ size_limit }
     ensures { words.new ≡ take (3 * n) words.old ++ take n words.old }
 {
-    let mut k: usize = 0;
-    while k < n {
-        let spare = 3 * n + k;
-        words[spare] = words[k];
-        k += 1;
-    }
+    let (powers, rest) = words.split_at_mut(n);
+    let from = 2 * n;
+    rest[from..].copy_from_slice(powers);
 }
 
 // Half the sum of the two powers in the middle, from all of them sorted.
 fn sorted_floor(words: &mut [f64], n: usize) -> f64
-    requires fact_1 { length words.old ≡ channel_width * n }
-    requires fact_2 { n ≤ size_limit }
-    requires fact_3 { 0 < n }
+    requires store { length words.old ≡ channel_width * n }
+    requires few { n ≤ size_limit }
+    requires some { 0 < n }
     ensures { result ≡ floor_of (take n words.old) }
 {
     copy_powers(words, n);
@@ -99,10 +95,8 @@ pub fn all_plain(part: &[f64]) -> bool
     ensures { (result ≡ all_of sign_clear part.now) × All (λ x. T (fits binary64 x)) part.now }
 {
     let mut others: usize = 0;
-    let mut k: usize = 0;
-    while k < part.len() {
-        others += !is_plain(part[k]) as usize;
-        k += 1;
+    for x in part {
+        others += !is_plain(*x) as usize;
     }
     others == 0
 }
@@ -113,41 +107,24 @@ fn count_sides(part: &[f64], p: f64) -> Sides
 {
     let mut below: usize = 0;
     let mut above: usize = 0;
-    let mut k: usize = 0;
-    while k < part.len() {
-        below += (part[k] < p) as usize;
-        above += (p < part[k]) as usize;
-        k += 1;
+    for x in part {
+        below += (*x < p) as usize;
+        above += (p < *x) as usize;
     }
     Sides { below, above }
 }
 
-// Moves the words below p to the front, in order, and counts them.
-fn keep_below(part: &mut [f64], p: f64) -> usize
-    ensures { (result ≤ length part.old) × (take result part.new ≡ below_of p part.old) }
+// Moves the words that are kept to the front, in order, and counts them.
+fn keep<F: Fn(f64) -> bool>(part: &mut [f64], keeps: F) -> usize
+    requires { F.IsAlwaysCallable keeps }
+    ensures most { result ≤ length part.old }
+    ensures kept { (t : Float → Bool) → ((x : Float) (b : Bool) → F.post keeps x b → b ≡ t x) → take result part.new ≡ passing t part.old }
 {
     let mut kept: usize = 0;
-    let mut k: usize = 0;
-    while k < part.len() {
+    for k in 0..part.len() {
         let x = part[k];
         part[kept] = x;
-        kept += (x < p) as usize;
-        k += 1;
-    }
-    kept
-}
-
-// Moves the words above p to the front.
-fn keep_above(part: &mut [f64], p: f64) -> usize
-    ensures { (result ≤ length part.old) × (take result part.new ≡ above_of p part.old) }
-{
-    let mut kept: usize = 0;
-    let mut k: usize = 0;
-    while k < part.len() {
-        let x = part[k];
-        part[kept] = x;
-        kept += (p < x) as usize;
-        k += 1;
+        kept += keeps(x) as usize;
     }
     kept
 }
@@ -175,113 +152,93 @@ fn median(a: f64, b: f64, c: f64) -> f64
     b
 }
 
-// A power to compare the words of a window with: any is right, and one in their middle is fast.
-// When this took too many turns, the bits that it can have are halved.
-fn pivot(part: &[f64], low: u64, high: u64, left: u64) -> f64
-    requires fact_1 { 0 < length part.now }
-    requires fact_2 { All (Plain binary64) part.now }
-    ensures { Plain binary64 result }
-{
-    let middle = part.len() / 2;
-    if left <= 64 {
-        let p = ieee::from_bits64(low / 2 + high / 2);
-        if is_plain(p) {
-            return p;
+impl Search {
+    // A power to compare the words of a window with: any is right, and one in their middle is fast.
+    // When this took too many turns, the bits that it can have are halved.
+    fn pivot(&self, part: &[f64]) -> f64
+        requires some { 0 < length part.now }
+        requires plain { All (Plain binary64) part.now }
+        ensures { Plain binary64 result }
+    {
+        let middle = part.len() / 2;
+        if self.left <= 64 {
+            let p = ieee::from_bits64(self.low / 2 + self.high / 2);
+            if is_plain(p) {
+                return p;
+            }
+            return part[middle];
         }
-        return part[middle];
+        let first = part.len() / 4;
+        let last = middle + first;
+        median(part[first], part[middle], part[last])
     }
-    let first = part.len() / 4;
-    let last = middle + first;
-    median(part[first], part[middle], part[last])
-}
 
-// The place is among the words below p.
-fn search_below(part: &mut [f64], s: Search, p: f64) -> Search
-    requires fact_1 { Turning part.old s p }
-    requires fact_2 { s.place < length (below_of p (take s.count part.old)) }
-    ensures { Narrowed part.old s part.new result }
-{
-    let m = s.count;
-    let count = keep_below(&mut part[..m], p);
-    Search {
-        count,
-        place: s.place,
-        low: s.low,
-        high: ieee::to_bits64(p),
-        left: s.left - 1,
+    // The place is among the words below p.
+    fn go_below(&mut self, part: &mut [f64], p: f64)
+        requires turning { Turning part.old self.old p }
+        requires among { self.old.place < length (below_of p (take self.old.count part.old)) }
+        ensures { Narrowed part.old self.old part.new self.new }
+    {
+        let m = self.count;
+        self.count = keep(&mut part[..m], |x| x < p);
+        self.high = ieee::to_bits64(p);
+        self.left -= 1;
     }
-}
 
-// It is among those above p: so many are not.
-fn search_above(part: &mut [f64], s: Search, p: f64, passed: usize) -> Search
-    requires fact_1 { Turning part.old s p }
-    requires fact_2 { passed + length (above_of p (take s.count part.old)) ≡ s.count }
-    requires fact_3 { passed ≤ s.place }
-    ensures { Narrowed part.old s part.new result }
-{
-    let m = s.count;
-    let count = keep_above(&mut part[..m], p);
-    Search {
-        count,
-        place: s.place - passed,
-        low: ieee::to_bits64(p),
-        high: s.high,
-        left: s.left - 1,
+    // It is among those above p: so many are not.
+    fn go_above(&mut self, part: &mut [f64], p: f64, passed: usize)
+        requires turning { Turning part.old self.old p }
+        requires counted { passed + length (above_of p (take self.old.count part.old)) ≡ self.old.count }
+        requires among { passed ≤ self.old.place }
+        ensures { Narrowed part.old self.old part.new self.new }
+    {
+        let m = self.count;
+        self.count = keep(&mut part[..m], |x| p < x);
+        self.place -= passed;
+        self.low = ieee::to_bits64(p);
+        self.left -= 1;
     }
-}
 
-// It is among those equal to p, and so is the next place if that is before passed.
-fn search_equal(part: &mut [f64], s: Search, p: f64, passed: usize) -> Search
-    requires fact_1 { Turning part.old s p }
-    requires fact_2 { passed + length (above_of p (take s.count part.old)) ≡ s.count }
-    requires fact_3 { s.place < passed }
-    requires fact_4 { length (below_of p (take s.count part.old)) ≤ s.place }
-    ensures { Narrowed part.old s part.new result }
-{
-    part[0] = p;
-    part[1] = p;
-    if s.place + 1 < passed {
-        return Search {
-            count: 2,
-            place: 0,
-            low: s.low,
-            high: s.high,
-            left: s.left - 1,
-        };
+    // It is among those equal to p, and so is the next place if that is before passed.
+    fn stay(&mut self, part: &mut [f64], p: f64, passed: usize)
+        requires turning { Turning part.old self.old p }
+        requires counted { passed + length (above_of p (take self.old.count part.old)) ≡ self.old.count }
+        requires before { self.old.place < passed }
+        requires behind { length (below_of p (take self.old.count part.old)) ≤ self.old.place }
+        ensures { Narrowed part.old self.old part.new self.new }
+    {
+        part[0] = p;
+        part[1] = p;
+        self.count = if self.place + 1 < passed { 2 } else { 1 };
+        self.place = 0;
+        self.left -= 1;
     }
-    Search {
-        count: 1,
-        place: 0,
-        low: s.low,
-        high: s.high,
-        left: s.left - 1,
-    }
-}
 
-fn turn(part: &mut [f64], s: Search) -> Search
-    requires fact_1 { Window part.old s }
-    requires fact_2 { 1 < s.count }
-    requires fact_3 { 0 < s.left }
-    ensures { Narrowed part.old s part.new result }
-{
-    let m = s.count;
-    let p = pivot(&part[..m], s.low, s.high, s.left);
-    let r = count_sides(&part[..m], p);
-    if s.place < r.below {
-        return search_below(part, s, p);
+    fn turn(&mut self, part: &mut [f64])
+        requires window { Window part.old self.old }
+        requires many { 1 < self.old.count }
+        requires turns { 0 < self.old.left }
+        ensures { Narrowed part.old self.old part.new self.new }
+    {
+        let m = self.count;
+        let p = self.pivot(&part[..m]);
+        let r = count_sides(&part[..m], p);
+        if self.place < r.below {
+            return self.go_below(part, p);
+        }
+        let passed = m - r.above;
+        if passed <= self.place {
+            return self.go_above(part, p, passed);
+        }
+        self.stay(part, p, passed)
     }
-    let passed = m - r.above;
-    if passed <= s.place {
-        return search_above(part, s, p, passed);
-    }
-    search_equal(part, s, p, passed)
 }
 
 // Sorts a part of the words, in front, that has the one at this place of all of them sorted. What
 // is left when the turns are used up are equals, which are sorted in one pass.
 fn select(part: &mut [f64], place: usize) -> Search
-    requires fact_1 { place < length part.old }
-    requires fact_2 { All (Plain binary64) part.old }
+    requires inside { place < length part.old }
+    requires plain { All (Plain binary64) part.old }
     ensures { Selected part.old place part.new result }
 {
     let mut s = Search {
@@ -292,7 +249,7 @@ fn select(part: &mut [f64], place: usize) -> Search
         left: 80,
     };
     while 16 < s.count && 0 < s.left {
-        s = turn(part, s);
+        s.turn(part);
     }
     let m = s.count;
     sort_words(&mut part[..m]);
@@ -304,26 +261,20 @@ fn least_above(part: &[f64], p: f64) -> f64
     ensures { result ≡ least_above p part.now }
 {
     let mut least: f64 = 0.0 / 0.0;
-    let mut k = part.len();
-    while 0 < k {
-        k -= 1;
+    for k in (0..part.len()).rev() {
         let x = part[k];
-        if !(p < x) {
-            continue;
+        if p < x && !(least < x) {
+            least = x;
         }
-        if least < x {
-            continue;
-        }
-        least = x;
     }
     least
 }
 
 // The power after the sorted place k, whose power is p.
 fn next_power(powers: &[f64], k: usize, p: f64) -> f64
-    requires fact_1 { k + 1 < length powers.now }
-    requires fact_2 { All (Plain binary64) powers.now }
-    requires fact_3 { p ≡ get_or (sort lt powers.now) k nan }
+    requires next { k + 1 < length powers.now }
+    requires plain { All (Plain binary64) powers.now }
+    requires power { p ≡ get_or (sort lt powers.now) k nan }
     ensures { result ≡ get_or (sort lt powers.now) (k + 1) nan }
 {
     let r = count_sides(powers, p);
@@ -334,11 +285,11 @@ fn next_power(powers: &[f64], k: usize, p: f64) -> f64
 }
 
 // The power at the upper of the two places in the middle, where p is that at the lower.
-fn upper_power(words: &[f64], n: usize, s: Search, p: f64) -> f64
-    requires fact_1 { (length words.now ≡ channel_width * n) × (n ≤ size_limit) × (0 < n) }
-    requires fact_2 { All (Plain binary64) (take n words.now) }
-    requires fact_3 { Selected (take n words.now) ((n - 1) / 2) (drop (3 * n) words.now) s }
-    requires fact_4 { p ≡ get_or (sort lt (take n words.now)) ((n - 1) / 2) nan }
+fn upper_power(words: &[f64], n: usize, s: &Search, p: f64) -> f64
+    requires sizes { (length words.now ≡ channel_width * n) × (n ≤ size_limit) × (0 < n) }
+    requires plain { All (Plain binary64) (take n words.now) }
+    requires found { Selected (take n words.now) ((n - 1) / 2) (drop (3 * n) words.now) s.now }
+    requires power { p ≡ get_or (sort lt (take n words.now)) ((n - 1) / 2) nan }
     ensures { result ≡ get_or (sort lt (take n words.now)) (n / 2) nan }
 {
     let low = (n - 1) / 2;
@@ -355,10 +306,10 @@ fn upper_power(words: &[f64], n: usize, s: Search, p: f64) -> f64
 
 // Half the sum of the two powers in the middle, from a selection.
 fn selected_floor(words: &mut [f64], n: usize) -> f64
-    requires fact_1 { length words.old ≡ channel_width * n }
-    requires fact_2 { n ≤ size_limit }
-    requires fact_3 { 0 < n }
-    requires fact_4 { All (Plain binary64) (take n words.old) }
+    requires store { length words.old ≡ channel_width * n }
+    requires few { n ≤ size_limit }
+    requires some { 0 < n }
+    requires plain { All (Plain binary64) (take n words.old) }
     ensures { result ≡ floor_of (take n words.old) }
 {
     copy_powers(words, n);
@@ -366,15 +317,15 @@ fn selected_floor(words: &mut [f64], n: usize) -> f64
     let s = select(&mut words[from..], (n - 1) / 2);
     let at = from + s.place;
     let p = words[at];
-    let q = upper_power(words, n, s, p);
+    let q = upper_power(words, n, &s, p);
     (p + q) * 0.5
 }
 
 // The order of powers is total unless there is a NaN or a set sign bit.
 pub fn floor_power(words: &mut [f64], n: usize) -> f64
-    requires fact_1 { length words.old ≡ channel_width * n }
-    requires fact_2 { n ≤ size_limit }
-    requires fact_3 { 0 < n }
+    requires store { length words.old ≡ channel_width * n }
+    requires few { n ≤ size_limit }
+    requires some { 0 < n }
     ensures { result ≡ floor_of (take n words.old) }
 {
     if all_plain(&words[..n]) {

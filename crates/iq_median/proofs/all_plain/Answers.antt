@@ -11,29 +11,29 @@ use Rattle.rules.proofs.laws.ListLaws.{good_done, none_next, bit}
 use Rattle.iq_median.proofs.Lists.{all_at}
 use Rattle.iq_median.proofs.all_plain.Goals as goal
 
-pub loop-k-init : goal.loop-k-init
-loop-k-init c = (omega arith, omega arith, refl, tt)
+pub loop-x-init : goal.loop-x-init
+loop-x-init c = (omega arith, omega arith, refl, tt)
 
 pub overflow_add-others : goal.overflow_add-others
 overflow_add-others c = omega (arith, bit (not c.is_plain.result))
 
-pub loop-k-preserved : goal.loop-k-preserved
-loop-k-preserved c =
+pub loop-x-preserved : goal.loop-x-preserved
+loop-x-preserved c =
     let l = c.args.part.now in
-    let v = c.loop-k in
-    let h = c.loop-k-test.true in
+    let v = c.loop-x in
+    let h = c.loop-x-test.true in
     let t = c.is_plain.ensures in
     let b = bit (not c.is_plain.result) in (
       omega arith,
       omega arith,
-      none_next sign_clear nan l v.k v.others c.is_plain.result h t.0 v.invariant.2,
-      all_at (λ x. T (fits binary64 x)) l v.k h t.1 v.invariant.3,
+      none_next sign_clear nan l v.x-index v.others c.is_plain.result h t.0 v.invariant.2,
+      all_at (λ x. T (fits binary64 x)) l v.x-index h t.1 v.invariant.3,
     )
 
 pub returns : goal.returns
 returns c =
     let l = c.args.part.now in
-    let v = c.loop-k in (
-      good_done sign_clear l v.k (eqb v.others 0) c.loop-k-test.false v.invariant.2,
-      subst (All (λ x. T (fits binary64 x))) (take_all v.k l c.loop-k-test.false) v.invariant.3,
+    let v = c.loop-x in (
+      good_done sign_clear l v.x-index (eqb v.others 0) c.loop-x-test.false v.invariant.2,
+      subst (All (λ x. T (fits binary64 x))) (take_all v.x-index l c.loop-x-test.false) v.invariant.3,
     )

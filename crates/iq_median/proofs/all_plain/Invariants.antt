@@ -1,7 +1,7 @@
 -- `iq_median::all_plain` counts the words that are not plain. Assumes nothing.
 use mathlib.Core.Path.{◌≡◌}
 use mathlib.Core.Bool.{◌&&◌}
-use Prim.Native.Nat.{◌-◌, ◌≤◌}
+use Prim.Native.Nat.{◌≤◌}
 use lib.Dec.{T, eqb}
 use lib.ListN.{length, take, drop}
 use lib.Ieee.{binary64, fits}
@@ -10,9 +10,6 @@ use Rattle.rules.specs.Lists.{All}
 use Rattle.rules.specs.Lists.{all_of}
 use Rattle.iq_median.proofs.all_plain.Given as goal
 
-abbrev pub invariant-loop-k : goal.invariant-loop-k
-invariant-loop-k l = (l.k ≤ length l.part) × (l.others ≤ l.k) × ((eqb l.others 0 && all_of sign_clear (drop l.k l.part)) ≡ all_of sign_clear l.part)
-    × All (λ x. T (fits binary64 x)) (take l.k l.part)
-
-abbrev pub decreases-loop-k : goal.decreases-loop-k
-decreases-loop-k l = length l.part - l.k
+abbrev pub invariant-loop-x : goal.invariant-loop-x
+invariant-loop-x l = (l.x-index ≤ length l.part) × (l.others ≤ l.x-index) × ((eqb l.others 0 && all_of sign_clear (drop l.x-index l.part)) ≡ all_of sign_clear l.part)
+    × All (λ x. T (fits binary64 x)) (take l.x-index l.part)

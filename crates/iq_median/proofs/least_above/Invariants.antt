@@ -7,6 +7,3 @@ use Rattle.iq_median.proofs.least_above.Given as goal
 
 abbrev pub invariant-loop-k : goal.invariant-loop-k
 invariant-loop-k l = (l.k ≤ length l.part) × (l.least ≡ least_above l.p (drop l.k l.part))
-
-abbrev pub decreases-loop-k : goal.decreases-loop-k
-decreases-loop-k l = l.k

@@ -10,10 +10,10 @@ overflow_sub-powers c = let a = c.args in let n = passing_length (λ x. lt a.p x
     omega (arith, c.count_sides-r.ensures.1)
 
 pub returns-then-k-powers : goal.returns-then-k-powers
-returns-then-k-powers c = next_same c.args.powers.now c.args.k c.args.p c.count_sides-r.result.above c.requires.fact_2 c.requires.fact_1 c.requires.fact_3
+returns-then-k-powers c = next_same c.args.powers.now c.args.k c.args.p c.count_sides-r.result.above c.requires.plain c.requires.next c.requires.power
     c.count_sides-r.ensures.1 c.if-k-powers.true
 
 pub returns : goal.returns
 returns c = c.least_above.ensures
-    ∙ next_above c.args.powers.now c.args.k c.args.p c.count_sides-r.result.above c.requires.fact_2 c.requires.fact_1
-    c.requires.fact_3 c.count_sides-r.ensures.1 c.if-k-powers.false
+    ∙ next_above c.args.powers.now c.args.k c.args.p c.count_sides-r.result.above c.requires.plain c.requires.next
+    c.requires.power c.count_sides-r.ensures.1 c.if-k-powers.false

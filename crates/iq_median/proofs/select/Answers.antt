@@ -6,22 +6,22 @@ use Rattle.iq_median.proofs.Selecting.{going_first, going_next, found_length, fo
 use Rattle.iq_median.proofs.select.Goals as goal
 
 pub loop-s-init : goal.loop-s-init
-loop-s-init c = going_first c.args.part.now c.args.place _ refl refl c.requires.fact_1 c.requires.fact_2
+loop-s-init c = going_first c.args.part.now c.args.place _ refl refl c.requires.inside c.requires.plain
 
-pub turn-s-requires : goal.turn-s-requires
-turn-s-requires c = let v = c.loop-s in
+pub turn-requires : goal.turn-requires
+turn-requires c = let v = c.loop-s in
     record {
-      fact_1 = v.invariant.0;
-      fact_2 = (let h = c.loop-s-test.true in omega arith);
-      fact_3 = c.if-s-gt0.true;
+      window = v.invariant.0;
+      many = (let h = c.loop-s-test.true in omega arith);
+      turns = c.if-s-gt0.true;
     }
 
 pub loop-s-smaller : goal.loop-s-smaller
-loop-s-smaller c = omega (arith, c.turn-s.ensures.turns)
+loop-s-smaller c = omega (arith, c.turn.ensures.turns)
 
 pub loop-s-preserved : goal.loop-s-preserved
 loop-s-preserved c = let v = c.loop-s in
-    let a = c.args in let k = c.turn-s in
+    let a = c.args in let k = c.turn in
     going_next a.part.now a.place v.part _ v.s _ v.invariant k.auto.part k.ensures
 
 pub slice_bounds-sort_words-end : goal.slice_bounds-sort_words-end

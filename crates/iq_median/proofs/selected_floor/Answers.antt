@@ -13,12 +13,12 @@ use Rattle.iq_median.proofs.selected_floor.Goals as goal
 pub select-s-requires : goal.select-s-requires
 select-s-requires c =
     let a = c.args in
-    let h = c.requires.fact_3 in
-    let e = lent_powers a.n a.words.now _ c.requires.fact_1 c.copy_powers.ensures in
-    let n = ap length e ∙ length-take-le a.n a.words.now (omega (arith, c.requires.fact_1)) in
+    let h = c.requires.some in
+    let e = lent_powers a.n a.words.now _ c.requires.store c.copy_powers.ensures in
+    let n = ap length e ∙ length-take-le a.n a.words.now (omega (arith, c.requires.store)) in
     record {
-      fact_1 = omega arith;
-      fact_2 = subst (All (Plain binary64)) (sym e) c.requires.fact_4;
+      inside = omega arith;
+      plain = subst (All (Plain binary64)) (sym e) c.requires.plain;
     }
 
 pub upper_power-q-requires : goal.upper_power-q-requires
@@ -26,18 +26,18 @@ upper_power-q-requires c =
     let a = c.args in
     let e = c.copy_powers.ensures in
     let k = c.select-s in
-    let kept = powers_kept a.n a.words.now _ k.new.part k.result c.requires.fact_1 c.requires.fact_3 e k.ensures in
+    let kept = powers_kept a.n a.words.now _ k.new.part k.result c.requires.store c.requires.some e k.ensures in
     record {
-      fact_1 = (final_length a.n a.words.now _ k.new.part k.result c.requires.fact_1 c.requires.fact_3 e k.ensures k.auto.part, c.requires.fact_2, c.requires.fact_3);
-      fact_2 = subst (All (Plain binary64)) (sym kept) c.requires.fact_4;
-      fact_3 = searched a.n a.words.now _ k.new.part k.result c.requires.fact_1 c.requires.fact_3 e k.ensures;
-      fact_4 = lower_power a.n a.words.now _ k.new.part k.result c.requires.fact_1 c.requires.fact_3 e k.ensures;
+      sizes = (final_length a.n a.words.now _ k.new.part k.result c.requires.store c.requires.some e k.ensures k.auto.part, c.requires.few, c.requires.some);
+      plain = subst (All (Plain binary64)) (sym kept) c.requires.plain;
+      found = searched a.n a.words.now _ k.new.part k.result c.requires.store c.requires.some e k.ensures;
+      power = lower_power a.n a.words.now _ k.new.part k.result c.requires.store c.requires.some e k.ensures;
     }
 
 pub returns : goal.returns
 returns c =
     let a = c.args in
     let k = c.select-s in
-    floor_found a.n a.words.now _ k.new.part k.result c.requires.fact_1 c.requires.fact_3
+    floor_found a.n a.words.now _ k.new.part k.result c.requires.store c.requires.some
     c.copy_powers.ensures k.ensures c.upper_power-q.result
     c.upper_power-q.ensures

@@ -4,6 +4,3 @@ use Rattle.iq_median.proofs.sort_words.Given as goal
 
 abbrev pub invariant-loop-k : goal.invariant-loop-k
 invariant-loop-k l = Sorting l.initial.part l.part l.k
-
-abbrev pub decreases-loop-k : goal.decreases-loop-k
-decreases-loop-k l = l.k

@@ -6,6 +6,6 @@ pub returns : goal.returns
 returns c =
     let ws = c.args.words.now in
     let n = c.args.n in
-    let e = sorted_in_place n ws _ _ c.requires.fact_1 c.copy_powers.ensures
+    let e = sorted_in_place n ws _ _ c.requires.store c.copy_powers.ensures
     c.sort_words.ensures in
-    floor_read n ws _ c.requires.fact_3 c.requires.fact_1 e
+    floor_read n ws _ c.requires.some c.requires.store e

@@ -10,28 +10,28 @@ use Rattle.iq_median.proofs.upper_power.Goals as goal
 use Rattle.iq_median.proofs.upper_power.Goals.{Start}
 
 powers_count : (c : Start) → length (take c.args.n c.args.words.now) ≡ c.args.n
-powers_count c = length-take-le c.args.n c.args.words.now (omega (arith, c.requires.fact_1.0))
+powers_count c = length-take-le c.args.n c.args.words.now (omega (arith, c.requires.sizes.0))
 
-within : (c : Start) → c.args.s.count ≤ c.args.n
-within c = let a = length-drop (3 * c.args.n) c.args.words.now in omega (arith, c.requires.fact_1.0, c.requires.fact_3.most)
+within : (c : Start) → c.args.s.now.count ≤ c.args.n
+within c = let a = length-drop (3 * c.args.n) c.args.words.now in omega (arith, c.requires.sizes.0, c.requires.found.most)
 
 pub returns-then-low-n : goal.returns-then-low-n
-returns-then-low-n c = c.requires.fact_4 ∙ ap (λ (i : ℕ). get_or (sort lt (take c.args.n c.args.words.now)) i nan) c.if-low-n.true
+returns-then-low-n c = c.requires.power ∙ ap (λ (i : ℕ). get_or (sort lt (take c.args.n c.args.words.now)) i nan) c.if-low-n.true
 
 pub overflow_add-at : goal.overflow_add-at
-overflow_add-at c = let h = within (goal.at.overflow_add-at c).Start in omega (arith, c.requires.fact_1.1, c.if-next-s.true)
+overflow_add-at c = let h = within (goal.at.overflow_add-at c).Start in omega (arith, c.requires.sizes.1, c.if-next-s.true)
 
 pub offset_bounds-words-at : goal.offset_bounds-words-at
-offset_bounds-words-at c = let h = within (goal.at.offset_bounds-words-at c).Start in omega (arith, c.requires.fact_1.1, c.if-next-s.true)
+offset_bounds-words-at c = let h = within (goal.at.offset_bounds-words-at c).Start in omega (arith, c.requires.sizes.1, c.if-next-s.true)
 
 pub bounds-words-at : goal.bounds-words-at
-bounds-words-at c = let h = within (goal.at.bounds-words-at c).Start in omega (arith, c.requires.fact_1.0, c.if-next-s.true)
+bounds-words-at c = let h = within (goal.at.bounds-words-at c).Start in omega (arith, c.requires.sizes.0, c.if-next-s.true)
 
 pub returns-then-next-s : goal.returns-then-next-s
 returns-then-next-s c =
     let a = c.args in
-    let next : (a.n - 1) / 2 + 1 ≡ a.n / 2 = omega (arith, c.requires.fact_1.2, c.if-low-n.false) in
-    sym (get_or-drop (3 * a.n) a.words.now (a.s.place + 1) nan) ∙ c.requires.fact_3.same 1 c.if-next-s.true
+    let next : (a.n - 1) / 2 + 1 ≡ a.n / 2 = omega (arith, c.requires.sizes.2, c.if-low-n.false) in
+    sym (get_or-drop (3 * a.n) a.words.now (a.s.now.place + 1) nan) ∙ c.requires.found.same 1 c.if-next-s.true
     ∙ ap (λ (i : ℕ). get_or (sort lt (take a.n a.words.now)) i nan) next
 
 pub slice_bounds-next_power-end : goal.slice_bounds-next_power-end
@@ -40,13 +40,13 @@ slice_bounds-next_power-end c = sym (powers_count (goal.at.slice_bounds-next_pow
 pub next_power-requires : goal.next_power-requires
 next_power-requires c = let n = powers_count (goal.at.next_power-requires c).Start in
     record {
-      fact_1 = omega (arith, c.requires.fact_1.2, c.if-low-n.false);
-      fact_2 = c.requires.fact_2;
-      fact_3 = c.requires.fact_4;
+      next = omega (arith, c.requires.sizes.2, c.if-low-n.false);
+      plain = c.requires.plain;
+      power = c.requires.power;
     }
 
 pub returns : goal.returns
 returns c =
     let a = c.args in
-    let next : (a.n - 1) / 2 + 1 ≡ a.n / 2 = omega (arith, c.requires.fact_1.2, c.if-low-n.false) in
+    let next : (a.n - 1) / 2 + 1 ≡ a.n / 2 = omega (arith, c.requires.sizes.2, c.if-low-n.false) in
     c.next_power.ensures ∙ ap (λ (i : ℕ). get_or (sort lt (take a.n a.words.now)) i nan) next
