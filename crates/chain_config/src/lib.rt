@@ -6,7 +6,7 @@ ghost use Rattle.stage_mode.specs.View.{mode_of};
 ghost use Rattle.chain_config.specs.Config.{config_of, all_off, forced, observed, number_of, setting_refusal, refusal};
 
 use impulse_pause::PauseEdition;
-use iq::Calibration;
+use iq::IqCalibration;
 use iq_monitor::ImageMonitor;
 use stage_mode::StageMode;
 
@@ -27,7 +27,7 @@ pub struct ConditioningConfig {
     pub fs: f64,
     pub centre: f64,
     pub n: usize,
-    pub calibration: Calibration,
+    pub calibration: Option<IqCalibration>,
     pub spans: usize,
     pub repairs: usize,
     pub edition: PauseEdition,

@@ -10,8 +10,6 @@ use Rattle.rules.specs.Refusals.{Cause, first_of, bad_length}
 use Rattle.stage_log.specs.View.{ring_in}
 use Rattle.chain_state.specs.declared.InputConditioner.{InputConditioner}
 use Rattle.chain_state.specs.Causes.{bad_state}
-use Rattle.chain_undo.specs.declared.Undone.{Undone}
-use Rattle.chain_undo.specs.declared.Undone.TheVariants as answer
 
 -- ---- the held records
 
@@ -41,12 +39,6 @@ unfoldable pub undo_refusal : InputConditioner → List ℕ → ℕ
 undo_refusal c repairs = first_of (bad_state c ∷ bad_length (repair_width * c.settings.repairs) (length repairs) ∷ bad_records c repairs ∷ [])
 
 -- ---- the operation
-
--- in document 01's words: what the table returns, or that the originals are back
-abbrev pub said : Undone → Said (Unit {0})
-said answer.Restored = accepted tt
-said answer.BadState = refused (5 ∷ [])
-said answer.BadLength = refused (4 ∷ [])
 
 -- the answer, and the slice
 pub record Outcome : Type 0 where

@@ -5,35 +5,16 @@
 ghost use Rattle.std.specs.Prelude.{◌≡◌, true, ◌+◌, ◌≤◌, length};
 ghost use Rattle.rules.specs.Lists.{at};
 ghost use Rattle.rules.specs.Log.{Sound, repair_width};
-ghost use Rattle.rules.specs.Answers.{number_of};
+ghost use Rattle.rules.specs.Answers.{Said};
 ghost use Rattle.rules.specs.Undo.{held_records, returned, undone, undone_all};
+ghost use Rattle.refusal.specs.Words.{said_by};
 ghost use Rattle.stage_log.specs.View.{ring_in};
-ghost use Rattle.chain_undo.specs.Undoing.{record_in, record_fits, records_fit, said, undo_of};
+ghost use Rattle.chain_undo.specs.Undoing.{record_in, record_fits, records_fit, undo_of};
 
 use chain_state::InputConditioner;
 use impulse::ImpulseSuppressor;
+use refusal::Refusal;
 use stage_log::Ring;
-
-// How repair undo is answered.
-#[derive(Drop)]
-pub enum Undone {
-    Restored,
-    // Number 5.
-    BadState,
-    // Number 4.
-    BadLength,
-}
-
-// Document 01's number of a refusal, and 0 where there is none.
-pub fn number(answer: Undone) -> u64
-    ensures { result ≡ number_of (said answer) }
-{
-    match answer {
-        Undone::Restored => 0,
-        Undone::BadState => 5,
-        Undone::BadLength => 4,
-    }
-}
 
 // Whether the record whose words begin at this place has a length of 1 to 4 and starts in range.
 fn record_fits(repairs: &[u64], place: usize) -> bool
@@ -42,13 +23,7 @@ fn record_fits(repairs: &[u64], place: usize) -> bool
 {
     let start = repairs[place];
     let len = repairs[place + 1];
-    if len == 0 {
-        return false;
-    }
-    if len > ImpulseSuppressor::MAX_RUN as u64 {
-        return false;
-    }
-    start <= stage_log::TOTAL_LIMIT
+    0 < len && len <= ImpulseSuppressor::MAX_RUN as u64 && start <= stage_log::TOTAL_LIMIT
 }
 
 // Whether every held record does.
@@ -56,10 +31,11 @@ fn records_fit(ring: Ring, repairs: &[u64], capacity: usize) -> bool
     requires { Sound repair_width capacity (ring_in ring repairs.now) }
     ensures { result ≡ records_fit (held_records capacity (ring_in ring repairs.now)) }
 {
-    let head = ring.head;
-    let held = ring.count;
-    for i in 0..held {
-        if !record_fits(repairs, (head + i) % capacity * stage_log::REPAIR_WORDS) {
+    for i in 0..ring.count {
+        if !record_fits(
+            repairs,
+            (ring.head + i) % capacity * stage_log::REPAIR_WORDS,
+        ) {
             return false;
         }
     }
@@ -70,12 +46,8 @@ fn records_fit(ring: Ring, repairs: &[u64], capacity: usize) -> bool
 fn put_back(samples: &mut [u64], first: u64, k: u64, original: u64)
     ensures { samples.new ≡ returned first samples.old k original }
 {
-    if k < first {
-        return;
-    }
-    let place = (k - first) as usize;
-    if place < samples.len() {
-        samples[place] = original;
+    if first <= k && k - first < samples.len() as u64 {
+        samples[(k - first) as usize] = original;
     }
 }
 
@@ -86,12 +58,8 @@ fn undo_record(samples: &mut [u64], first: u64, repairs: &[u64], place: usize)
     ensures { samples.new ≡ undone first (record_in repairs.now place) (at (record_in repairs.now place) 1) samples.old }
 {
     let start = repairs[place];
-    let len = repairs[place + 1];
-    let mut t: u64 = 0;
-    while t < len {
-        let original = repairs[place + 2 + t as usize];
-        put_back(samples, first, start + t, original);
-        t += 1;
+    for t in 0..repairs[place + 1] {
+        put_back(samples, first, start + t, repairs[place + 2 + t as usize]);
     }
 }
 
@@ -101,14 +69,12 @@ fn undo_records(samples: &mut [u64], first: u64, ring: Ring, repairs: &[u64], ca
     requires repairs_value { records_fit (held_records capacity (ring_in ring repairs.now)) ≡ true }
     ensures { samples.new ≡ undone_all first (held_records capacity (ring_in ring repairs.now)) samples.old }
 {
-    let head = ring.head;
-    let held = ring.count;
-    for i in 0..held {
+    for i in 0..ring.count {
         undo_record(
             samples,
             first,
             repairs,
-            (head + i) % capacity * stage_log::REPAIR_WORDS,
+            (ring.head + i) % capacity * stage_log::REPAIR_WORDS,
         );
     }
 }
@@ -116,26 +82,25 @@ fn undo_records(samples: &mut [u64], first: u64, ring: Ring, repairs: &[u64], ca
 // Puts the originals that the repair ring holds back in their places, oldest first. The slice begins
 // with sample `first`; originals outside it are skipped.
 pub fn revert_repairs(
-    state: InputConditioner,
+    state: &InputConditioner,
     repairs: &[u64],
     samples: &mut [u64],
     first: u64,
-) -> Undone
-    ensures answer { said result ≡ (undo_of state repairs.now samples.old first).said }
-    ensures written { samples.new ≡ (undo_of state repairs.now samples.old first).samples }
+) -> Result<(), Refusal>
+    ensures answer { said_by Said.accepted result ≡ (undo_of state.now repairs.now samples.old first).said }
+    ensures written { samples.new ≡ (undo_of state.now repairs.now samples.old first).samples }
 {
     if !state.fits() {
-        return Undone::BadState;
+        return Err(Refusal::BadState);
     }
-    let set = state.settings;
-    let capacity = set.repairs;
+    let capacity = state.settings.repairs;
     if repairs.len() != stage_log::REPAIR_WORDS * capacity {
-        return Undone::BadLength;
+        return Err(Refusal::BadLength);
     }
     let ring = state.notes.repairs;
     if !records_fit(ring, repairs, capacity) {
-        return Undone::BadState;
+        return Err(Refusal::BadState);
     }
     undo_records(samples, first, ring, repairs, capacity);
-    Undone::Restored
+    Ok(())
 }

@@ -128,6 +128,16 @@ fn try_group(rho: Complex64, part: &[u64], out: &mut [u64; 16]) -> bool
     mark % 0x8000_0000_0000_0000 < 0x800_0000_0000_0000
 }
 
+// By a loop: `copy_from_slice` makes the whole stage a seventh slower.
+fn copy_group(part: &mut [u64], from: &[u64; 16])
+    requires { length part.old ≡ 16 }
+    ensures { part.new ≡ from.now }
+{
+    for (j, w) in part.iter_mut().enumerate() {
+        *w = from[j];
+    }
+}
+
 // A group's samples corrected, at once if that is right.
 fn correct_group(rho: Complex64, part: &mut [u64])
     requires small { Small (view64 rho) }
@@ -137,7 +147,7 @@ fn correct_group(rho: Complex64, part: &mut [u64])
     if amplitude_limit::all_under(part, MAX_FINITE) {
         let mut out = [0u64; 16];
         if try_group(rho, part, &mut out) {
-            part.copy_from_slice(&out);
+            copy_group(part, &out);
             return;
         }
     }

@@ -1,7 +1,8 @@
--- A map over a slice in place that has come to place k. Assumes nothing.
-use Rattle.std.specs.Prelude.{◌≡◌, ℕ, ◌+◌, ◌<◌, ◌≤◌, List, ◌∷◌, ◌++◌, map, length, take, drop, set, slice_index, slice_set, refl}
+-- A map over a slice in place that has come to place k, and stages that write nothing. Assumes nothing.
+use Rattle.std.specs.Prelude.{◌≡◌, ℕ, ◌+◌, ◌<◌, ◌≤◌, List, [], ◌∷◌, ◌++◌, map, length, take, drop, set, slice_index, slice_set, refl}
 use Rattle.std.proofs.Common.{sym, ap, ◌∙◌, arith, length-set, drop_of_length-le}
 use Rattle.amplitude_limit.proofs.laws.Slices.{left, put, behind, whole}
+use Rattle.rules.specs.Iq.{Settled, corrected_by}
 use Rattle.iq_correction.specs.Groups.{Mapping}
 
 pub mapping_start : (f : ℕ → ℕ) (xs : List ℕ) → Mapping f xs xs 0
@@ -26,3 +27,8 @@ mapping_next f xs₀ xs k w h e g =
 pub mapping_end : (f : ℕ → ℕ) (xs₀ xs : List ℕ) (k : ℕ) → length xs ≤ k → Mapping f xs₀ xs k → xs ≡ map f xs₀
 mapping_end f xs₀ xs k h g =
     sym (whole xs k h) ∙ ap (λ (zs : List ℕ). take k xs ++ map f zs) (sym (drop_of_length-le xs h)) ∙ g.written
+
+-- ---- stages that write nothing
+pub unchanged : (s : Settled) → ((w : ℕ) → corrected_by s w ≡ w) → (xs : List ℕ) → xs ≡ map (corrected_by s) xs
+unchanged s h [] = refl
+unchanged s h (x ∷ xs) = λ i. sym (h x) i ∷ unchanged s h xs i
