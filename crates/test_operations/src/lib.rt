@@ -6,9 +6,10 @@ ghost use Rattle.std.specs.Prelude.{◌≡◌, ◌≤◌, length, take};
 
 use chain_call::Conditioned;
 use chain_config::ConditioningConfig;
-use chain_hop::HopSaid;
 use chain_make::MakingAnswer;
 use chain_words::{STATE_WORDS, read_state, write_state};
+use iq_monitor::Heard;
+use refusal::Refusal;
 
 // ---- an answer as two numbers
 
@@ -58,18 +59,16 @@ fn told_call(answer: Conditioned) -> Told {
     }
 }
 
-pub fn told_hop(answer: HopSaid) -> Told {
-    let number = chain_hop::number(answer);
+pub fn told_hop(answer: Result<Heard, Refusal>) -> Told {
+    let number = refusal::number(&answer);
     match answer {
-        HopSaid::Nothing => plain(NOTHING),
-        HopSaid::Report(_) => plain(REPORTED),
-        HopSaid::Beyond(place) => Told {
+        Ok(Heard::Nothing) => plain(NOTHING),
+        Ok(Heard::Report(_)) => plain(REPORTED),
+        Err(Refusal::OutOfRange(place)) => Told {
             number,
             value: place as u64,
         },
-        HopSaid::NoReport | HopSaid::BadLength | HopSaid::BadState | HopSaid::Early => {
-            plain(number)
-        }
+        _ => plain(number),
     }
 }
 
@@ -173,19 +172,20 @@ pub fn hop(
     spans: &mut [u64],
     monitor: &mut [f64],
     lent: Lent,
-) -> HopSaid {
+) -> Result<Heard, Refusal> {
     let n = part(x, channels);
     let s = part(spans, lent.spans);
     let m = part_of_floats(monitor, lent.monitor);
-    let called = chain_hop::observe_hop(
-        read_state(words),
+    let mut state = read_state(words);
+    let answer = chain_hop::observe_hop(
+        &mut state,
         &x[..n],
         start,
         &mut spans[..s],
         &mut monitor[..m],
     );
-    write_state(called.state, words);
-    called.answer
+    write_state(state, words);
+    answer
 }
 
 // Repair undo with so many words of the repair store. The first of the samples has this number.

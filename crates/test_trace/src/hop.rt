@@ -3,9 +3,9 @@
 use crate::making::lent;
 use crate::words::{write_front, write_words};
 use crate::{Head, MONITOR_WORDS, SPAN_WORDS};
-use chain_hop::HopSaid;
 use chain_words::STATE_WORDS;
-use iq_monitor::Evidence;
+use iq_monitor::{Evidence, Heard};
+use refusal::Refusal;
 use std::io;
 use test_operations::told_hop;
 
@@ -23,14 +23,14 @@ fn write_evidence(rt: &impl Print, e: Evidence) -> io::Result<()> {
 }
 
 // The evidence, or zeros.
-fn write_report(rt: &impl Print, answer: HopSaid) -> io::Result<()> {
+fn write_report(rt: &impl Print, answer: Result<Heard, Refusal>) -> io::Result<()> {
     match answer {
-        HopSaid::Report(e) => write_evidence(rt, e),
+        Ok(Heard::Report(e)) => write_evidence(rt, e),
         _ => write_words(rt, &[0u64; 7]),
     }
 }
 
-fn write_hop(rt: &impl Print, answer: HopSaid) -> io::Result<()> {
+fn write_hop(rt: &impl Print, answer: Result<Heard, Refusal>) -> io::Result<()> {
     let t = told_hop(answer);
     write_front(rt, [4, t.number, t.value, 0, 0, 0, 0, 7])?;
     write_report(rt, answer)

@@ -58,7 +58,7 @@ after ws channels start spans monitor out =
     let told = told_in ws channels start spans monitor in
     record {
       code = code_of told;
-      state = words_after (code_of told) ws h.called.state;
+      state = words_after (code_of told) ws h.state;
       spans = h.spans;
       monitor = h.words;
       out = out_after out told;

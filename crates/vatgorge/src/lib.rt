@@ -7,9 +7,9 @@ ghost use Rattle.std.specs.Prelude.{◌≡◌, length};
 ghost use Rattle.rules.specs.Log.{repair_width, store_width};
 ghost use Rattle.rules.specs.Monitor.{channel_width};
 ghost use Rattle.iq_monitor.specs.Observe.{report_from};
+ghost use Rattle.iq_monitor.specs.Observe as monitor;
 ghost use Rattle.chain.specs.Stages.{machine_of};
 ghost use Rattle.chain_call.specs.Said.{said};
-ghost use Rattle.chain_hop.specs.Hops.{said_hop};
 ghost use Rattle.chain_log.specs.Reading.{said_span};
 ghost use Rattle.chain_words.specs.Places.{state_words};
 ghost use Rattle.chain_words.specs.States.{state_of};
@@ -21,10 +21,10 @@ ghost use Rattle.vatgorge.specs.Span as span;
 ghost use Rattle.vatgorge.specs.Undo as undo;
 
 use chain_call::Conditioned;
-use chain_hop::HopSaid;
 use chain_log::{ConditioningLog, DcLevel, SpanRead};
 use chain_state::InputConditioner;
-use iq_monitor::{Evidence, ImageMonitor};
+use iq_monitor::{Evidence, Heard, ImageMonitor};
+use refusal::Refusal;
 use stage_log::{Mark, Stage};
 
 mod config;
@@ -188,13 +188,14 @@ pub extern "C" fn vg_condition(
 
 // ---- a hop
 
-fn hop_code(answer: HopSaid) -> u64
-    ensures { result ≡ hop.code_of (said_hop answer) }
+fn hop_code(answer: Result<Heard, Refusal>) -> u64
+    ensures { result ≡ hop.code_of (monitor.said answer) }
 {
-    if let HopSaid::Nothing = answer {
-        return NOTHING;
+    match answer {
+        Ok(Heard::Nothing) => NOTHING,
+        Ok(_) => 0,
+        Err(refusal) => refusal.number(),
     }
-    chain_hop::number(answer)
 }
 
 fn report_words(e: Evidence) -> [u64; 8]
@@ -215,30 +216,19 @@ fn report_words(e: Evidence) -> [u64; 8]
 fn tell_report(e: Evidence, out: &mut [u64; HOP_WORDS])
     ensures { out.new ≡ put_from 0 (hop.report_words (report_from e)) out.old }
 {
-    let report = report_words(e);
-    out[0] = report[0];
-    out[1] = report[1];
-    out[2] = report[2];
-    out[3] = report[3];
-    out[4] = report[4];
-    out[5] = report[5];
-    out[6] = report[6];
-    out[7] = report[7];
+    out[..8].copy_from_slice(&report_words(e));
 }
 
 // Whether there is a report goes to the first word, and the report behind it; the place of a channel
 // that is not within the limit goes to the last.
-fn tell_hop(answer: HopSaid, out: &mut [u64; HOP_WORDS])
-    ensures { out.new ≡ hop.out_after out.old (said_hop answer) }
+fn tell_hop(answer: Result<Heard, Refusal>, out: &mut [u64; HOP_WORDS])
+    ensures { out.new ≡ hop.out_after out.old (monitor.said answer) }
 {
     match answer {
-        HopSaid::Nothing => {}
-        HopSaid::NoReport => out[0] = 0,
-        HopSaid::Report(e) => tell_report(e, out),
-        HopSaid::BadState => {}
-        HopSaid::BadLength => {}
-        HopSaid::Early => {}
-        HopSaid::Beyond(place) => out[8] = place as u64,
+        Ok(Heard::NoReport) => out[0] = 0,
+        Ok(Heard::Report(e)) => tell_report(e, out),
+        Err(Refusal::OutOfRange(place)) => out[8] = place as u64,
+        _ => {}
     }
 }
 
@@ -258,17 +248,10 @@ pub extern "C" fn vg_hop(
         (record { code = result; state = state.new; spans = spans.new; monitor = monitor.new; out = out.new })
         (hop.after state.old channels.now start spans.old monitor.old out.old) }
     ensures chain { state_of state.new
-        ≡ (hop.hopped_in state.old channels.now start spans.old monitor.old).called.state }
+        ≡ (hop.hopped_in state.old channels.now start spans.old monitor.old).state }
 {
-    let hopped = chain_hop::observe_hop(
-        chain_words::read_state(state),
-        channels,
-        start,
-        spans,
-        monitor,
-    );
-    let answer = hopped.answer;
-    let after = hopped.state;
+    let mut after = chain_words::read_state(state);
+    let answer = chain_hop::observe_hop(&mut after, channels, start, spans, monitor);
     let code = hop_code(answer);
     keep(code, after, state);
     tell_hop(answer, out);
