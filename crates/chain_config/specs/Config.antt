@@ -7,8 +7,6 @@ use Rattle.iq.specs.View.{calibrated_of}
 use Rattle.stage_mode.specs.View.{mode_of}
 use Rattle.impulse_pause.specs.View.{edition_of}
 use Rattle.chain_config.specs.declared.ConditioningConfig.{ConditioningConfig}
-use Rattle.chain_config.specs.declared.Fitness.{Fitness}
-use Rattle.chain_config.specs.declared.Fitness.TheVariants.{Fit, BadRate, BadSize, BadCapacity, BadLength}
 
 abbrev pub config_of : ConditioningConfig → Config
 config_of c =
@@ -53,14 +51,6 @@ with_modes c impulse dc =
 -- the impulse and DC stages forced, all else as it was
 abbrev pub observed : Config → Config
 observed c = with_modes c (forced c.impulse_mode) (forced c.dc_mode)
-
--- document 01's number for each, and 0 for none
-abbrev pub number_of : Fitness → ℕ
-number_of Fit = 0
-number_of BadRate = 1
-number_of BadSize = 2
-number_of BadCapacity = 3
-number_of BadLength = 4
 
 -- 'a setting that making refuses'
 unfoldable pub setting_refusal : Float → ℕ → ℕ → ℕ → ℕ

@@ -1,10 +1,13 @@
 -- Making a chain: what it answers in document 01's words, the state that it makes, and the lent words after it. Definitions only.
-use Rattle.std.specs.Prelude.{Bool, true, false, cond, List, ℕ, zero, suc, length, replicate}
+use Rattle.std.specs.Prelude.{Bool, true, false, cond, List, ℕ, zero, suc, length, replicate, Option, Some, None, Result, Ok, Err}
 use Rattle.complex.specs.View.{make64}
 use Rattle.rules.specs.Dc.{corner, first_level}
 use Rattle.rules.specs.Iq.{Settled, Off, Observing, Withheld, Correcting}
 use Rattle.rules.specs.Chain.{Config, settled_by, setting_of}
 use Rattle.rules.specs.Mode.{runs}
+use Rattle.rules.specs.Answers.{number_in}
+use Rattle.refusal.specs.declared.Refusal.{Refusal}
+use Rattle.refusal.specs.Words.{words_of}
 use Rattle.stage_log.specs.View.{fresh_notes}
 use Rattle.impulse.specs.Machine as impulse
 use Rattle.dc.specs.Blocker.{blocker_of}
@@ -16,8 +19,6 @@ use Rattle.chain_config.specs.declared.ConditioningConfig.{ConditioningConfig}
 use Rattle.chain_config.specs.Config.{config_of, all_off, refusal}
 use Rattle.chain_state.specs.declared.Settings.{Settings}
 use Rattle.chain_state.specs.declared.InputConditioner.{InputConditioner}
-use Rattle.chain_make.specs.declared.MakingAnswer.{MakingAnswer}
-use Rattle.chain_make.specs.declared.MakingAnswer.TheVariants as making
 
 -- ---- the state
 
@@ -60,13 +61,16 @@ pub data Said : Type 0 where
   refused : ℕ → Said
   made : Said
 
-abbrev pub said_making : MakingAnswer → Said
-said_making making.Off = nothing
-said_making making.BadRate = refused 1
-said_making making.BadSize = refused 2
-said_making making.BadCapacity = refused 3
-said_making making.BadLength = refused 4
-said_making making.Made = made
+abbrev pub said_making : Result (Option InputConditioner) Refusal → Said
+said_making (Ok None) = nothing
+said_making (Ok (Some s)) = made
+said_making (Err e) = refused (number_in (words_of e))
+
+-- of the state that was made, if one was
+abbrev pub IfMade : Result (Option InputConditioner) Refusal → (InputConditioner → Type 0) → Type 0
+IfMade (Ok None) P = Unit {0}
+IfMade (Ok (Some s)) P = P s
+IfMade (Err e) P = Unit {0}
 
 -- its number, and 0 for none
 abbrev pub making_number : Said → ℕ

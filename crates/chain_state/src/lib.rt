@@ -50,11 +50,8 @@ pub struct InputConditioner {
 fn settings_fit(s: Settings, blocklen: u64) -> bool
     ensures { result ≡ settings_fit s blocklen }
 {
-    let fitness = chain_config::settings_fit(s.fs, s.n, s.spans, s.repairs);
-    if !chain_config::is_fit(fitness) {
-        return false;
-    }
-    blocklen == ieee::round_half_away(s.fs)
+    chain_config::settings_fit(s.fs, s.n, s.spans, s.repairs).is_ok()
+        && blocklen == ieee::round_half_away(s.fs)
 }
 
 // ---- the counts

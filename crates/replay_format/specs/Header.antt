@@ -1,9 +1,12 @@
 -- What a header says, in document 01's words and in the code's types. Definitions only.
-use Rattle.std.specs.Prelude.{cond, List, ℕ}
+use Rattle.std.specs.Prelude.{cond, List, ℕ, Result, Ok, Err}
 use Rattle.rules.specs.Iq.{Calibrated, none, with}
 use Rattle.rules.specs.Mode.{Mode, off, observe, apply}
 use Rattle.rules.specs.Pauses.{Edition, first, second}
 use Rattle.rules.specs.Chain.{Config}
+use Rattle.rules.specs.Answers.{number_in}
+use Rattle.refusal.specs.declared.Refusal.{Refusal}
+use Rattle.refusal.specs.Words.{words_of}
 use Rattle.stage_mode.specs.declared.StageMode.{StageMode}
 use Rattle.stage_mode.specs.declared.StageMode.TheVariants as mode
 use Rattle.impulse_pause.specs.declared.PauseEdition.{PauseEdition}
@@ -12,8 +15,6 @@ use Rattle.iq.specs.declared.Calibration.{Calibration}
 use Rattle.iq.specs.declared.Calibration.TheVariants.{Absent, Present}
 use Rattle.chain_config.specs.declared.ConditioningConfig.{ConditioningConfig}
 use Rattle.chain_config.specs.Config.{config_of}
-use Rattle.replay_format.specs.declared.HeaderRead.{HeaderRead}
-use Rattle.replay_format.specs.declared.HeaderRead.TheVariants as read
 use Rattle.replay_format.specs.Format.{header_fits, config_in}
 
 -- a number, or a configuration
@@ -21,9 +22,9 @@ pub data Said : Type 0 where
   refused : ℕ → Said
   config : Config → Said
 
-abbrev pub said_header : HeaderRead → Said
-said_header read.Bad = refused 14
-said_header (read.Config g) = config (config_of g)
+abbrev pub said_header : Result ConditioningConfig Refusal → Said
+said_header (Ok g) = config (config_of g)
+said_header (Err e) = refused (number_in (words_of e))
 
 -- the number of a refusal, and 0 where there is none
 abbrev pub header_number : Said → ℕ

@@ -6,28 +6,22 @@ ghost use Rattle.impulse_pause.specs.View.{edition_of};
 ghost use Rattle.stage_mode.specs.View.{mode_of};
 ghost use Rattle.chain_config.specs.Config.{config_of};
 ghost use Rattle.replay_format.specs.Format.{mark_fits, version_in, version_fits, edition_by, modes_fit, mode_by, real_at, calibration_in, config_in};
-ghost use Rattle.replay_format.specs.Header.{said_header, header_number, header_said};
+ghost use Rattle.replay_format.specs.Header.{said_header, header_said};
 
-use crate::{CHANNELS, HeaderRead, REPAIRS, SPANS, words};
+use crate::{CHANNELS, REPAIRS, SPANS, words};
 use chain_config::ConditioningConfig;
 use impulse_pause::PauseEdition;
 use iq::{Calibration, IqCalibration};
+use refusal::Refusal;
 use stage_mode::StageMode;
 
 const HEADER_SIZE: usize = 49;
 
 // Mark CND.
 fn mark_fits(bytes: &[u8]) -> bool
-    requires { 49 ≤ length bytes.now }
     ensures { result ≡ mark_fits bytes.now }
 {
-    if bytes[0] != b'C' {
-        return false;
-    }
-    if bytes[1] != b'N' {
-        return false;
-    }
-    bytes[2] == b'D'
+    bytes.starts_with(b"CND")
 }
 
 // A little-endian u16.
@@ -35,19 +29,14 @@ fn version(bytes: &[u8]) -> u64
     requires { 49 ≤ length bytes.now }
     ensures { result ≡ version_in bytes.now }
 {
-    let low = words::wide(bytes[3]);
-    let high = words::wide(bytes[4]);
-    low + 256 * high
+    u64::from(u16::from_le_bytes([bytes[3], bytes[4]]))
 }
 
 // Version 1 or 2.
 fn version_fits(version: u64) -> bool
     ensures { result ≡ version_fits version }
 {
-    if version == 1 {
-        return true;
-    }
-    version == 2
+    version == 1 || version == 2
 }
 
 // The version is the number of the pause rule's edition.
@@ -62,28 +51,17 @@ fn modes_fit(bytes: &[u8]) -> bool
     requires { 49 ≤ length bytes.now }
     ensures { result ≡ modes_fit bytes.now }
 {
-    if 2 < bytes[5] {
-        return false;
-    }
-    if 2 < bytes[6] {
-        return false;
-    }
-    if 2 < bytes[7] {
-        return false;
-    }
-    bytes[8] <= 1
+    bytes[5] <= 2 && bytes[6] <= 2 && bytes[7] <= 2 && bytes[8] <= 1
 }
 
 fn mode_by(byte: u8) -> StageMode
     ensures { mode_of result ≡ mode_by byte }
 {
-    if byte == 0 {
-        return StageMode::Off;
+    match byte {
+        0 => StageMode::Off,
+        1 => StageMode::Observe,
+        _ => StageMode::Apply,
     }
-    if byte == 1 {
-        return StageMode::Observe;
-    }
-    StageMode::Apply
 }
 
 // f64 number k.
@@ -115,52 +93,30 @@ fn config(bytes: &[u8]) -> ConditioningConfig
     requires { 49 ≤ length bytes.now }
     ensures { config_of result ≡ config_in bytes.now }
 {
-    let impulse = mode_by(bytes[5]);
-    let dc = mode_by(bytes[6]);
-    let iq = mode_by(bytes[7]);
-    let fs = real_at(bytes, 0);
-    let centre = real_at(bytes, 1);
-    let calibration = calibration(bytes);
-    let edition = edition_by(version(bytes));
     ConditioningConfig {
-        impulse,
-        dc,
-        iq,
-        fs,
-        centre,
+        impulse: mode_by(bytes[5]),
+        dc: mode_by(bytes[6]),
+        iq: mode_by(bytes[7]),
+        fs: real_at(bytes, 0),
+        centre: real_at(bytes, 1),
         n: CHANNELS,
-        calibration,
+        calibration: calibration(bytes),
         spans: SPANS,
         repairs: REPAIRS,
-        edition,
+        edition: edition_by(version(bytes)),
     }
 }
 
-// What a header says: number 14, or the configuration of the chain.
-pub fn header(bytes: &[u8]) -> HeaderRead
+// What a header says: the configuration of the chain, or number 14.
+pub fn header(bytes: &[u8]) -> Result<ConditioningConfig, Refusal>
     ensures { said_header result ≡ header_said bytes.now }
 {
-    if bytes.len() < HEADER_SIZE {
-        return HeaderRead::Bad;
+    if bytes.len() < HEADER_SIZE
+        || !mark_fits(bytes)
+        || !version_fits(version(bytes))
+        || !modes_fit(bytes)
+    {
+        return Err(Refusal::BadHeader);
     }
-    if !mark_fits(bytes) {
-        return HeaderRead::Bad;
-    }
-    if !version_fits(version(bytes)) {
-        return HeaderRead::Bad;
-    }
-    if !modes_fit(bytes) {
-        return HeaderRead::Bad;
-    }
-    HeaderRead::Config(config(bytes))
-}
-
-// Document 01's number of what was read, and 0 where there is none.
-pub fn number(read: HeaderRead) -> u64
-    ensures { result ≡ header_number (said_header read) }
-{
-    match read {
-        HeaderRead::Bad => 14,
-        HeaderRead::Config(_) => 0,
-    }
+    Ok(config(bytes))
 }

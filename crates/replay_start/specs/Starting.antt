@@ -7,15 +7,8 @@ use Rattle.iq.specs.declared.Calibration.TheVariants.{Absent}
 use Rattle.chain_config.specs.declared.ConditioningConfig.{ConditioningConfig}
 use Rattle.chain_state.specs.declared.InputConditioner.{InputConditioner}
 use Rattle.chain_make.specs.Making as making
-use Rattle.chain_make.specs.Making.{fresh_state, said_making, making_said}
-use Rattle.replay_start.specs.declared.StartAnswer.{StartAnswer}
-use Rattle.replay_start.specs.declared.StartAnswer.TheVariants as start
+use Rattle.chain_make.specs.Making.{fresh_state, making_said}
 use Rattle.replay_format.specs.Header.{Said, refused, config, header_said, config_from}
-
--- the answer in the documents' words: nothing where all is off, a number, or a chain
-abbrev pub said_start : StartAnswer → making.Said
-said_start start.BadHeader = making.refused 14
-said_start (start.Making a) = said_making a
 
 -- what the header refuses, or what making says of its configuration, with the lengths of the span store, the repair store and the monitor's words
 abbrev pub made_by : Said → ℕ → ℕ → ℕ → making.Said

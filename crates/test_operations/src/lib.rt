@@ -6,7 +6,6 @@ ghost use Rattle.std.specs.Prelude.{◌≡◌, ◌≤◌, length, take};
 
 use chain_call::Conditioned;
 use chain_config::ConditioningConfig;
-use chain_make::MakingAnswer;
 use chain_words::{STATE_WORDS, read_state, write_state};
 use iq_monitor::Heard;
 use refusal::Refusal;
@@ -32,13 +31,6 @@ pub const REPORTED: u64 = 101;
 // An answer that names nothing.
 pub fn plain(number: u64) -> Told {
     Told { number, value: 0 }
-}
-
-fn making_number(answer: MakingAnswer) -> u64 {
-    if let MakingAnswer::Off = answer {
-        return NOTHING;
-    }
-    chain_make::number(answer)
 }
 
 fn told_call(answer: Conditioned) -> Told {
@@ -132,12 +124,14 @@ pub fn make(
         &mut repairs[..r],
         &mut monitor[..m],
     );
-    let answer = made.answer;
-    let number = making_number(answer);
-    if number == ACCEPTED {
-        write_state(made.state, words);
+    match made {
+        Ok(Some(state)) => {
+            write_state(state, words);
+            ACCEPTED
+        }
+        Ok(None) => NOTHING,
+        Err(refusal) => refusal.number(),
     }
-    number
 }
 
 // A call with so many of the samples.

@@ -1,23 +1,34 @@
 // Making a chain.
 
 ghost use Rattle.std.specs.Prelude.{◌≡◌};
-ghost use Rattle.chain_make.specs.Making.{said_making, fresh_state};
+ghost use Rattle.chain_make.specs.Making.{IfMade, said_making, fresh_state};
+ghost use Rattle.chain_state.specs.declared.InputConditioner.{InputConditioner};
 ghost use Rattle.chain_words.specs.States.{state_of};
-ghost use Rattle.vatgorge.specs.Codes.{state_after};
+ghost use Rattle.vatgorge.specs.Codes.{words_after, state_after};
 ghost use Rattle.vatgorge.specs.Config.{config_in};
 ghost use Rattle.vatgorge.specs.Make.{After, code_of, after};
 
 use crate::{NOTHING, config};
-use chain_make::MakingAnswer;
+use chain_state::InputConditioner;
+use refusal::Refusal;
 
-// 0 says that a chain is made, NOTHING that no stage runs.
-pub fn making_code(answer: MakingAnswer) -> u64
-    ensures { result ≡ code_of (said_making answer) }
+// Writes the state that was made, and answers 0; NOTHING says that no stage runs.
+pub fn keep_made(
+    made: Result<Option<InputConditioner>, Refusal>,
+    words: &mut [u64; chain_words::STATE_WORDS],
+) -> u64
+    ensures code { result ≡ code_of (said_making made) }
+    ensures words { (s : InputConditioner) → IfMade made (λ x. x ≡ s) → words.new ≡ words_after result words.old s }
+    ensures again { (s : InputConditioner) → IfMade made (λ x. x ≡ s) → state_of words.new ≡ state_after result words.old s }
 {
-    if let MakingAnswer::Off = answer {
-        return NOTHING;
+    match made {
+        Ok(Some(fresh)) => {
+            chain_words::write_state(fresh, words);
+            0
+        }
+        Ok(None) => NOTHING,
+        Err(refusal) => refusal.number(),
     }
-    chain_make::number(answer)
 }
 
 // Makes a chain. If it is made, the state is written and every word of the stores becomes 0; else all
@@ -37,9 +48,5 @@ pub extern "C" fn vg_make(
 {
     let asked = config::read_config(config);
     let made = chain_make::with_geometry(asked, spans, repairs, monitor);
-    let answer = made.answer;
-    let fresh = made.state;
-    let code = making_code(answer);
-    crate::keep(code, fresh, state);
-    code
+    keep_made(made, state)
 }

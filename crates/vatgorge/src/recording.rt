@@ -3,26 +3,14 @@
 ghost use Rattle.std.specs.Prelude.{◌≡◌};
 ghost use Rattle.chain_words.specs.States.{state_of};
 ghost use Rattle.replay_format.specs.Format.{tail_refusal};
-ghost use Rattle.replay_format.specs.Header.{said_header, header_number, header_said};
-ghost use Rattle.replay_start.specs.Starting.{said_start, start_state};
+ghost use Rattle.replay_format.specs.Header.{header_number, header_said};
+ghost use Rattle.replay_start.specs.Starting.{start_state};
 ghost use Rattle.vatgorge.specs.Codes.{state_after};
 ghost use Rattle.vatgorge.specs.Config.{config_in};
-ghost use Rattle.vatgorge.specs.Make.{After, code_of};
+ghost use Rattle.vatgorge.specs.Make.{After};
 ghost use Rattle.vatgorge.specs.Recording.{header_words, header_config, after};
 
 use crate::{config, making};
-use replay_format::HeaderRead;
-use replay_start::StartAnswer;
-
-fn tell_header(read: HeaderRead, config: &mut [u64; config::CONFIG_WORDS])
-    ensures words { config.new ≡ header_words config.old (said_header read) }
-    ensures again { config_in config.new ≡ header_config config.old (said_header read) }
-{
-    match read {
-        HeaderRead::Bad => {}
-        HeaderRead::Config(said) => config::write_config(said, config),
-    }
-}
 
 // What a header's bytes say: 0 with the configuration's words, or 14, which leaves every word.
 #[unsafe(no_mangle)]
@@ -31,18 +19,13 @@ pub extern "C" fn vg_header(bytes: &[u8], config: &mut [u64; config::CONFIG_WORD
     ensures words { config.new ≡ header_words config.old (header_said bytes.now) }
     ensures again { config_in config.new ≡ header_config config.old (header_said bytes.now) }
 {
-    let read = replay_format::header::header(bytes);
-    tell_header(read, config);
-    replay_format::header::number(read)
-}
-
-fn start_code(answer: StartAnswer) -> u64
-    ensures { result ≡ code_of (said_start answer) }
-{
-    if let StartAnswer::Making(made) = answer {
-        return making::making_code(made);
+    match replay_format::header::header(bytes) {
+        Ok(said) => {
+            config::write_config(said, config);
+            0
+        }
+        Err(refusal) => refusal.number(),
     }
-    replay_start::start_number(answer)
 }
 
 // Makes the chain of a header's bytes: 14, and then making, with stores for 256 spans, 1,024 repairs and 8
@@ -62,11 +45,7 @@ pub extern "C" fn vg_start(
     ensures again { state_of state.new ≡ state_after result state.old (start_state head.now) }
 {
     let started = replay_start::start(head, spans, repairs, monitor);
-    let answer = started.answer;
-    let fresh = started.state;
-    let code = start_code(answer);
-    crate::keep(code, fresh, state);
-    code
+    making::keep_made(started, state)
 }
 
 // Ends with the recording's last block: 0, or 17 if the last sample is broken.
@@ -74,5 +53,5 @@ pub extern "C" fn vg_start(
 pub extern "C" fn vg_end(block: &[u8]) -> u64
     ensures { result ≡ tail_refusal block.now }
 {
-    replay_format::words::tail_number(block)
+    refusal::number(&replay_format::words::tail(block))
 }

@@ -83,7 +83,9 @@ fn main(rt: HostRuntime) -> io::Result<()> {
     let mut repairs = [0u64; 24];
     let mut words = [0.0f64; 32];
     let made = chain_make::with_geometry(configuration(), &mut spans, &mut repairs, &mut words);
-    let fresh = made.state;
+    let Ok(Some(fresh)) = made else {
+        return Ok(());
+    };
 
     // thirty samples, a click at 20: nine are released and 21 held
     let mut first = [real(1.0); 30];

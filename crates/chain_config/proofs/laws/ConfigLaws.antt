@@ -1,5 +1,6 @@
 -- Laws of what making declines: the settings first and then the lengths. Assumes nothing.
-use Rattle.std.specs.Prelude.{◌≡◌, refl, Bool, true, false, not, ◌||◌, cond, [], ◌∷◌, ℕ, zero, suc, ◌*◌, ◌≤◌, ◌<◌, eqb, ltb, Float}
+use Rattle.std.specs.Prelude.{◌≡◌, refl, Bool, true, false, not, ◌||◌, cond, [], ◌∷◌, ℕ, zero, suc, ◌*◌, ◌≤◌, ◌<◌, eqb, ltb, Float, Result, Ok, Err}
+use Rattle.std.specs.Result.{is_ok}
 use Rattle.std.proofs.Common.{sym, ap, ◌∙◌, arith, ltb-false}
 use Rattle.std.proofs.lemmas.Bool.{false≢true}
 use Rattle.rules.specs.Constants.{one, rate_limit}
@@ -8,6 +9,10 @@ use Rattle.rules.specs.Chain.{Config}
 use Rattle.rules.specs.Refusals.{first_of, bad_size, bad_capacity, bad_length, making_refusal}
 use Rattle.rules.specs.Log.{repair_width, store_width}
 use Rattle.rules.specs.Monitor.{channel_width}
+use Rattle.rules.specs.Answers.{number_in}
+use Rattle.refusal.specs.declared.Refusal.{Refusal}
+use Rattle.refusal.specs.declared.Refusal.TheVariants as why
+use Rattle.refusal.specs.Words.{words_of, number_of}
 use Rattle.chain_config.specs.Config.{setting_refusal, refusal}
 
 -- a number by the answers of three tests, or another
@@ -60,6 +65,29 @@ making_split c spans repairs words =
 pub unfit_setting : (c : Config) (spans repairs words : ℕ) → eqb (setting_of c) 0 ≡ false → setting_of c ≡ refusal c spans repairs words
 unfit_setting c spans repairs words h =
     sym (ap (λ (t : Bool). cond t (length_refusal c spans repairs words) (setting_of c)) h) ∙ making_split c spans repairs words
+
+-- what is refused has a number that is not 0
+pub refusal_numbered : (e : Refusal) → eqb (number_in (words_of e)) 0 ≡ false
+refusal_numbered why.BadRate = refl
+refusal_numbered why.BadSize = refl
+refusal_numbered why.BadCapacity = refl
+refusal_numbered why.BadLength = refl
+refusal_numbered why.BadState = refl
+refusal_numbered why.Short = refl
+refusal_numbered (why.OutOfRange k) = refl
+refusal_numbered why.TooMany = refl
+refusal_numbered why.Early = refl
+refusal_numbered why.BadCoefficient = refl
+refusal_numbered why.BadGain = refl
+refusal_numbered why.BadPhase = refl
+refusal_numbered why.BadCentre = refl
+refusal_numbered why.BadHeader = refl
+refusal_numbered why.BrokenTail = refl
+
+-- an answer is good where its number is 0
+pub is_ok_by_number : {A : Type 0} (r : Result A Refusal) → is_ok r ≡ eqb (number_of r) 0
+is_ok_by_number (Ok a) = refl
+is_ok_by_number (Err e) = sym (refusal_numbered e)
 
 -- fit settings, and the answers of the tests of the lengths
 pub length_by : (c : Config) (spans repairs words : ℕ) (s t u : Bool) → eqb (setting_of c) 0 ≡ true → eqb repairs (repair_width * c.repairs) ≡ s

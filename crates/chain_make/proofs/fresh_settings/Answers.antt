@@ -9,5 +9,5 @@ unfolding fresh_settings
 returns c =
     let g = c.args.config in
     let p = c.runs.ensures in
-    let s = sym (iq_again c.settle-iq.result) ∙ ap iq_of c.settle-iq.ensures in
+    let s = sym (iq_again c.settle.result) ∙ ap iq_of c.settle.ensures in
     λ i. record { fs = g.fs; n = g.n; spans = g.spans; repairs = g.repairs; impulse = p i; dc = g.dc; iq = s i }

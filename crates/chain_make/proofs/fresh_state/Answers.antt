@@ -6,9 +6,9 @@ pub returns : goal.returns
 unfolding fresh_state
 returns c =
     rw (
-      c.fresh_settings-settings.ensures,
-      c.fresh_suppressor-suppressor.ensures,
-      c.fresh-blocker.ensures,
-      c.fresh-monitor.ensures,
-      c.fresh-notes.ensures,
+      c.fresh_settings.ensures,
+      c.fresh_suppressor.ensures,
+      c.fresh.ensures,
+      c.fresh-2.ensures,
+      c.fresh-3.ensures,
     )

@@ -15,27 +15,27 @@ little_next : (bytes : List ℕ) (k j n : ℕ) → suc k ≡ j → k < length by
 unfolding little_endian
 little_next bytes k j n e h = rw (drop-cons bytes k 0, e)
 
-pub half_by_bytes : (bytes : List ℕ) (k : ℕ)
-    → k + 4 ≤ length bytes
-    → at bytes k + at bytes (k + 1) * 0x100 + at bytes (k + 2) * 0x1_0000 + at bytes (k + 3) * 0x100_0000 ≡ little_endian (take 4 (drop k bytes))
-unfolding little_endian
-half_by_bytes bytes k h =
-    let b0 = little_next bytes k (k + 1) 3 (omega arith) (omega arith) in
-    let b1 = little_next bytes (k + 1) (k + 2) 2 (omega arith) (omega arith) in
-    let b2 = little_next bytes (k + 2) (k + 3) 1 (omega arith) (omega arith) in
-    let b3 = little_next bytes (k + 3) (k + 4) 0 (omega arith) (omega arith) in
-    omega arith
-
-pub word_by_halves : (bytes : List ℕ) (k : ℕ)
+pub word_by_bytes : (bytes : List ℕ) (k : ℕ)
     → k + 8 ≤ length bytes
-    → little_endian (take 4 (drop k bytes)) + little_endian (take 4 (drop (k + 4) bytes)) * 0x1_0000_0000 ≡ word_at bytes k
-unfolding word_at
-word_by_halves bytes k h =
-    let low = half_by_bytes bytes k (omega arith) in
+    → at bytes k
+    + at bytes (k + 1) * 0x100
+    + at bytes (k + 2) * 0x1_0000
+    + at bytes (k + 3) * 0x100_0000
+    + at bytes (k + 4) * 0x1_0000_0000
+    + at bytes (k + 5) * 0x100_0000_0000
+    + at bytes (k + 6) * 0x1_0000_0000_0000
+    + at bytes (k + 7) * 0x100_0000_0000_0000
+    ≡ word_at bytes k
+unfolding little_endian word_at
+word_by_bytes bytes k h =
     let b0 = little_next bytes k (k + 1) 7 (omega arith) (omega arith) in
     let b1 = little_next bytes (k + 1) (k + 2) 6 (omega arith) (omega arith) in
     let b2 = little_next bytes (k + 2) (k + 3) 5 (omega arith) (omega arith) in
     let b3 = little_next bytes (k + 3) (k + 4) 4 (omega arith) (omega arith) in
+    let b4 = little_next bytes (k + 4) (k + 5) 3 (omega arith) (omega arith) in
+    let b5 = little_next bytes (k + 5) (k + 6) 2 (omega arith) (omega arith) in
+    let b6 = little_next bytes (k + 6) (k + 7) 1 (omega arith) (omega arith) in
+    let b7 = little_next bytes (k + 7) (k + 8) 0 (omega arith) (omega arith) in
     omega arith
 
 -- ---- the words of a list of bytes

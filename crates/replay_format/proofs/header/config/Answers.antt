@@ -6,12 +6,12 @@ pub returns : goal.returns
 unfolding config_in
 returns c =
     rw (
-      c.mode_by-impulse.ensures,
-      c.mode_by-dc.ensures,
-      c.mode_by-iq.ensures,
-      c.real_at-fs.ensures,
-      c.real_at-centre.ensures,
-      c.calibration-calibration.ensures,
-      c.edition_by-edition.ensures,
+      c.mode_by.ensures,
+      c.mode_by-2.ensures,
+      c.mode_by-3.ensures,
+      c.real_at.ensures,
+      c.real_at-2.ensures,
+      c.calibration.ensures,
+      c.edition_by.ensures,
       c.version.ensures,
     )

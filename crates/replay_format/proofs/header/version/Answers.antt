@@ -5,4 +5,4 @@ use Rattle.replay_format.proofs.header.version.Goals as goal
 
 pub returns : goal.returns
 unfolding little_endian
-returns c = omega (arith, c.wide-high.ensures.0, c.wide-low.ensures.0)
+returns c = omega (arith, c.from.ensures, c.from_le_bytes.ensures)

@@ -1,11 +1,6 @@
 -- `replay_format::words::read_words`: the words before place k are read, the others as they were. Assumes nothing.
-use Prim.Native.Nat.{◌-◌}
-use lib.ListN.{length}
 use Rattle.replay_format.proofs.laws.FormatLaws.{Reading}
 use Rattle.replay_format.proofs.words.read_words.Given as goal
 
 abbrev pub invariant-loop-k : goal.invariant-loop-k
 invariant-loop-k l = Reading l.bytes l.initial.words l.words l.k
-
-abbrev pub decreases-loop-k : goal.decreases-loop-k
-decreases-loop-k l = length l.initial.words - l.k

@@ -1,7 +1,7 @@
--- `replay_format::words::word_at`: two halves. Assumes nothing.
-use Rattle.replay_format.proofs.laws.FormatLaws.{word_by_halves}
+-- `replay_format::words::word_at`: eight bytes, each in its place. Assumes nothing.
+use native.Mathlib.Omega.{arith}
+use Rattle.replay_format.proofs.laws.FormatLaws.{word_by_bytes}
 use Rattle.replay_format.proofs.words.word_at.Goals as goal
 
 pub returns : goal.returns
-returns c =
-    rw (c.half_at-low.ensures.0, c.half_at-high.ensures.0) (word_by_halves _ c.args.k c.requires)
+returns c = omega (arith, c.from_le_bytes.ensures, word_by_bytes c.args.bytes.now c.args.k c.requires)

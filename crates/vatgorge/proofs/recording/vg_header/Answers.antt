@@ -1,16 +1,10 @@
 -- `vatgorge::recording::vg_header`: by what the header says. Assumes nothing.
-use mathlib.Core.Path.{ap, ◌∙◌}
-use Rattle.replay_format.specs.Header.{header_number}
-use Rattle.vatgorge.specs.Recording.{header_words, header_config}
+use mathlib.Core.Path.{sym, ap, ◌∙◌}
+use Rattle.replay_format.proofs.laws.HeaderLaws.{config_again}
+use Rattle.vatgorge.specs.Config.{config_words}
+use Rattle.vatgorge.specs.Recording.{header_words}
 use Rattle.vatgorge.proofs.recording.vg_header.Goals as goal
 
-pub returns : goal.returns
-returns c =
-    let ws = c.args.config.now in
-    let s = c.header-read.ensures in
-    let told = c.tell_header.ensures in
-    record {
-      code = c.number.ensures ∙ ap header_number s;
-      words = told.words ∙ ap (header_words ws) s;
-      again = told.again ∙ ap (header_config ws) s;
-    }
+pub returns-in-Ok-clause-words : goal.returns-in-Ok-clause-words
+returns-in-Ok-clause-words c =
+    c.write_config.ensures.words ∙ ap config_words (sym (config_again _)) ∙ ap (header_words c.args.config.now) c.in-Ok.ensures
