@@ -11,9 +11,9 @@ use Rattle.chain_call.proofs.accept.Goals as goal
 use Rattle.chain_call.proofs.accept.Goals.{Start}
 
 -- the slice is acceptable: an array field has its length
-fit : (s : Start) → Acceptable s.args.state s.args.samples.now s.args.spans.now s.args.repairs.now
+fit : (s : Start) → Acceptable s.args.state.now s.args.samples.now s.args.spans.now s.args.repairs.now
 fit s =
-    acceptable s.args.state s.args.samples.now s.args.spans.now s.args.repairs.now s.requires
+    acceptable s.args.state.now s.args.samples.now s.args.spans.now s.args.repairs.now s.requires
     (s.well_formed.0.1.1.1.1.1.1.1.0.1.1.0.1.1.0.1.0.1)
     (s.well_formed.0.1.1.1.1.1.1.1.0.1.1.0.1.1.1.0.1.0.1)
 
@@ -34,10 +34,10 @@ filter-blocked-requires c =
     let a = s.args in
     let r = c.suppress-ran.ensures in
     let k = r.ready in
-    let u = (state_fit a.state (fit s).stored.fits).updates in
-    let few = ready_few a.state a.samples.now a.spans.now a.repairs.now (fit s) _ k in
-    let inside = ready_inside a.state a.samples.now a.spans.now a.repairs.now (fit s) _ k in
-    let same = ran_length a.state a.samples.now a.spans.now a.repairs.now (fit s) c.suppress-ran.result _ _ _ r.noted k r.written in
+    let u = (state_fit a.state.now (fit s).stored.fits).updates in
+    let few = ready_few a.state.now a.samples.now a.spans.now a.repairs.now (fit s) _ k in
+    let inside = ready_inside a.state.now a.samples.now a.spans.now a.repairs.now (fit s) _ k in
+    let same = ran_length a.state.now a.samples.now a.spans.now a.repairs.now (fit s) c.suppress-ran.result _ _ _ r.noted k r.written in
     record {
       ready_in_bounds = omega arith;
       ready_bound = omega arith;
@@ -50,41 +50,41 @@ mark_released-marked-requires c =
     let r = c.suppress-ran.ensures in
     let k = r.ready in
     record {
-      bounded = ran_bounded a.state a.samples.now a.spans.now a.repairs.now (fit s) c.suppress-ran.result _ _ _ r.noted k r.written;
-      start_bound = ((state_fit a.state (fit s).stored.fits).released, ready_few a.state a.samples.now a.spans.now a.repairs.now (fit s) _ k);
+      bounded = ran_bounded a.state.now a.samples.now a.spans.now a.repairs.now (fit s) c.suppress-ran.result _ _ _ r.noted k r.written;
+      start_bound = ((state_fit a.state.now (fit s).stored.fits).released, ready_few a.state.now a.samples.now a.spans.now a.repairs.now (fit s) _ k);
     }
 
 pub overflow_add-counts : goal.overflow_add-counts
 overflow_add-counts c =
     let s = (goal.at.overflow_add-counts c).Start in
     let a = s.args in
-    let n = (state_fit a.state (fit s).stored.fits).seen in
-    let few = new_few a.state a.samples.now a.spans.now a.repairs.now (fit s) in
-    let len = new_length a.state a.samples.now a.spans.now a.repairs.now (fit s) in
+    let n = (state_fit a.state.now (fit s).stored.fits).seen in
+    let few = new_few a.state.now a.samples.now a.spans.now a.repairs.now (fit s) in
+    let len = new_length a.state.now a.samples.now a.spans.now a.repairs.now (fit s) in
     omega arith
 
 pub overflow_add-counts-2 : goal.overflow_add-counts-2
 overflow_add-counts-2 c =
     let s = (goal.at.overflow_add-counts-2 c).Start in
     let a = s.args in
-    let n = (state_fit a.state (fit s).stored.fits).released in
-    let few = ready_few a.state a.samples.now a.spans.now a.repairs.now (fit s) _ c.suppress-ran.ensures.ready in
+    let n = (state_fit a.state.now (fit s).stored.fits).released in
+    let few = ready_few a.state.now a.samples.now a.spans.now a.repairs.now (fit s) _ c.suppress-ran.ensures.ready in
     omega arith
 
 pub overflow_sub-counts : goal.overflow_sub-counts
 overflow_sub-counts c =
     let s = (goal.at.overflow_sub-counts c).Start in
     let a = s.args in
-    ready_inside a.state a.samples.now a.spans.now a.repairs.now (fit s) _ c.suppress-ran.ensures.ready
+    ready_inside a.state.now a.samples.now a.spans.now a.repairs.now (fit s) _ c.suppress-ran.ensures.ready
 
 pub overflow_add-counts-3 : goal.overflow_add-counts-3
 overflow_add-counts-3 c =
     let s = (goal.at.overflow_add-counts-3 c).Start in
     let a = s.args in
     let r = c.suppress-ran.ensures in
-    let n = (state_fit a.state (fit s).stored.fits).clamped in
+    let n = (state_fit a.state.now (fit s).stored.fits).clamped in
     let few =
-    ready_clamped a.state a.samples.now a.spans.now a.repairs.now (fit s) c.suppress-ran.result _ _ _ r.noted r.ready
+    ready_clamped a.state.now a.samples.now a.spans.now a.repairs.now (fit s) c.suppress-ran.result _ _ _ r.noted r.ready
     r.written _ c.filter-blocked.ensures.after in
     omega arith
 
@@ -107,12 +107,12 @@ returns c =
     let r = c.suppress-ran.ensures in
     let m = c.suppress-ran.result in
     record {
-      answer = ap accepted (ready_count a.state a.samples.now a.spans.now a.repairs.now (fit s) m _ _ _ r.noted r.ready r.written);
+      ready = (ready_count a.state.now a.samples.now a.spans.now a.repairs.now (fit s) m _ _ _ r.noted r.ready r.written);
       chain =
-          processed_chain a.state a.samples.now a.spans.now a.repairs.now (fit s) m _ _ _ r.noted r.ready r.written _ r.suppressor _
+          processed_chain a.state.now a.samples.now a.spans.now a.repairs.now (fit s) m _ _ _ r.noted r.ready r.written _ r.suppressor _
           c.filter-blocked.ensures.after _ _
           c.mark_released-marked.ensures;
       written =
-          processed_written a.state a.samples.now a.spans.now a.repairs.now (fit s) m _ _ _ r.noted r.ready r.written _
+          processed_written a.state.now a.samples.now a.spans.now a.repairs.now (fit s) m _ _ _ r.noted r.ready r.written _
           c.filter-blocked.ensures.written;
     }
