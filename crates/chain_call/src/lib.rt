@@ -168,6 +168,14 @@ fn mark_released(
     mark_iq(marked, iq, spans, capacity, start, ready)
 }
 
+// The lengths of a state's arrays. They follow from its type where it is passed by value, and not where
+// its parts stand behind a reference.
+fn sized(state: InputConditioner)
+    ensures rings { length state.notes.log.rings ≡ 12 }
+    ensures counts { length state.notes.log.counts ≡ 12 }
+    ensures sorted { length state.suppressor.sorted ≡ window_size }
+{}
+
 // The stages one after another, over a slice that is not refused.
 pub fn accept(
     state: &mut InputConditioner,
@@ -181,6 +189,7 @@ pub fn accept(
         ≡ process (machine_of state.old spans.old repairs.old) (new_part state.old samples.old) }
     ensures written { samples.new ≡ over (hands_on state.old (new_part state.old samples.old)) samples.old }
 {
+    sized(*state);
     let len = samples.len();
     let counts = state.counts;
     let new = len - counts.held;

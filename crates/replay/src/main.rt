@@ -173,14 +173,16 @@ fn feed(
 ) -> Played
     ensures { result.size ≡ 0 }
 {
-    let before = played.state;
-    let fed = replay_feed::feed(before, bytes, samples, spans, repairs);
-    let state = fed.state;
-    let answer = fed.answer;
+    let mut state = played.state;
+    let fed = replay_feed::feed(&mut state, bytes, samples, spans, repairs);
+    let replaced = match fed {
+        Ok(f) => f.replaced,
+        Err(_) => 0,
+    };
     Played {
         state,
-        replaced: std::num::wrapping_add_u64(played.replaced, fed.replaced),
-        number: chain_call::number(answer),
+        replaced: std::num::wrapping_add_u64(played.replaced, replaced),
+        number: refusal::number(&fed),
         off: false,
         size: 0,
         failed: false,

@@ -1,36 +1,32 @@
 -- `chain_call::accept` runs the stages one after another. Assumes nothing.
-use mathlib.Core.Path.{refl, ap, ◌∙◌}
+use mathlib.Core.Path.{refl, ◌∙◌}
 use native.Mathlib.Omega.{arith}
 use Rattle.chain_state.proofs.laws.FitsLaws.{state_fit}
-use Rattle.rules.specs.Answers.{accepted}
 use Rattle.chain.specs.Stages.{Acceptable}
 use Rattle.chain.proofs.laws.CallTests.{acceptable}
 use Rattle.chain.proofs.laws.SliceLaws.{new_few, new_length}
 use Rattle.chain.proofs.laws.Processing.{ready_few, ready_inside, ran_bounded, ran_length, ready_count, ready_clamped, processed_written, processed_chain}
 use Rattle.chain_call.proofs.accept.Goals as goal
-use Rattle.chain_call.proofs.accept.Goals.{Start}
+use Rattle.chain_call.proofs.accept.Goals.{After-sized}
 
--- the slice is acceptable: an array field has its length
-fit : (s : Start) → Acceptable s.args.state.now s.args.samples.now s.args.spans.now s.args.repairs.now
-fit s =
-    acceptable s.args.state.now s.args.samples.now s.args.spans.now s.args.repairs.now s.requires
-    (s.well_formed.0.1.1.1.1.1.1.1.0.1.1.0.1.1.0.1.0.1)
-    (s.well_formed.0.1.1.1.1.1.1.1.0.1.1.0.1.1.1.0.1.0.1)
+-- the slice is acceptable
+fit : (s : After-sized) → Acceptable s.args.state.now s.args.samples.now s.args.spans.now s.args.repairs.now
+fit s = acceptable s.args.state.now s.args.samples.now s.args.spans.now s.args.repairs.now s.requires s.sized.ensures.rings s.sized.ensures.counts
 
 pub overflow_sub-new : goal.overflow_sub-new
-overflow_sub-new c = (fit (goal.at.overflow_sub-new c).Start).held_in
+overflow_sub-new c = (fit (goal.at.overflow_sub-new c).After-sized).held_in
 
 pub suppress-ran-requires : goal.suppress-ran-requires
 suppress-ran-requires c =
     record {
-      acceptable = fit (goal.at.suppress-ran-requires c).Start;
+      acceptable = fit (goal.at.suppress-ran-requires c).After-sized;
       pending_value = refl;
-      sorted_len = c.well_formed.0.1.1.1.1.0.1.1.1.1.0.1.0.1;
+      sorted_len = c.sized.ensures.sorted;
     }
 
 pub filter-blocked-requires : goal.filter-blocked-requires
 filter-blocked-requires c =
-    let s = (goal.at.filter-blocked-requires c).Start in
+    let s = (goal.at.filter-blocked-requires c).After-sized in
     let a = s.args in
     let r = c.suppress-ran.ensures in
     let k = r.ready in
@@ -45,7 +41,7 @@ filter-blocked-requires c =
 
 pub mark_released-marked-requires : goal.mark_released-marked-requires
 mark_released-marked-requires c =
-    let s = (goal.at.mark_released-marked-requires c).Start in
+    let s = (goal.at.mark_released-marked-requires c).After-sized in
     let a = s.args in
     let r = c.suppress-ran.ensures in
     let k = r.ready in
@@ -54,32 +50,32 @@ mark_released-marked-requires c =
       start_bound = ((state_fit a.state.now (fit s).stored.fits).released, ready_few a.state.now a.samples.now a.spans.now a.repairs.now (fit s) _ k);
     }
 
-pub overflow_add-counts : goal.overflow_add-counts
-overflow_add-counts c =
-    let s = (goal.at.overflow_add-counts c).Start in
+pub overflow_add-state : goal.overflow_add-state
+overflow_add-state c =
+    let s = (goal.at.overflow_add-state c).After-sized in
     let a = s.args in
     let n = (state_fit a.state.now (fit s).stored.fits).seen in
     let few = new_few a.state.now a.samples.now a.spans.now a.repairs.now (fit s) in
     let len = new_length a.state.now a.samples.now a.spans.now a.repairs.now (fit s) in
     omega arith
 
-pub overflow_add-counts-2 : goal.overflow_add-counts-2
-overflow_add-counts-2 c =
-    let s = (goal.at.overflow_add-counts-2 c).Start in
+pub overflow_add-state-2 : goal.overflow_add-state-2
+overflow_add-state-2 c =
+    let s = (goal.at.overflow_add-state-2 c).After-sized in
     let a = s.args in
     let n = (state_fit a.state.now (fit s).stored.fits).released in
     let few = ready_few a.state.now a.samples.now a.spans.now a.repairs.now (fit s) _ c.suppress-ran.ensures.ready in
     omega arith
 
-pub overflow_sub-counts : goal.overflow_sub-counts
-overflow_sub-counts c =
-    let s = (goal.at.overflow_sub-counts c).Start in
+pub overflow_sub-state : goal.overflow_sub-state
+overflow_sub-state c =
+    let s = (goal.at.overflow_sub-state c).After-sized in
     let a = s.args in
     ready_inside a.state.now a.samples.now a.spans.now a.repairs.now (fit s) _ c.suppress-ran.ensures.ready
 
-pub overflow_add-counts-3 : goal.overflow_add-counts-3
-overflow_add-counts-3 c =
-    let s = (goal.at.overflow_add-counts-3 c).Start in
+pub overflow_add-state-3 : goal.overflow_add-state-3
+overflow_add-state-3 c =
+    let s = (goal.at.overflow_add-state-3 c).After-sized in
     let a = s.args in
     let r = c.suppress-ran.ensures in
     let n = (state_fit a.state.now (fit s).stored.fits).clamped in
@@ -102,7 +98,7 @@ shape_of-repairs c = c.suppress-ran.auto.repairs
 
 pub returns : goal.returns
 returns c =
-    let s = (goal.at.returns c).Start in
+    let s = (goal.at.returns c).After-sized in
     let a = s.args in
     let r = c.suppress-ran.ensures in
     let m = c.suppress-ran.result in
