@@ -4,7 +4,8 @@
 ghost use Rattle.std.specs.Prelude.{◌≡◌, ◌++◌, map, ◌+◌, ◌^◌, ◌≤◌, ◌<◌, length, take, drop};
 ghost use Rattle.rules.specs.Log.{span_of};
 ghost use Rattle.rules.specs.Iq.{corrected_by};
-ghost use Rattle.rules.specs.Answers.{accepted, number_of};
+ghost use Rattle.rules.specs.Answers.{accepted};
+ghost use Rattle.refusal.specs.Words.{said_by};
 ghost use Rattle.rules.specs.Refusals.{too_many};
 ghost use Rattle.rules.specs.Constants.{total_limit};
 ghost use Rattle.stage_log.specs.View.{Logged};
@@ -13,40 +14,17 @@ ghost use Rattle.iq.specs.View.{settled_of};
 ghost use Rattle.stage_mode.specs.View.{mode_of};
 ghost use Rattle.impulse_slice.specs.Noted.{note_all, over};
 ghost use Rattle.chain_state.specs.Changed.{after_call};
+ghost use Rattle.dc.specs.Blocker.{Blocked};
 ghost use Rattle.chain.specs.Stages.{machine_of, notes_in, new_part, impulse_after, impulse_out, impulse_told, dc_after, blocked_by, noted_dc, noted_iq, hands_on};
 ghost use Rattle.chain.specs.Stages.{process, Acceptable};
 ghost use Rattle.chain.specs.Calls.{unread_refusal, told_unread, told_read, called};
-ghost use Rattle.chain_call.specs.Said.{said};
 
 use chain_state::{Counts, InputConditioner};
-use dc::{Blocked, DcBlocker};
+use dc::DcBlocker;
 use iq::Iq;
-use sample_guard::Found;
+use refusal::Refusal;
 use stage_log::{Log, Mark, Stage};
 use stage_mode::StageMode;
-
-// How a call is answered.
-#[derive(Clone, Copy)]
-pub enum Conditioned {
-    // So many samples are released, from the slice's first place on.
-    Ready(usize),
-    // Number 5.
-    BadState,
-    // Number 4.
-    BadLength,
-    // Number 6: the slice is shorter than what is held.
-    Short,
-    // Number 8: more than 2^48 samples in all.
-    TooMany,
-    // Number 7: the sample at this place is not usable.
-    Unusable(usize),
-}
-
-#[derive(Drop)]
-pub struct Called {
-    pub state: InputConditioner,
-    pub answer: Conditioned,
-}
 
 // The impulse stage over the samples behind the held ones; the answer is how many are released.
 fn suppress(
@@ -79,18 +57,16 @@ fn suppress(
     )
 }
 
-// The DC stage over the first `ready` samples.
-fn remove_dc(mode: StageMode, blocker: DcBlocker, samples: &mut [u64], ready: usize) -> Blocked
+// The DC stage over the first `ready` samples: on how many its update was clamped.
+fn remove_dc(mode: StageMode, blocker: &mut DcBlocker, samples: &mut [u64], ready: usize) -> u64
     requires ready_in_bounds { ready ≤ length samples.old }
-    requires ready_bound { blocker.n + ready < 2 ^ 64 }
-    ensures after { result ≡ dc_after (mode_of mode) blocker (take ready samples.old) }
-    ensures written { samples.new ≡ blocked_by (mode_of mode) blocker (take ready samples.old) ++ drop ready samples.old }
+    requires ready_bound { blocker.old.n + ready < 2 ^ 64 }
+    ensures after { ◌≡◌ {A = Blocked} (record { blocker = blocker.new; clamped = result })
+        (dc_after (mode_of mode) blocker.old (take ready samples.old)) }
+    ensures written { samples.new ≡ blocked_by (mode_of mode) blocker.old (take ready samples.old) ++ drop ready samples.old }
 {
     match mode {
-        StageMode::Off => Blocked {
-            blocker,
-            clamped: 0,
-        },
+        StageMode::Off => 0,
         StageMode::Observe => blocker.observe(&samples[..ready]),
         StageMode::Apply => blocker.process(&mut samples[..ready]),
     }
@@ -141,16 +117,23 @@ fn mark_iq(log: Log, iq: Iq, spans: &mut [u64], capacity: usize, start: u64, rea
 }
 
 // The DC and the IQ stage over the first `ready` samples.
-fn filter(mode: StageMode, blocker: DcBlocker, iq: Iq, samples: &mut [u64], ready: usize) -> Blocked
+fn filter(
+    mode: StageMode,
+    blocker: &mut DcBlocker,
+    iq: Iq,
+    samples: &mut [u64],
+    ready: usize,
+) -> u64
     requires ready_in_bounds { ready ≤ length samples.old }
-    requires ready_bound { blocker.n + ready < 2 ^ 64 }
-    ensures after { result ≡ dc_after (mode_of mode) blocker (take ready samples.old) }
+    requires ready_bound { blocker.old.n + ready < 2 ^ 64 }
+    ensures after { ◌≡◌ {A = Blocked} (record { blocker = blocker.new; clamped = result })
+        (dc_after (mode_of mode) blocker.old (take ready samples.old)) }
     ensures written { samples.new
-        ≡ map (corrected_by (settled_of iq)) (blocked_by (mode_of mode) blocker (take ready samples.old)) ++ drop ready samples.old }
+        ≡ map (corrected_by (settled_of iq)) (blocked_by (mode_of mode) blocker.old (take ready samples.old)) ++ drop ready samples.old }
 {
-    let after = remove_dc(mode, blocker, samples, ready);
+    let clamped = remove_dc(mode, blocker, samples, ready);
     correct(iq, samples, ready);
-    after
+    clamped
 }
 
 // The marks over what is released.
@@ -173,148 +156,114 @@ fn mark_released(
     mark_iq(marked, iq, spans, capacity, start, ready)
 }
 
+// The lengths of a state's arrays. They follow from its type where it is passed by value, and not where
+// its parts stand behind a reference.
+fn sized(state: InputConditioner)
+    ensures rings { length state.notes.log.rings ≡ 12 }
+    ensures counts { length state.notes.log.counts ≡ 12 }
+    ensures sorted { length state.suppressor.sorted ≡ window_size }
+{}
+
 // The stages one after another, over a slice that is not refused.
 pub fn accept(
-    state: InputConditioner,
+    state: &mut InputConditioner,
     samples: &mut [u64],
     spans: &mut [u64],
     repairs: &mut [u64],
-) -> Called
-    requires { unread_refusal state (length samples.old) spans.old repairs.old ≡ 0 }
-    ensures answer { said result.answer ≡ accepted (length (hands_on state (new_part state samples.old))) }
-    ensures chain { machine_of result.state spans.new repairs.new
-        ≡ process (machine_of state spans.old repairs.old) (new_part state samples.old) }
-    ensures written { samples.new ≡ over (hands_on state (new_part state samples.old)) samples.old }
+) -> usize
+    requires { unread_refusal state.old (length samples.old) spans.old repairs.old ≡ 0 }
+    ensures ready { result ≡ length (hands_on state.old (new_part state.old samples.old)) }
+    ensures chain { machine_of state.new spans.new repairs.new
+        ≡ process (machine_of state.old spans.old repairs.old) (new_part state.old samples.old) }
+    ensures written { samples.new ≡ over (hands_on state.old (new_part state.old samples.old)) samples.old }
 {
-    let len = samples.len();
-    let counts = state.counts;
-    let new = len - counts.held;
-    let mut after = state;
-    let ready = suppress(&mut after, samples, spans, repairs);
+    sized(*state);
+    let before = state.counts;
+    let new = samples.len() - before.held;
+    let ready = suppress(state, samples, spans, repairs);
     let set = state.settings;
-    let mode = set.dc;
-    let iq = set.iq;
-    let before = state.blocker;
-    let blocked = filter(mode, before, iq, samples, ready);
-    let blocker = blocked.blocker;
-    let log = after.notes.log;
-    let marked = mark_released(
-        log,
-        mode,
-        iq,
+    let clamped = filter(set.dc, &mut state.blocker, set.iq, samples, ready);
+    state.notes.log = mark_released(
+        state.notes.log,
+        set.dc,
+        set.iq,
         spans,
         set.spans,
-        counts.released,
+        before.released,
         ready as u64,
     );
-    after.notes.log = marked;
-    let counts = Counts {
-        seen: counts.seen + new as u64,
-        released: counts.released + ready as u64,
-        held: len - ready,
-        clamped: counts.clamped + blocked.clamped,
+    state.counts = Counts {
+        seen: before.seen + new as u64,
+        released: before.released + ready as u64,
+        held: samples.len() - ready,
+        clamped: before.clamped + clamped,
     };
-    after.counts = counts;
-    after.blocker = blocker;
-    Called {
-        state: after,
-        answer: Conditioned::Ready(ready),
-    }
+    ready
 }
 
 // Whether the total with so many new samples is above 2^48.
 fn too_many(seen: u64, new: usize) -> bool
     ensures { result ≡ (too_many seen new).holds }
 {
-    if stage_log::TOTAL_LIMIT < seen {
-        return true;
-    }
-    stage_log::TOTAL_LIMIT - seen < new as u64
+    seen > stage_log::TOTAL_LIMIT || new as u64 > stage_log::TOTAL_LIMIT - seen
 }
 
 // What refuses a call before a sample is read: 5, 4, 6 or 8, by the state, the length of the slice and
-// the stores. `Ready(0)` where nothing does.
-pub fn refusal(state: InputConditioner, len: usize, spans: &[u64], repairs: &[u64]) -> Conditioned
-    ensures { said result ≡ told_unread (unread_refusal state len spans.now repairs.now) }
+// the stores.
+pub fn refusal(
+    state: &InputConditioner,
+    len: usize,
+    spans: &[u64],
+    repairs: &[u64],
+) -> Result<(), Refusal>
+    ensures { said_by (λ _. accepted 0) result ≡ told_unread (unread_refusal state.now len spans.now repairs.now) }
 {
-    let set = state.settings;
-    let log = state.notes.log;
-    let held = state.counts.held;
-    let seen = state.counts.seen;
     if !state.fits() {
-        return Conditioned::BadState;
+        return Err(Refusal::BadState);
     }
-    if repairs.len() != stage_log::REPAIR_WORDS * set.repairs {
-        return Conditioned::BadLength;
+    if repairs.len() != stage_log::REPAIR_WORDS * state.settings.repairs {
+        return Err(Refusal::BadLength);
     }
-    if spans.len() != stage_log::STORE_WORDS * set.spans {
-        return Conditioned::BadLength;
+    if spans.len() != stage_log::STORE_WORDS * state.settings.spans {
+        return Err(Refusal::BadLength);
     }
-    if !log.ends_fit(spans, set.spans) {
-        return Conditioned::BadState;
+    if !state.notes.log.ends_fit(spans, state.settings.spans) {
+        return Err(Refusal::BadState);
     }
-    if len < held {
-        return Conditioned::Short;
+    if len < state.counts.held {
+        return Err(Refusal::Short);
     }
-    if too_many(seen, len - held) {
-        return Conditioned::TooMany;
+    if too_many(state.counts.seen, len - state.counts.held) {
+        return Err(Refusal::TooMany);
     }
-    Conditioned::Ready(0)
+    Ok(())
 }
 
 // What refuses a call for a sample: 7, with the place of the first new one that is not usable.
-// `Ready(0)` where nothing does.
-pub fn unusable(samples: &[u64], held: usize) -> Conditioned
+pub fn unusable(samples: &[u64], held: usize) -> Result<(), Refusal>
     requires { held ≤ length samples.now }
-    ensures { said result ≡ told_read held (drop held samples.now) }
+    ensures { said_by (λ _. accepted 0) result ≡ told_read held (drop held samples.now) }
 {
-    let found = sample_guard::first_unusable(&samples[held..]);
-    if let Found::At(k) = found {
-        return Conditioned::Unusable(held + k);
-    }
-    Conditioned::Ready(0)
-}
-
-// Document 01's number of a refusal, and 0 where there is none.
-pub fn number(answer: Conditioned) -> u64
-    ensures { result ≡ number_of (said answer) }
-{
-    match answer {
-        Conditioned::Ready(_) => 0,
-        Conditioned::BadState => 5,
-        Conditioned::BadLength => 4,
-        Conditioned::Short => 6,
-        Conditioned::TooMany => 8,
-        Conditioned::Unusable(_) => 7,
+    match sample_guard::first_unusable(&samples[held..]) {
+        Some(k) => Err(Refusal::OutOfRange(held + k)),
+        None => Ok(()),
     }
 }
 
-// Conditions a slice in place: the held samples, which are not read, and then the new ones. What is
-// released stands in front; places from there on stay as they were.
+// Conditions a slice in place: the held samples, which are not read, and then the new ones. So many
+// samples are released, and stand in front; places from there on stay as they were.
 pub fn condition(
-    state: InputConditioner,
+    state: &mut InputConditioner,
     samples: &mut [u64],
     spans: &mut [u64],
     repairs: &mut [u64],
-) -> Called
-    ensures answer { said result.answer ≡ (called (machine_of state spans.old repairs.old) samples.old).said }
-    ensures chain { machine_of result.state spans.new repairs.new
-        ≡ (called (machine_of state spans.old repairs.old) samples.old).machine }
-    ensures written { samples.new ≡ (called (machine_of state spans.old repairs.old) samples.old).samples }
+) -> Result<usize, Refusal>
+    ensures answer { said_by accepted result ≡ (called (machine_of state.old spans.old repairs.old) samples.old).said }
+    ensures chain { machine_of state.new spans.new repairs.new
+        ≡ (called (machine_of state.old spans.old repairs.old) samples.old).machine }
+    ensures written { samples.new ≡ (called (machine_of state.old spans.old repairs.old) samples.old).samples }
 {
-    let unread = refusal(state, samples.len(), spans, repairs);
-    if number(unread) != 0 {
-        return Called {
-            state,
-            answer: unread,
-        };
-    }
-    let read = unusable(samples, state.counts.held);
-    if number(read) != 0 {
-        return Called {
-            state,
-            answer: read,
-        };
-    }
-    accept(state, samples, spans, repairs)
+    refusal(state, samples.len(), spans, repairs)?;
+    unusable(samples, state.counts.held)?;
+    Ok(accept(state, samples, spans, repairs))
 }

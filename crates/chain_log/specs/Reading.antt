@@ -1,6 +1,7 @@
 -- The log of a state, and a span in its store, in document 01's words. Definitions only.
-use Rattle.std.specs.Prelude.{Bool, cond, ◌&&◌, List, [], ◌∷◌, ℕ, zero, suc, ◌*◌, ltb, leb, eqb, length}
+use Rattle.std.specs.Prelude.{Bool, Option, Some, None, cond, ◌&&◌, List, [], ◌∷◌, ℕ, zero, suc, ◌*◌, ltb, leb, eqb, length}
 use Rattle.complex.specs.Complex.{Complex}
+use Rattle.complex.specs.declared.Complex64.{Complex64}
 use Rattle.complex.specs.View.{view64, make64}
 use Rattle.rules.specs.Constants.{span_limit}
 use Rattle.rules.specs.Mode.{Mode, runs}
@@ -8,26 +9,23 @@ use Rattle.rules.specs.Log.{Span, span_of, spans_of, store_width}
 use Rattle.rules.specs.Chain as rules
 use Rattle.rules.specs.Chain.{no_level, level_is}
 use Rattle.stage_log.specs.declared.Ring.{Ring}
+use Rattle.stage_log.specs.declared.Span as stage_log
 use Rattle.stage_log.specs.View.{marks_at}
 use Rattle.stage_log.specs.Check.{ring_of, dropped_in_all}
 use Rattle.stage_mode.specs.View.{mode_of}
 use Rattle.chain_state.specs.declared.InputConditioner.{InputConditioner}
-use Rattle.chain_log.specs.declared.DcLevel.{DcLevel}
-use Rattle.chain_log.specs.declared.DcLevel.TheVariants.{NoLevel, Level}
 use Rattle.chain_log.specs.declared.ConditioningLog.{ConditioningLog}
-use Rattle.chain_log.specs.declared.SpanRead.{SpanRead}
-use Rattle.chain_log.specs.declared.SpanRead.TheVariants.{NoSpan, Held}
 
 -- ---- the DC level
 
-abbrev pub level_of : DcLevel → rules.DcLevel
-level_of NoLevel = no_level
-level_of (Level z) = level_is (view64 z)
+abbrev pub level_of : Option Complex64 → rules.DcLevel
+level_of None = no_level
+level_of (Some z) = level_is (view64 z)
 
 -- and back
-abbrev pub level_from : rules.DcLevel → DcLevel
-level_from no_level = NoLevel
-level_from (level_is z) = Level (make64 z)
+abbrev pub level_from : rules.DcLevel → Option Complex64
+level_from no_level = None
+level_from (level_is z) = Some (make64 z)
 
 -- none where the stage is off
 abbrev pub level_where : Mode → Complex → rules.DcLevel
@@ -55,9 +53,9 @@ pub data Found : Type 0 where
   no_span : Found
   found : Span → Found
 
-abbrev pub said_span : SpanRead → Found
-said_span NoSpan = no_span
-said_span (Held s) = found (span_of s.start s.len)
+abbrev pub said_span : Option stage_log.Span → Found
+said_span None = no_span
+said_span (Some s) = found (span_of s.start s.len)
 
 -- number i of a list
 abbrev pub number_in : List Span → ℕ → Found

@@ -3,7 +3,7 @@
 
 ghost use Rattle.std.specs.Prelude.{◌≡◌, true, false, ◌&&◌};
 ghost use Rattle.iq.specs.View.{settled_of};
-ghost use Rattle.chain_state.specs.Fits.{counter, settings_fit, applies, held_by, counts_fit, ends_at, run_fits, left_fits, gate_fits, suppressor_fits};
+ghost use Rattle.chain_state.specs.Fits.{counter, settings_fit, applies, held_by, counts_fit, ends_at, run_fits, left_fits, gate_fits, running_fits, suppressor_fits};
 ghost use Rattle.chain_state.specs.Fits.{blocker_fits, coefficient_fits, begun_fits, monitor_fits, logs_fit, stages_fit, front_fits, state_fits};
 
 use dc::DcBlocker;
@@ -59,35 +59,27 @@ fn settings_fit(s: Settings, blocklen: u64) -> bool
 fn counters_fit(a: u64, b: u64, c: u64) -> bool
     ensures { result ≡ (counter a && counter b && counter c) }
 {
-    if stage_log::COUNTER_LIMIT < a {
-        return false;
-    }
-    if stage_log::COUNTER_LIMIT < b {
-        return false;
-    }
-    c <= stage_log::COUNTER_LIMIT
+    a <= stage_log::COUNTER_LIMIT && b <= stage_log::COUNTER_LIMIT && c <= stage_log::COUNTER_LIMIT
 }
 
 // How many samples are held of so many seen.
 fn held_by(applies: bool, seen: u64) -> usize
     ensures { result ≡ held_by applies seen }
 {
-    if !applies {
-        return 0;
+    if applies {
+        impulse_arrays::holds(ImpulseSuppressor::LOOKAHEAD, seen)
+    } else {
+        0
     }
-    impulse_arrays::holds(ImpulseSuppressor::LOOKAHEAD, seen)
 }
 
+#[tactic(auto, unfolding(crate::specs::Fits::counts_fit))]
 fn counts_fit(applies: bool, counts: Counts) -> bool
     ensures { result ≡ counts_fit applies counts }
 {
-    if !counters_fit(counts.seen, counts.released, counts.clamped) {
-        return false;
-    }
-    if counts.held != held_by(applies, counts.seen) {
-        return false;
-    }
-    counts.released + counts.held as u64 == counts.seen
+    counters_fit(counts.seen, counts.released, counts.clamped)
+        && counts.held == held_by(applies, counts.seen)
+        && counts.released + counts.held as u64 == counts.seen
 }
 
 // ---- the impulse stage
@@ -96,13 +88,7 @@ fn counts_fit(applies: bool, counts: Counts) -> bool
 fn ends_at(run: Run, j: u64) -> bool
     ensures { result ≡ ends_at run j }
 {
-    if run.len == 0 {
-        return false;
-    }
-    if j < run.start {
-        return false;
-    }
-    j - run.start == run.len
+    run.len != 0 && run.start <= j && j - run.start == run.len
 }
 
 fn run_fits(run: Option<Run>, j: u64) -> bool
@@ -117,62 +103,49 @@ fn left_fits(left: Option<u64>) -> bool
     left.is_none_or(|x| amplitude_limit::within(x))
 }
 
+#[tactic(auto, unfolding(crate::specs::Fits::gate_fits))]
 fn gate_fits(g: &Gate) -> bool
     ensures { result ≡ gate_fits g.now }
 {
-    if !counters_fit(g.received, g.block.number, g.block.flagged) {
-        return false;
-    }
-    if !run_fits(g.mending.run, impulse::next_judged(g.received)) {
-        return false;
-    }
-    left_fits(g.mending.left)
+    counters_fit(g.received, g.block.number, g.block.flagged)
+        && run_fits(g.mending.run, impulse::next_judged(g.received))
+        && left_fits(g.mending.left)
 }
 
-// The arrays, and where the stage runs how many samples it has received, and its sorted list.
+// Where the stage runs, how many samples it has received, and its sorted list.
+#[tactic(auto, unfolding(crate::specs::Fits::running_fits))]
+fn running_fits(m: &ImpulseSuppressor, seen: u64) -> bool
+    ensures { result ≡ running_fits m.now seen }
+{
+    let held = impulse_arrays::holds(ImpulseSuppressor::WINDOW, m.gate.received);
+    m.gate.received == seen && impulse_arrays::sorted_fits(held, &m.window, &m.sorted)
+}
+
+// The arrays, and where the stage runs the rest.
+#[tactic(auto, unfolding(crate::specs::Fits::suppressor_fits))]
 fn suppressor_fits(m: &ImpulseSuppressor, running: bool, seen: u64) -> bool
     ensures { result ≡ suppressor_fits m.now running seen }
 {
-    let received = m.gate.received;
-    if !impulse_arrays::arrays_fit(received, &m.window, &m.pending) {
-        return false;
-    }
-    if !running {
-        return true;
-    }
-    if received != seen {
-        return false;
-    }
-    impulse_arrays::sorted_fits(
-        impulse_arrays::holds(ImpulseSuppressor::WINDOW, received),
-        &m.window,
-        &m.sorted,
-    )
+    impulse_arrays::arrays_fit(m.gate.received, &m.window, &m.pending)
+        && (!running || running_fits(m, seen))
 }
 
 // Whether the stage is off and no sample has come to it, so that there is nothing to test.
 fn is_untouched(running: bool, received: u64) -> bool
     ensures { result ≡ true → (running ≡ false) × (received ≡ 0) }
 {
-    if running {
-        return false;
-    }
-    received == 0
+    !running && received == 0
 }
 
 // ---- the other stages
 
+#[tactic(auto, unfolding(crate::specs::Fits::blocker_fits))]
 fn blocker_fits(b: DcBlocker) -> bool
     ensures { result ≡ blocker_fits b }
 {
-    let level = b.dc;
-    if stage_log::COUNTER_LIMIT < b.n {
-        return false;
-    }
-    if !amplitude_limit::is_limited(level.re) {
-        return false;
-    }
-    amplitude_limit::is_limited(level.im)
+    b.n <= stage_log::COUNTER_LIMIT
+        && amplitude_limit::is_limited(b.dc.re)
+        && amplitude_limit::is_limited(b.dc.im)
 }
 
 fn coefficient_fits(iq: Iq) -> bool
@@ -195,6 +168,7 @@ fn begun_fits(first: Option<u64>, end: u64) -> bool
     }
 }
 
+#[tactic(auto, unfolding(crate::specs::Fits::monitor_fits))]
 fn monitor_fits(m: ImageMonitor) -> bool
     ensures { result ≡ monitor_fits m }
 {
@@ -205,89 +179,55 @@ fn monitor_fits(m: ImageMonitor) -> bool
 
 impl InputConditioner {
     // Whether the impulse stage runs and applies.
-    pub fn applies(self) -> bool
-        ensures { result ≡ applies self }
+    pub fn applies(&self) -> bool
+        ensures { result ≡ applies self.now }
     {
-        let settings = self.settings;
-        let suppressor = self.suppressor;
-        let gate = suppressor.gate;
-        if !settings.impulse {
-            return false;
-        }
-        gate.settings.apply
+        self.settings.impulse && self.suppressor.gate.settings.apply
     }
 
     // The settings, the counts and the gate.
-    fn front_fits(self) -> bool
-        ensures { result ≡ front_fits self }
+    #[tactic(auto, unfolding(crate::specs::Fits::front_fits))]
+    fn front_fits(&self) -> bool
+        ensures { result ≡ front_fits self.now }
     {
-        let settings = self.settings;
-        let counts = self.counts;
-        let suppressor = self.suppressor;
-        let gate = suppressor.gate;
-        if !settings_fit(settings, gate.settings.blocklen) {
-            return false;
-        }
-        if !counts_fit(self.applies(), counts) {
-            return false;
-        }
-        gate_fits(&gate)
+        settings_fit(self.settings, self.suppressor.gate.settings.blocklen)
+            && counts_fit(self.applies(), self.counts)
+            && gate_fits(&self.suppressor.gate)
     }
 
-    fn impulse_fits(self) -> bool
-        ensures { result ≡ suppressor_fits self.suppressor self.settings.impulse self.counts.seen }
+    fn impulse_fits(&self) -> bool
+        ensures { result ≡ suppressor_fits self.now.suppressor self.now.settings.impulse self.now.counts.seen }
     {
-        let settings = self.settings;
-        let suppressor = self.suppressor;
-        let gate = suppressor.gate;
-        if is_untouched(settings.impulse, gate.received) {
-            return true;
-        }
-        suppressor_fits(&suppressor, settings.impulse, self.counts.seen)
+        is_untouched(self.settings.impulse, self.suppressor.gate.received)
+            || suppressor_fits(&self.suppressor, self.settings.impulse, self.counts.seen)
     }
 
-    fn logs_fit(self) -> bool
-        ensures { result ≡ logs_fit self }
+    #[tactic(auto, unfolding(crate::specs::Fits::logs_fit))]
+    fn logs_fit(&self) -> bool
+        ensures { result ≡ logs_fit self.now }
     {
-        let settings = self.settings;
-        let notes = self.notes;
-        let log = notes.log;
-        let repairs = notes.repairs;
-        if !log.fits(settings.spans) {
-            return false;
-        }
-        stage_log::ring_fits(repairs, notes.longruns, settings.repairs)
+        self.notes.log.fits(self.settings.spans)
+            && stage_log::ring_fits(
+                self.notes.repairs,
+                self.notes.longruns,
+                self.settings.repairs,
+            )
     }
 
-    fn stages_fit(self) -> bool
-        ensures { result ≡ stages_fit self }
+    #[tactic(auto, unfolding(crate::specs::Fits::stages_fit))]
+    fn stages_fit(&self) -> bool
+        ensures { result ≡ stages_fit self.now }
     {
-        let settings = self.settings;
-        let blocker = self.blocker;
-        let iq = settings.iq;
-        let monitor = self.monitor;
-        if !blocker_fits(blocker) {
-            return false;
-        }
-        if !coefficient_fits(iq) {
-            return false;
-        }
-        monitor_fits(monitor)
+        blocker_fits(self.blocker)
+            && coefficient_fits(self.settings.iq)
+            && monitor_fits(self.monitor)
     }
 
     // Number 5's tests of a state. The lent words have their own.
-    pub fn fits(self) -> bool
-        ensures { result ≡ state_fits self }
+    #[tactic(auto, unfolding(crate::specs::Fits::state_fits))]
+    pub fn fits(&self) -> bool
+        ensures { result ≡ state_fits self.now }
     {
-        if !self.front_fits() {
-            return false;
-        }
-        if !self.impulse_fits() {
-            return false;
-        }
-        if !self.logs_fit() {
-            return false;
-        }
-        self.stages_fit()
+        self.front_fits() && self.impulse_fits() && self.logs_fit() && self.stages_fit()
     }
 }

@@ -112,36 +112,21 @@ fn read_block(rt: &impl Input, bytes: &mut [u8]) -> io::Result<usize>
 
 // ---- playing
 
-// How a call was answered: so many samples are released.
-fn answered(answer: Conditioned) -> Result<usize, Refusal>
-    ensures { said_by accepted result ≡ said answer }
-{
-    match answer {
-        Conditioned::Ready(ready) => Ok(ready),
-        Conditioned::BadState => Err(Refusal::BadState),
-        Conditioned::BadLength => Err(Refusal::BadLength),
-        Conditioned::Short => Err(Refusal::Short),
-        Conditioned::TooMany => Err(Refusal::TooMany),
-        Conditioned::Unusable(place) => Err(Refusal::OutOfRange(place)),
-    }
-}
-
 // Feeds the first bytes of the block.
 fn feed(playing: Playing, size: usize, stores: &mut Stores) -> Result<Playing, Refusal>
     requires { IsPrefixLen size stores.old.block }
 {
+    let mut state = playing.state;
     let fed = replay_feed::feed(
-        playing.state,
+        &mut state,
         &stores.block[..size],
         &mut stores.samples,
         &mut stores.spans,
         &mut stores.repairs,
-    );
-    let replaced = playing.replaced.wrapping_add(fed.replaced);
-    answered(fed.answer)?;
+    )?;
     Ok(Playing {
-        state: fed.state,
-        replaced,
+        state,
+        replaced: playing.replaced.wrapping_add(fed.replaced),
     })
 }
 

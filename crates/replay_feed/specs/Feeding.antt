@@ -1,11 +1,13 @@
 -- A block of a recording: what it answers, and what it makes of the state and of every lent word. Definitions only.
-use Rattle.std.specs.Prelude.{cond, List, ◌++◌, ℕ, ◌+◌, ◌-◌, ◌*◌, ◌/◌, min, eqb, length, take, drop}
+use Rattle.std.specs.Prelude.{cond, Result, Ok, Err, List, ◌++◌, ℕ, ◌+◌, ◌-◌, ◌*◌, ◌/◌, min, eqb, length, take, drop}
 use Rattle.rules.specs.Answers.{Said, number_of}
+use Rattle.refusal.specs.declared.Refusal.{Refusal}
 use Rattle.rules.specs.Guard.{guarded, unusable}
 use Rattle.chain_state.specs.declared.InputConditioner.{InputConditioner}
 use Rattle.chain.specs.Stages.{Machine}
 use Rattle.chain.specs.Calls.{Outcome, called}
 use Rattle.replay_format.specs.Format.{sample_size, words_in}
+use Rattle.replay_feed.specs.declared.Fed.{Fed}
 
 -- the held places in a store of samples
 abbrev pub held_in : InputConditioner → List ℕ → ℕ
@@ -56,3 +58,14 @@ unfoldable pub fed : Machine → List ℕ → List ℕ → BlockOutcome
 fed m bytes samples =
     let o = called m (slice m.state bytes samples) in
     cond (eqb (number_of o.said) 0) (taken_block m bytes samples o) (refused_block m samples o.said)
+
+-- ---- of an answer
+
+-- how many samples were replaced, and how many bytes were taken: none where the block is refused
+abbrev pub replaced_in : Result Fed Refusal → ℕ
+replaced_in (Ok f) = f.replaced
+replaced_in (Err e) = 0
+
+abbrev pub taken_in : Result Fed Refusal → ℕ
+taken_in (Ok f) = f.taken
+taken_in (Err e) = 0

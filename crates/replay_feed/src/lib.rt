@@ -1,31 +1,25 @@
 // A block of a recording's samples, guarded and fed to the chain.
 #![tactic(auto)]
 
-ghost use Rattle.std.specs.Prelude.{◌≡◌, ◌*◌, ◌≤◌, min, length, take};
+ghost use Rattle.std.specs.Prelude.{◌≡◌, ◌*◌, ◌≤◌, length, take};
+ghost use Rattle.rules.specs.Answers.{accepted};
+ghost use Rattle.refusal.specs.Words.{said_by};
 ghost use Rattle.rules.specs.Guard.{guarded, unusable};
 ghost use Rattle.chain.specs.Stages.{machine_of};
-ghost use Rattle.chain_call.specs.Said.{said};
 ghost use Rattle.replay_format.specs.Format.{sample_size, words_in};
-ghost use Rattle.replay_feed.specs.Feeding.{fed};
+ghost use Rattle.replay_feed.specs.Feeding.{fed, replaced_in, taken_in};
 
-use chain_call::Conditioned;
 use chain_state::InputConditioner;
+use refusal::Refusal;
 use replay_format::words::SAMPLE_SIZE;
 
-// How a block is answered, how many of its samples were replaced by 0, and how many of its bytes were
-// taken.
-#[derive(Drop)]
+// How many samples are released, how many of the block's samples were replaced by 0, and how many of its
+// bytes were taken.
+#[derive(Clone, Copy)]
 pub struct Fed {
-    pub state: InputConditioner,
-    pub answer: Conditioned,
+    pub ready: usize,
     pub replaced: u64,
     pub taken: usize,
-}
-
-fn least(a: usize, b: usize) -> usize
-    ensures { result ≡ min a b }
-{
-    if a < b { a } else { b }
 }
 
 // The first words of the bytes, guarded, and how many were replaced.
@@ -41,42 +35,31 @@ fn read_guarded(bytes: &[u8], part: &mut [u64]) -> u64
 // Feeds the whole samples of a block of bytes, as many as `samples` has room for behind the held
 // places, guarded. The held places are not read. A block that is refused leaves all as it was.
 pub fn feed(
-    state: InputConditioner,
+    state: &mut InputConditioner,
     bytes: &[u8],
     samples: &mut [u64],
     spans: &mut [u64],
     repairs: &mut [u64],
-) -> Fed
-    ensures answer { said result.answer
-        ≡ (fed (machine_of state spans.old repairs.old) bytes.now samples.old).said }
-    ensures chain { machine_of result.state spans.new repairs.new
-        ≡ (fed (machine_of state spans.old repairs.old) bytes.now samples.old).machine }
+) -> Result<Fed, Refusal>
+    ensures answer { said_by (λ f. accepted f.ready) result
+        ≡ (fed (machine_of state.old spans.old repairs.old) bytes.now samples.old).said }
+    ensures chain { machine_of state.new spans.new repairs.new
+        ≡ (fed (machine_of state.old spans.old repairs.old) bytes.now samples.old).machine }
     ensures written { samples.new
-        ≡ (fed (machine_of state spans.old repairs.old) bytes.now samples.old).samples }
-    ensures replaced { result.replaced
-        ≡ (fed (machine_of state spans.old repairs.old) bytes.now samples.old).replaced }
-    ensures taken { result.taken ≡ (fed (machine_of state spans.old repairs.old) bytes.now samples.old).taken }
+        ≡ (fed (machine_of state.old spans.old repairs.old) bytes.now samples.old).samples }
+    ensures replaced { replaced_in result
+        ≡ (fed (machine_of state.old spans.old repairs.old) bytes.now samples.old).replaced }
+    ensures taken { taken_in result ≡ (fed (machine_of state.old spans.old repairs.old) bytes.now samples.old).taken }
 {
-    let held = least(state.counts.held, samples.len());
-    let new = least(bytes.len() / SAMPLE_SIZE, samples.len() - held);
+    let held = state.counts.held.min(samples.len());
+    let new = (bytes.len() / SAMPLE_SIZE).min(samples.len() - held);
     let end = held + new;
-    let unread = chain_call::refusal(state, end, spans, repairs);
-    if chain_call::number(unread) != 0 {
-        return Fed {
-            state,
-            answer: unread,
-            replaced: 0,
-            taken: 0,
-        };
-    }
+    chain_call::refusal(state, end, spans, repairs)?;
     let replaced = read_guarded(bytes, &mut samples[held..end]);
-    let called = chain_call::accept(state, &mut samples[..end], spans, repairs);
-    let after = called.state;
-    let answer = called.answer;
-    Fed {
-        state: after,
-        answer,
+    let ready = chain_call::accept(state, &mut samples[..end], spans, repairs);
+    Ok(Fed {
+        ready,
         replaced,
         taken: SAMPLE_SIZE * new,
-    }
+    })
 }

@@ -4,7 +4,6 @@
 
 ghost use Rattle.std.specs.Prelude.{◌≡◌, ◌≤◌, length, take};
 
-use chain_call::Conditioned;
 use chain_config::ConditioningConfig;
 use chain_words::{STATE_WORDS, read_state, write_state};
 use iq_monitor::Heard;
@@ -33,21 +32,18 @@ pub fn plain(number: u64) -> Told {
     Told { number, value: 0 }
 }
 
-fn told_call(answer: Conditioned) -> Told {
-    let number = chain_call::number(answer);
+fn told_call(answer: Result<usize, Refusal>) -> Told {
+    let number = refusal::number(&answer);
     match answer {
-        Conditioned::Ready(ready) => Told {
+        Ok(ready) => Told {
             number,
             value: ready as u64,
         },
-        Conditioned::Unusable(place) => Told {
+        Err(Refusal::OutOfRange(place)) => Told {
             number,
             value: place as u64,
         },
-        Conditioned::BadLength
-        | Conditioned::BadState
-        | Conditioned::Short
-        | Conditioned::TooMany => plain(number),
+        Err(_) => plain(number),
     }
 }
 
@@ -146,14 +142,14 @@ pub fn call(
     let n = part(samples, length);
     let s = part(spans, lent.spans);
     let r = part(repairs, lent.repairs);
-    let called = chain_call::condition(
-        read_state(words),
+    let mut state = read_state(words);
+    let answer = chain_call::condition(
+        &mut state,
         &mut samples[..n],
         &mut spans[..s],
         &mut repairs[..r],
     );
-    write_state(called.state, words);
-    let answer = called.answer;
+    write_state(state, words);
     told_call(answer)
 }
 

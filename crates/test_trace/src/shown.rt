@@ -2,7 +2,7 @@
 
 use crate::words::{answer_plain, bits, show_first, write_between, write_front, write_words};
 use crate::{Head, MONITOR_WORDS};
-use chain_log::{ConditioningLog, DcLevel, SpanRead};
+use chain_log::ConditioningLog;
 use chain_words::{APPLY, COEFFICIENT, RINGS, SEEN, STATE_WORDS, WINDOW, iq_words};
 use complex::Complex64;
 use stage_log::{Mark, Ring, Stage};
@@ -29,10 +29,10 @@ fn write_complex(rt: &impl Print, there: u64, z: Complex64) -> io::Result<()> {
     write_words(rt, &words)
 }
 
-fn write_level(rt: &impl Print, level: DcLevel) -> io::Result<()> {
+fn write_level(rt: &impl Print, level: Option<Complex64>) -> io::Result<()> {
     match level {
-        DcLevel::Level(dc) => write_complex(rt, 1, dc),
-        _ => write_complex(rt, 0, Complex64 { re: 0.0, im: 0.0 }),
+        Some(dc) => write_complex(rt, 1, dc),
+        None => write_complex(rt, 0, Complex64 { re: 0.0, im: 0.0 }),
     }
 }
 
@@ -64,7 +64,7 @@ fn write_log(rt: &impl Print, log: ConditioningLog) -> io::Result<()> {
 
 pub fn log(rt: &impl Print, state: &[u64; STATE_WORDS]) -> io::Result<()> {
     write_front(rt, [5, 0, 0, 0, 0, 0, 0, 63])?;
-    write_log(rt, chain_log::log(chain_words::read_state(state)))
+    write_log(rt, chain_log::log(&chain_words::read_state(state)))
 }
 
 // ---- the state
@@ -123,10 +123,10 @@ fn kind(w: u64) -> Mark {
     }
 }
 
-fn write_span(rt: &impl Print, read: SpanRead) -> io::Result<()> {
+fn write_span(rt: &impl Print, read: Option<Span>) -> io::Result<()> {
     match read {
-        SpanRead::Held(s) => answer_plain(rt, 8, plain(0), s.start, s.len),
-        _ => answer_plain(rt, 8, plain(NOTHING), 0, 0),
+        Some(s) => answer_plain(rt, 8, plain(0), s.start, s.len),
+        None => answer_plain(rt, 8, plain(NOTHING), 0, 0),
     }
 }
 
@@ -138,7 +138,7 @@ pub fn span(
 ) -> io::Result<()> {
     let a = part(spans, head.d as usize);
     let read = chain_log::span(
-        chain_words::read_state(state),
+        &chain_words::read_state(state),
         &spans[..a],
         stage(head.a),
         kind(head.b),

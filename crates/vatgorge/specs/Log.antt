@@ -1,9 +1,8 @@
 -- vg_log: the words of a log. Definitions only.
-use Rattle.std.specs.Prelude.{List, [], ◌∷◌, ◌++◌, ℕ, ◌+◌}
+use Rattle.std.specs.Prelude.{Option, Some, None, List, [], ◌∷◌, ◌++◌, ℕ, ◌+◌}
 use Rattle.std.specs.Float.{binary64}
 use Rattle.std.specs.Float.Ieee.{to_bits}
-use Rattle.chain_log.specs.declared.DcLevel.{DcLevel}
-use Rattle.chain_log.specs.declared.DcLevel.TheVariants.{NoLevel, Level}
+use Rattle.complex.specs.declared.Complex64.{Complex64}
 use Rattle.chain_log.specs.declared.ConditioningLog.{ConditioningLog}
 use Rattle.chain_log.specs.Reading.{log_of}
 use Rattle.chain_words.specs.Words as words
@@ -11,11 +10,11 @@ use Rattle.chain_words.specs.Words.{iq_words, ring_words}
 use Rattle.chain_words.specs.States.{state_of}
 
 -- a tag, and the level's parts, 0 where there is none
-abbrev pub level_parts : DcLevel → ℕ × ℕ × ℕ
-level_parts NoLevel = (0, 0, 0)
-level_parts (Level z) = (1, to_bits binary64 z.re, to_bits binary64 z.im)
+abbrev pub level_parts : Option Complex64 → ℕ × ℕ × ℕ
+level_parts None = (0, 0, 0)
+level_parts (Some z) = (1, to_bits binary64 z.re, to_bits binary64 z.im)
 
-abbrev pub level_words : DcLevel → List ℕ
+abbrev pub level_words : Option Complex64 → List ℕ
 level_words l = let p = level_parts l in p.0 ∷ p.1 ∷ p.2 ∷ []
 
 -- the samples seen, released and held, the dropped spans, the repair ring, the runs that were too long, the DC level and how often its update was clamped, what

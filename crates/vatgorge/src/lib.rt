@@ -9,7 +9,8 @@ ghost use Rattle.rules.specs.Monitor.{channel_width};
 ghost use Rattle.iq_monitor.specs.Observe.{report_from};
 ghost use Rattle.iq_monitor.specs.Observe as monitor;
 ghost use Rattle.chain.specs.Stages.{machine_of};
-ghost use Rattle.chain_call.specs.Said.{said};
+ghost use Rattle.refusal.specs.Words.{said_by};
+ghost use Rattle.rules.specs.Answers.{accepted};
 ghost use Rattle.chain_log.specs.Reading.{said_span};
 ghost use Rattle.chain_words.specs.Places.{state_words};
 ghost use Rattle.chain_words.specs.States.{state_of};
@@ -20,12 +21,12 @@ ghost use Rattle.vatgorge.specs.Log as log;
 ghost use Rattle.vatgorge.specs.Span as span;
 ghost use Rattle.vatgorge.specs.Undo as undo;
 
-use chain_call::Conditioned;
-use chain_log::{ConditioningLog, DcLevel, SpanRead};
+use chain_log::ConditioningLog;
 use chain_state::InputConditioner;
 use iq_monitor::{Evidence, Heard, ImageMonitor};
 use refusal::Refusal;
-use stage_log::{Mark, Stage};
+use stage_log::{Mark, Stage, Span};
+use complex::Complex64;
 
 mod config;
 mod making;
@@ -130,16 +131,13 @@ fn keep(code: u64, state: InputConditioner, words: &mut [u64; chain_words::STATE
 // ---- a call
 
 // How many samples are ready goes to the first word, the place of one that is not usable to the second.
-fn tell_call(answer: Conditioned, out: &mut [u64; CONDITION_WORDS])
-    ensures { out.new ≡ condition.out_after out.old (said answer) }
+fn tell_call(answer: Result<usize, Refusal>, out: &mut [u64; CONDITION_WORDS])
+    ensures { out.new ≡ condition.out_after out.old (said_by accepted answer) }
 {
     match answer {
-        Conditioned::Ready(ready) => out[0] = ready as u64,
-        Conditioned::BadState => {}
-        Conditioned::BadLength => {}
-        Conditioned::Short => {}
-        Conditioned::TooMany => {}
-        Conditioned::Unusable(place) => out[1] = place as u64,
+        Ok(ready) => out[0] = ready as u64,
+        Err(Refusal::OutOfRange(place)) => out[1] = place as u64,
+        Err(_) => {}
     }
 }
 
@@ -166,24 +164,12 @@ pub extern "C" fn vg_condition(
     ensures chain { machine_of (state_of state.new) spans.new repairs.new
         ≡ (condition.called_in state.old samples.old spans.old repairs.old).machine }
 {
-    let asked = chain_words::read_state(state);
-    let unread = chain_call::refusal(asked, samples.len(), spans, repairs);
-    let unread_code = chain_call::number(unread);
-    if unread_code != 0 {
-        return unread_code;
-    }
-    let read = chain_call::unusable(samples, asked.counts.held);
-    let read_code = chain_call::number(read);
-    if read_code != 0 {
-        tell_call(read, out);
-        return read_code;
-    }
-    let called = chain_call::accept(asked, samples, spans, repairs);
-    let answer = called.answer;
+    let mut next = chain_words::read_state(state);
+    let answer = chain_call::condition(&mut next, samples, spans, repairs);
+    let code = refusal::number(&answer);
+    keep(code, next, state);
     tell_call(answer, out);
-    let next = called.state;
-    chain_words::write_state(next, state);
-    0
+    code
 }
 
 // ---- a hop
@@ -260,39 +246,34 @@ pub extern "C" fn vg_hop(
 
 // ---- the log
 
-fn level_words(level: DcLevel) -> [u64; 3]
+fn level_words(level: Option<Complex64>) -> [u64; 3]
     ensures { result ≡ log.level_words level }
 {
     match level {
-        DcLevel::NoLevel => [0, 0, 0],
-        DcLevel::Level(z) => [1, ieee::to_bits64(z.re), ieee::to_bits64(z.im)],
+        None => [0, 0, 0],
+        Some(z) => [1, ieee::to_bits64(z.re), ieee::to_bits64(z.im)],
     }
 }
 
 fn log_numbers(l: ConditioningLog) -> [u64; LOG_NUMBERS]
     ensures { result ≡ log.number_words l }
 {
-    let counts = l.counts;
-    let notes = l.notes;
-    let repairs = notes.repairs;
-    let dclevel = l.dclevel;
-    let iq = l.iq;
-    let ring = chain_words::ring_words(repairs);
-    let level = level_words(dclevel);
-    let settled = chain_words::iq_words(iq);
+    let ring = chain_words::ring_words(l.notes.repairs);
+    let level = level_words(l.dclevel);
+    let settled = chain_words::iq_words(l.iq);
     [
-        counts.seen,
-        counts.released,
-        counts.held as u64,
+        l.counts.seen,
+        l.counts.released,
+        l.counts.held as u64,
         l.dropped,
         ring[0],
         ring[1],
         ring[2],
-        notes.longruns,
+        l.notes.longruns,
         level[0],
         level[1],
         level[2],
-        counts.clamped,
+        l.counts.clamped,
         settled[0],
         settled[1],
         settled[2],
@@ -313,10 +294,9 @@ pub extern "C" fn vg_log(state: &[u64; chain_words::STATE_WORDS], out: &mut [u64
     ensures { out.new ≡ log.after state.now }
 {
     sized(*out);
-    let l = chain_log::log(chain_words::read_state(state));
-    let marks = l.notes.log;
+    let l = chain_log::log(&chain_words::read_state(state));
     chain_words::put(&log_numbers(l), out, 0);
-    chain_words::put_log(marks, out, LOG_NUMBERS);
+    chain_words::put_log(l.notes.log, out, LOG_NUMBERS);
 }
 
 // ---- a span
@@ -344,12 +324,12 @@ fn mark_at(w: u64) -> Mark
     }
 }
 
-fn tell_span(read: SpanRead, out: &mut [u64; SPAN_WORDS]) -> u64
+fn tell_span(read: Option<Span>, out: &mut [u64; SPAN_WORDS]) -> u64
     ensures { ◌≡◌ {A = span.After} (record { code = result; out = out.new }) (span.after_found out.old (said_span read)) }
 {
     match read {
-        SpanRead::NoSpan => NOTHING,
-        SpanRead::Held(s) => {
+        None => NOTHING,
+        Some(s) => {
             out[0] = s.start;
             out[1] = s.len;
             0
@@ -373,7 +353,7 @@ pub extern "C" fn vg_span(
         (span.after state.now spans.now stage mark i out.old) }
 {
     let read = chain_log::span(
-        chain_words::read_state(state),
+        &chain_words::read_state(state),
         spans,
         stage_at(stage),
         mark_at(mark),

@@ -1,13 +1,12 @@
 // A worked example: sixty samples with one click, mended in two calls, and the repair undone.
 #![tactic(auto)]
 
-use chain_call::Conditioned;
 use chain_config::ConditioningConfig;
-use chain_log::SpanRead;
 use chain_state::InputConditioner;
 use complex::Complex32;
 use impulse_pause::PauseEdition;
 use iq::Calibration;
+use refusal::Refusal;
 use stage_log::{Mark, Stage};
 use stage_mode::StageMode;
 use std::io;
@@ -42,22 +41,22 @@ fn print_sample(rt: &impl Print, words: &str, x: u64) -> io::Result<()> {
 }
 
 // How many samples a call released; a refused one releases none.
-fn released(answer: Conditioned) -> u64 {
+fn released(answer: Result<usize, Refusal>) -> u64 {
     match answer {
-        Conditioned::Ready(k) => k as u64,
-        _ => 0,
+        Ok(k) => k as u64,
+        Err(_) => 0,
     }
 }
 
 // What the log says: the samples seen, released and held, and where the click was.
-fn print_log(rt: &impl Print, state: InputConditioner, spans: &[u64]) -> io::Result<()> {
+fn print_log(rt: &impl Print, state: &InputConditioner, spans: &[u64]) -> io::Result<()> {
     let log = chain_log::log(state);
     let counts = log.counts;
     print_line(rt, "seen ", counts.seen)?;
     print_line(rt, "released ", counts.released)?;
     print_line(rt, "held ", counts.held as u64)?;
     let read = chain_log::span(state, spans, Stage::Impulse, Mark::Repaired, 0);
-    let SpanRead::Held(span) = read else {
+    let Some(span) = read else {
         return Ok(());
     };
     print_line(rt, "mended at ", span.start)
@@ -66,15 +65,13 @@ fn print_log(rt: &impl Print, state: InputConditioner, spans: &[u64]) -> io::Res
 // A call, which says how many samples are ready.
 fn call(
     rt: &impl Print,
-    state: InputConditioner,
+    state: &mut InputConditioner,
     samples: &mut [u64],
     spans: &mut [u64],
     repairs: &mut [u64],
-) -> io::Result<InputConditioner> {
-    let called = chain_call::condition(state, samples, spans, repairs);
-    let answer = called.answer;
-    print_line(rt, "ready ", released(answer))?;
-    Ok(called.state)
+) -> io::Result<()> {
+    let answer = chain_call::condition(state, samples, spans, repairs);
+    print_line(rt, "ready ", released(answer))
 }
 
 fn main(rt: HostRuntime) -> io::Result<()> {
@@ -83,22 +80,22 @@ fn main(rt: HostRuntime) -> io::Result<()> {
     let mut repairs = [0u64; 24];
     let mut words = [0.0f64; 32];
     let made = chain_make::with_geometry(configuration(), &mut spans, &mut repairs, &mut words);
-    let Ok(Some(fresh)) = made else {
+    let Ok(Some(mut state)) = made else {
         return Ok(());
     };
 
     // thirty samples, a click at 20: nine are released and 21 held
     let mut first = [real(1.0); 30];
     first[20] = real(100.0);
-    let state = call(&rt, fresh, &mut first, &mut spans, &mut repairs)?;
+    call(&rt, &mut state, &mut first, &mut spans, &mut repairs)?;
 
     // thirty more, behind the places of the held ones: samples 9 to 38 are released
     let mut second = [real(1.0); 51];
-    let last = call(&rt, state, &mut second, &mut spans, &mut repairs)?;
+    call(&rt, &mut state, &mut second, &mut spans, &mut repairs)?;
     print_sample(&rt, "sample 20 is ", second[11])?;
-    print_log(&rt, last, &spans)?;
+    print_log(&rt, &state, &spans)?;
 
     // the repair lifted out again
-    chain_undo::revert_repairs(last, &repairs, &mut second, 9);
+    chain_undo::revert_repairs(state, &repairs, &mut second, 9);
     print_sample(&rt, "sample 20 was ", second[11])
 }

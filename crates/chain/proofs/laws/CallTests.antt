@@ -1,12 +1,12 @@
 -- A call by the answers of its tests. Assumes nothing.
-use Rattle.std.specs.Prelude.{◌≡◌, Bool, ℕ, zero, suc, ◌+◌, ◌-◌, ◌*◌, ◌≤◌, T, ltb, length, drop}
+use Rattle.std.specs.Prelude.{◌≡◌, Bool, Some, None, ℕ, zero, suc, ◌+◌, ◌-◌, ◌*◌, ◌≤◌, T, ltb, length, drop}
 use Rattle.std.proofs.Math.Path.{refl, ap}
 use Rattle.std.proofs.Common.{sym, ◌∙◌, arith}
 use Rattle.std.proofs.Math.Bool.{true, false, not, cond}
 use Rattle.std.proofs.lemmas.Bool.{false≢true}
 use mathlib.Core.List.{List, [], ◌∷◌, ◌++◌}
 use Rattle.std.proofs.Math.Dec.{eqb}
-use borrow.Author.Tests.{lt-ltb, le-ltb, eqb-true, ltb-true, ltb-false, not-false}
+use borrow.Author.Tests.{ne_eqb, lt-ltb, le-ltb, eqb-true, ltb-true, ltb-false, not-false}
 use Rattle.rules.specs.Guard.{usable, first_unusable_from, Usable}
 use Rattle.rules.specs.Answers.{Said, accepted, refused, number_of}
 use Rattle.rules.specs.Refusals.{Cause, first_of, too_many, unusable_at, any_unusable}
@@ -15,9 +15,7 @@ use Rattle.rules.specs.Log.{repair_width, store_width}
 use Rattle.rules.specs.Constants.{total_limit}
 use Rattle.amplitude_limit.specs.Limit.{returned}
 use Rattle.stage_log.specs.Check.{ends_fit}
-use Rattle.sample_guard.specs.declared.Found.{Found}
-use Rattle.sample_guard.specs.declared.Found.TheVariants.{At, Nothing}
-use Rattle.sample_guard.specs.Found.{found, place_in}
+use Rattle.sample_guard.specs.Found.{found}
 use Rattle.chain_state.specs.declared.InputConditioner.{InputConditioner}
 use Rattle.chain_state.specs.Fits.{state_fits}
 use Rattle.chain.specs.Stages.{new_part, Machine, machine_of, Acceptable}
@@ -66,21 +64,29 @@ abbrev pub call_number : Bool → Bool → Bool → Bool → Bool → Bool → B
 call_number fits repairs spans ends short many unusable =
     cond (not fits) 5 (cond (not repairs) 4 (cond (not spans) 4 (cond (not ends) 5 (cond short 6 (cond many 8 (cond unusable 7 0))))))
 
--- the number of what is told unread
-pub told_number : (n k : ℕ) (s : Said ℕ) → s ≡ told_unread n → k ≡ number_of s → n ≡ k
-told_number n k s e q = go n ∙ sym (q ∙ ap number_of e)
-  where
-    go : (n : ℕ) → n ≡ number_of (told_unread n)
-    go zero = refl
-    go (suc k) = refl
+-- what is told unread tells whether there is a number
+pub unread_none : (n : ℕ) → accepted 0 ≡ told_unread n → n ≡ 0
+unread_none zero e = refl
+unread_none (suc k) e = cc
+
+pub unread_some : (n : ℕ) (ws : List ℕ) → refused ws ≡ told_unread n → eqb n 0 ≡ false
+unread_some zero ws e = cc
+unread_some (suc k) ws e = ne_eqb (suc k) 0 (λ h. omega arith)
 
 -- what is told of the new samples tells whether one is not usable
-told_read_lem : (held : ℕ) (xs : List ℕ) (s : Said ℕ) → s ≡ told_read held xs → (any_unusable held xs).holds ≡ not (eqb (number_of s) 0)
-told_read_lem held xs s e = go (any_unusable held xs).holds ∙ ap (λ (x : Said ℕ). not (eqb (number_of x) 0)) (sym e)
+told_some : (held : ℕ) (xs ws : List ℕ) → refused ws ≡ told_read held xs → (any_unusable held xs).holds ≡ true
+told_some held xs ws e = go (any_unusable held xs).holds e
   where
-    go : (b : Bool) → b ≡ not (eqb (number_of {A = ℕ} (cond b (refused (7 ∷ unusable_at held xs ∷ [])) (accepted 0))) 0)
-    go true = refl
-    go false = refl
+    go : (b : Bool) → ◌≡◌ {A = Said ℕ} (refused ws) (cond b (refused (7 ∷ unusable_at held xs ∷ [])) (accepted 0)) → b ≡ true
+    go true e = refl
+    go false e = cc
+
+told_none : (held : ℕ) (xs : List ℕ) → accepted 0 ≡ told_read held xs → (any_unusable held xs).holds ≡ false
+told_none held xs e = go (any_unusable held xs).holds e
+  where
+    go : (b : Bool) → ◌≡◌ {A = Said ℕ} (accepted 0) (cond b (refused (7 ∷ unusable_at held xs ∷ [])) (accepted 0)) → b ≡ false
+    go true e = cc
+    go false e = refl
 
 module _ (c : InputConditioner) (len : ℕ) (spans repairs : List ℕ) where
   pub unread_by : (f r s e h t : Bool)
@@ -181,24 +187,20 @@ scan_all k (w ∷ ws) u = go (usable w) u.0 (scan_all (suc k) ws u.1)
 
 -- ---- what the scan found
 
-abbrev is_at : Found → Bool
-is_at (At k) = true
-is_at Nothing = false
-
-at_found : (n f k : ℕ) → At k ≡ found n f → (ltb f n ≡ true) × (k ≡ f)
+at_found : (n f k : ℕ) → Some k ≡ found n f → (ltb f n ≡ true) × (k ≡ f)
 unfolding found
 at_found n f k e = go (ltb f n) refl e
   where
-    go : (b : Bool) → ltb f n ≡ b → At k ≡ cond b (At f) Nothing → (ltb f n ≡ true) × (k ≡ f)
-    go true t h = (t, ap (place_in n) h)
-    go false t h = absurd (false≢true (sym (ap is_at h)))
+    go : (b : Bool) → ltb f n ≡ b → Some k ≡ cond b (Some f) None → (ltb f n ≡ true) × (k ≡ f)
+    go true t h = (t, cc)
+    go false t h = cc
 
-nothing_found : (n f : ℕ) → Nothing ≡ found n f → ltb f n ≡ false
+nothing_found : (n f : ℕ) → None ≡ found n f → ltb f n ≡ false
 unfolding found
 nothing_found n f e = go (ltb f n) refl e
   where
-    go : (b : Bool) → ltb f n ≡ b → Nothing ≡ cond b (At f) Nothing → ltb f n ≡ false
-    go true t h = absurd (false≢true (ap is_at h))
+    go : (b : Bool) → ltb f n ≡ b → None ≡ cond b (Some f) None → ltb f n ≡ false
+    go true t h = cc
     go false t h = t
 
 -- adding the same on both sides leaves a comparison
@@ -218,11 +220,11 @@ module _ (held : ℕ) (samples : List ℕ) (part : List ℕ) (is : part ≡ drop
   tested : (b : Bool) → ltb (first_unusable_from 0 part) (length part) ≡ b → (any_unusable held (drop held samples)).holds ≡ b
   tested b e = (λ i. ltb (shifted i) (held + length (sym is i))) ∙ ltb_shift held (first_unusable_from 0 part) (length part) ∙ e
 
-  pub scan_at : (k : ℕ) → At k ≡ found (length part) (first_unusable_from 0 part)
+  pub scan_at : (k : ℕ) → Some k ≡ found (length part) (first_unusable_from 0 part)
       → ((any_unusable held (drop held samples)).holds ≡ true) × (unusable_at held (drop held samples) ≡ held + k)
   scan_at k e = let f = at_found (length part) (first_unusable_from 0 part) k e in (tested true f.0, shifted ∙ ap (λ (n : ℕ). held + n) (sym f.1))
 
-  pub scan_fine : Nothing ≡ found (length part) (first_unusable_from 0 part) → (any_unusable held (drop held samples)).holds ≡ false
+  pub scan_fine : None ≡ found (length part) (first_unusable_from 0 part) → (any_unusable held (drop held samples)).holds ≡ false
   scan_fine e = tested false (nothing_found (length part) (first_unusable_from 0 part) e)
 
 -- ---- the outcome of a call, by the test that ends it
@@ -265,12 +267,12 @@ module _ (c : InputConditioner) (samples spans repairs : List ℕ) where
 
   module _ (z : unread_refusal c (length samples) spans repairs ≡ 0) where
     -- what is refused for a sample leaves all
-    pub read_declined : (s : Said ℕ) → s ≡ told_read c.counts.held (new_part c samples) → eqb (number_of s) 0 ≡ false
-        → Is (called (machine_of c spans repairs) samples) s (machine_of c spans repairs) samples
+    pub read_declined : (ws : List ℕ) → refused ws ≡ told_read c.counts.held (new_part c samples)
+        → Is (called (machine_of c spans repairs) samples) (refused ws) (machine_of c spans repairs) samples
     unfolding returned
-    read_declined s e some =
+    read_declined ws e =
         let place = unusable_at c.counts.held (new_part c samples) in
-        let u = told_read_lem c.counts.held (new_part c samples) s e ∙ ap not some in
+        let u = told_some c.counts.held (new_part c samples) ws e in
         let seven = e ∙ ap (λ (b : Bool). cond b (refused (7 ∷ place ∷ [])) (accepted 0)) u in
         let d = is_by (called (machine_of c spans repairs) samples) (refused (7 ∷ place ∷ [])) (machine_of c spans repairs) samples
         (declined_by c samples spans repairs 7 (by_order 0 true z u) refl) in
@@ -281,9 +283,9 @@ module _ (c : InputConditioner) (samples spans repairs : List ℕ) where
     accepted_call u = taken_by c samples spans repairs (by_order 0 false z u)
 
     -- what is not refused for a sample either is accepted
-    pub read_accepted : (s : Said ℕ) → s ≡ told_read c.counts.held (new_part c samples) → number_of s ≡ 0
+    pub read_accepted : accepted 0 ≡ told_read c.counts.held (new_part c samples)
         → called (machine_of c spans repairs) samples ≡ taken (machine_of c spans repairs) samples
-    read_accepted s e none = accepted_call (told_read_lem c.counts.held (new_part c samples) s e ∙ ap (λ (n : ℕ). not (eqb n 0)) none)
+    read_accepted e = accepted_call (told_none c.counts.held (new_part c samples) e)
 
     pub acceptable : length c.notes.log.rings ≡ 12 → length c.notes.log.counts ≡ 12 → Acceptable c samples spans repairs
     acceptable rings counts =

@@ -1,5 +1,5 @@
 -- `chain_call::accept` runs the stages one after another. Assumes nothing.
-use mathlib.Core.Path.{refl, ap, ◌∙◌}
+use mathlib.Core.Path.{refl, ◌∙◌}
 use Prim.Native.Nat.{◌+◌, ◌-◌}
 use native.Mathlib.Omega.{arith}
 use lib.ListN.{length}
@@ -9,38 +9,34 @@ use Rattle.chain_state.specs.Changed.{after_call}
 use Rattle.chain.specs.Stages.{machine_of}
 use Rattle.chain_state.specs.declared.InputConditioner.{InputConditioner}
 use Rattle.chain_state.proofs.laws.FitsLaws.{state_fit}
-use Rattle.rules.specs.Answers.{accepted}
 use Rattle.chain.specs.Stages.{Acceptable}
 use Rattle.chain.proofs.laws.CallTests.{acceptable}
 use Rattle.chain.proofs.laws.SliceLaws.{new_few, new_length}
 use Rattle.chain.proofs.laws.Processing.{ready_few, ready_inside, ran_bounded, ran_length, ready_count, ready_clamped, processed_written, processed_chain}
 use Rattle.chain_call.proofs.accept.Goals as goal
-use Rattle.chain_call.proofs.accept.Goals.{Start}
+use Rattle.chain_call.proofs.accept.Goals.{After-sized}
 
--- the slice is acceptable: an array field has its length
-fit : (s : Start) → Acceptable s.args.state s.args.samples.now s.args.spans.now s.args.repairs.now
-fit s =
-    acceptable s.args.state s.args.samples.now s.args.spans.now s.args.repairs.now s.requires
-    (s.well_formed.0.1.1.1.1.1.1.1.0.1.1.0.1.1.0.1.0.1)
-    (s.well_formed.0.1.1.1.1.1.1.1.0.1.1.0.1.1.1.0.1.0.1)
+-- the slice is acceptable
+fit : (s : After-sized) → Acceptable s.args.state.now s.args.samples.now s.args.spans.now s.args.repairs.now
+fit s = acceptable s.args.state.now s.args.samples.now s.args.spans.now s.args.repairs.now s.requires s.sized.ensures.rings s.sized.ensures.counts
 
 pub overflow_sub-new : goal.overflow_sub-new
-overflow_sub-new c = (fit (goal.at.overflow_sub-new c).Start).held_in
+overflow_sub-new c = (fit (goal.at.overflow_sub-new c).After-sized).held_in
 
 pub suppress-ready-requires : goal.suppress-ready-requires
 suppress-ready-requires c =
-    fit (goal.at.suppress-ready-requires c).Start
+    fit (goal.at.suppress-ready-requires c).After-sized
 
-pub filter-blocked-requires : goal.filter-blocked-requires
-filter-blocked-requires c =
-    let s = (goal.at.filter-blocked-requires c).Start in
+pub filter-clamped-requires : goal.filter-clamped-requires
+filter-clamped-requires c =
+    let s = (goal.at.filter-clamped-requires c).After-sized in
     let a = s.args in
     let r = c.suppress-ready.ensures in
     let k = r.ready in
-    let u = (state_fit a.state (fit s).stored.fits).updates in
-    let few = ready_few a.state a.samples.now a.spans.now a.repairs.now (fit s) _ k in
-    let inside = ready_inside a.state a.samples.now a.spans.now a.repairs.now (fit s) _ k in
-    let same = ran_length a.state a.samples.now a.spans.now a.repairs.now (fit s) c.suppress-ready.new.state.notes c.suppress-ready.result _ _ _ r.noted k r.written in
+    let u = (state_fit a.state.now (fit s).stored.fits).updates in
+    let few = ready_few a.state.now a.samples.now a.spans.now a.repairs.now (fit s) _ k in
+    let inside = ready_inside a.state.now a.samples.now a.spans.now a.repairs.now (fit s) _ k in
+    let same = ran_length a.state.now a.samples.now a.spans.now a.repairs.now (fit s) c.suppress-ready.new.state.notes c.suppress-ready.result _ _ _ r.noted k r.written in
     record {
       ready_in_bounds = omega arith;
       ready_bound = omega arith;
@@ -48,52 +44,52 @@ filter-blocked-requires c =
 
 pub mark_released-marked-requires : goal.mark_released-marked-requires
 mark_released-marked-requires c =
-    let s = (goal.at.mark_released-marked-requires c).Start in
+    let s = (goal.at.mark_released-marked-requires c).After-sized in
     let a = s.args in
     let r = c.suppress-ready.ensures in
     let k = r.ready in
     record {
-      bounded = ran_bounded a.state a.samples.now a.spans.now a.repairs.now (fit s) c.suppress-ready.new.state.notes c.suppress-ready.result _ _ _ r.noted k r.written;
-      start_bound = ((state_fit a.state (fit s).stored.fits).released, ready_few a.state a.samples.now a.spans.now a.repairs.now (fit s) _ k);
+      bounded = ran_bounded a.state.now a.samples.now a.spans.now a.repairs.now (fit s) c.suppress-ready.new.state.notes c.suppress-ready.result _ _ _ r.noted k r.written;
+      start_bound = ((state_fit a.state.now (fit s).stored.fits).released, ready_few a.state.now a.samples.now a.spans.now a.repairs.now (fit s) _ k);
     }
 
-pub overflow_add-counts : goal.overflow_add-counts
-overflow_add-counts c =
-    let s = (goal.at.overflow_add-counts c).Start in
+pub overflow_add-state : goal.overflow_add-state
+overflow_add-state c =
+    let s = (goal.at.overflow_add-state c).After-sized in
     let a = s.args in
-    let n = (state_fit a.state (fit s).stored.fits).seen in
-    let few = new_few a.state a.samples.now a.spans.now a.repairs.now (fit s) in
-    let len = new_length a.state a.samples.now a.spans.now a.repairs.now (fit s) in
+    let n = (state_fit a.state.now (fit s).stored.fits).seen in
+    let few = new_few a.state.now a.samples.now a.spans.now a.repairs.now (fit s) in
+    let len = new_length a.state.now a.samples.now a.spans.now a.repairs.now (fit s) in
     omega arith
 
-pub overflow_add-counts-2 : goal.overflow_add-counts-2
-overflow_add-counts-2 c =
-    let s = (goal.at.overflow_add-counts-2 c).Start in
+pub overflow_add-state-2 : goal.overflow_add-state-2
+overflow_add-state-2 c =
+    let s = (goal.at.overflow_add-state-2 c).After-sized in
     let a = s.args in
-    let n = (state_fit a.state (fit s).stored.fits).released in
-    let few = ready_few a.state a.samples.now a.spans.now a.repairs.now (fit s) _ c.suppress-ready.ensures.ready in
+    let n = (state_fit a.state.now (fit s).stored.fits).released in
+    let few = ready_few a.state.now a.samples.now a.spans.now a.repairs.now (fit s) _ c.suppress-ready.ensures.ready in
     omega arith
 
-pub overflow_sub-counts : goal.overflow_sub-counts
-overflow_sub-counts c =
-    let s = (goal.at.overflow_sub-counts c).Start in
+pub overflow_sub-state : goal.overflow_sub-state
+overflow_sub-state c =
+    let s = (goal.at.overflow_sub-state c).After-sized in
     let a = s.args in
-    ready_inside a.state a.samples.now a.spans.now a.repairs.now (fit s) _ c.suppress-ready.ensures.ready
+    ready_inside a.state.now a.samples.now a.spans.now a.repairs.now (fit s) _ c.suppress-ready.ensures.ready
 
-pub overflow_add-counts-3 : goal.overflow_add-counts-3
-overflow_add-counts-3 c =
-    let s = (goal.at.overflow_add-counts-3 c).Start in
+pub overflow_add-state-3 : goal.overflow_add-state-3
+overflow_add-state-3 c =
+    let s = (goal.at.overflow_add-state-3 c).After-sized in
     let a = s.args in
     let r = c.suppress-ready.ensures in
-    let n = (state_fit a.state (fit s).stored.fits).clamped in
+    let n = (state_fit a.state.now (fit s).stored.fits).clamped in
     let few =
-    ready_clamped a.state a.samples.now a.spans.now a.repairs.now (fit s) c.suppress-ready.new.state.notes c.suppress-ready.result _ _ _ r.noted r.ready
-    r.written _ c.filter-blocked.ensures.after in
+    ready_clamped a.state.now a.samples.now a.spans.now a.repairs.now (fit s) c.suppress-ready.new.state.notes c.suppress-ready.result _ _ _ r.noted r.ready
+    r.written _ c.filter-clamped.ensures.after in
     omega arith
 
 pub shape_of-samples : goal.shape_of-samples
 shape_of-samples c =
-    c.filter-blocked.auto.samples ∙ c.suppress-ready.auto.samples
+    c.filter-clamped.auto.samples ∙ c.suppress-ready.auto.samples
 
 pub shape_of-spans : goal.shape_of-spans
 shape_of-spans c =
@@ -105,27 +101,27 @@ shape_of-repairs c = c.suppress-ready.auto.repairs
 
 pub returns : goal.returns
 returns c =
-    let s = (goal.at.returns c).Start in
+    let s = (goal.at.returns c).After-sized in
     let a = s.args in
     let r = c.suppress-ready.ensures in
     let m = c.suppress-ready.new.state.notes in
     let k = c.suppress-ready.result in
-    let b = c.filter-blocked.result in
+    let b = c.filter-clamped.result in
     let l = c.mark_released-marked in
     let n : Counts = record {
-      seen = a.state.counts.seen + (length a.samples.now - a.state.counts.held);
-      released = a.state.counts.released + k;
+      seen = a.state.now.counts.seen + (length a.samples.now - a.state.now.counts.held);
+      released = a.state.now.counts.released + k;
       held = length a.samples.now - k;
-      clamped = a.state.counts.clamped + b.clamped;
+      clamped = a.state.now.counts.clamped + b.clamped;
     } in
     record {
-      answer = ap accepted (ready_count a.state a.samples.now a.spans.now a.repairs.now (fit s) m k _ _ _ r.noted r.ready r.written);
+      answer = ap accepted (ready_count a.state.now a.samples.now a.spans.now a.repairs.now (fit s) m k _ _ _ r.noted r.ready r.written);
       chain =
           ap (λ (x : InputConditioner). machine_of (after_call x n x.suppressor b.blocker (with_log m l.result)) l.new.spans c.suppress-ready.new.repairs) r.state
-          ∙ processed_chain a.state a.samples.now a.spans.now a.repairs.now (fit s) m k _ _ _ r.noted r.ready r.written _ refl b
-          c.filter-blocked.ensures.after _ _
+          ∙ processed_chain a.state.now a.samples.now a.spans.now a.repairs.now (fit s) m k _ _ _ r.noted r.ready r.written _ refl b
+          c.filter-clamped.ensures.after _ _
           l.ensures;
       written =
-          processed_written a.state a.samples.now a.spans.now a.repairs.now (fit s) m k _ _ _ r.noted r.ready r.written _
-          c.filter-blocked.ensures.written;
+          processed_written a.state.now a.samples.now a.spans.now a.repairs.now (fit s) m k _ _ _ r.noted r.ready r.written _
+          c.filter-clamped.ensures.written;
     }

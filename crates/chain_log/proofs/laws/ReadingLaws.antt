@@ -1,9 +1,10 @@
 -- The DC level stands in the code's type as in the rules'; a span by the tests of its store and ring. Assumes nothing.
-use Rattle.std.specs.Prelude.{◌≡◌, Bool, true, false, ◌&&◌, List, [], ◌∷◌, ℕ, zero, suc, ◌*◌, ◌≤◌, ◌<◌, ltb, leb, eqb, length, get_or, drop}
+use Rattle.std.specs.Prelude.{◌≡◌, Option, Some, None, Bool, true, false, ◌&&◌, List, [], ◌∷◌, ℕ, zero, suc, ◌*◌, ◌≤◌, ◌<◌, ltb, leb, eqb, length, get_or, drop}
 use Rattle.std.proofs.Math.Path.{refl, sym, ap}
 use Rattle.std.proofs.Common.{◌∙◌, arith, ltb-true, ltb-false, leb-true, eqb-true, length-drop, length-take-le}
 use Rattle.std.proofs.Math.Bool.{cond}
 use Rattle.std.proofs.lemmas.Bool.{false≢true}
+use Rattle.complex.specs.declared.Complex64.{Complex64}
 use Rattle.rules.proofs.laws.TestLaws.{both}
 use Rattle.rules.specs.Log.{Span, span_of, Sound, store_width}
 use Rattle.rules.proofs.laws.RingReading.{length_spans}
@@ -13,13 +14,11 @@ use Rattle.stage_log.specs.View.{Logged, marks_at}
 use Rattle.stage_log.specs.Check.{ring_of}
 use Rattle.stage_log.proofs.laws.LogLaws.{part_inside}
 use Rattle.chain_state.specs.declared.InputConditioner.{InputConditioner}
-use Rattle.chain_log.specs.declared.DcLevel.{DcLevel}
-use Rattle.chain_log.specs.declared.DcLevel.TheVariants.{NoLevel, Level}
 use Rattle.chain_log.specs.Reading.{level_of, level_from, no_span, found, number_in, store_fits, readable, spans_in, span_read}
 
-pub level_again : (l : DcLevel) → level_from (level_of l) ≡ l
-level_again NoLevel = refl
-level_again (Level z) = refl
+pub level_again : (l : Option Complex64) → level_from (level_of l) ≡ l
+level_again None = refl
+level_again (Some z) = refl
 
 -- ---- number i of a list
 

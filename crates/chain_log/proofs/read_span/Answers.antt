@@ -45,11 +45,11 @@ pub span_at-requires : goal.span_at-requires
 unfolding marks_at
 span_at-requires c =
     let a = c.args in
-    let h = has_is a.capacity (ring_of a.log a.which) a.i c.requires.which_value in
+    let h = has_is a.capacity (ring_of a.log.now a.which) a.i c.requires.which_value in
     record {
       sound =
           rw (add-sub_cancel_left (a.which * (a.capacity * 2)) (a.capacity * 2))
-          (read_sound a.capacity (record { log = a.log; spans = a.spans.now }) a.which c.requires.which_bound.1 h.0 c.requires.which_bound.0);
+          (read_sound a.capacity (record { log = a.log.now; spans = a.spans.now }) a.which c.requires.which_bound.1 h.0 c.requires.which_bound.0);
       i_lt_count = h.1;
     }
 

@@ -16,7 +16,7 @@ use Rattle.chain_log.proofs.span.Goals.{After-ring_number-which, After-has_span}
 pub returns-then-not-store_fits : goal.returns-then-not-store_fits
 returns-then-not-store_fits c =
     let a = c.args in
-    no_store a.state a.spans.now (ring_number (stage_of a.stage) (mark_of a.kind)) a.i
+    no_store a.state.now a.spans.now (ring_number (stage_of a.stage) (mark_of a.kind)) a.i
     (sym c.store_fits.ensures ∙ c.if-not-store_fits.true)
 
 few : (c : After-ring_number-which) → c.ring_number-which.result < 12
@@ -24,32 +24,32 @@ few c = let a = c.args in omega (arith, c.ring_number-which.ensures, ring_few a.
 
 -- the test of the ring that the stage and the kind name
 has : (c : After-has_span) → let a = c.args in
-    let r = ring_of a.state.notes.log (ring_number (stage_of a.stage) (mark_of a.kind)) in
-    (readable a.state.settings.spans r && ltb a.i r.count) ≡ c.has_span.result
+    let r = ring_of a.state.now.notes.log (ring_number (stage_of a.stage) (mark_of a.kind)) in
+    (readable a.state.now.settings.spans r && ltb a.i r.count) ≡ c.has_span.result
 has c =
     let a = c.args in
-    ap (λ (k : ℕ). readable a.state.settings.spans (ring_of a.state.notes.log k) && ltb a.i (ring_of a.state.notes.log k).count)
+    ap (λ (k : ℕ). readable a.state.now.settings.spans (ring_of a.state.now.notes.log k) && ltb a.i (ring_of a.state.now.notes.log k).count)
     (sym c.ring_number-which.ensures)
     ∙ sym c.has_span.ensures
 
-pub offset_bounds-log-which : goal.offset_bounds-log-which
-offset_bounds-log-which c = omega (arith, few (goal.at.offset_bounds-log-which c).After-ring_number-which)
+pub offset_bounds-state-which : goal.offset_bounds-state-which
+offset_bounds-state-which c = omega (arith, few (goal.at.offset_bounds-state-which c).After-ring_number-which)
 
-pub bounds-log-which : goal.bounds-log-which
-bounds-log-which c = few (goal.at.bounds-log-which c).After-ring_number-which
+pub bounds-state-which : goal.bounds-state-which
+bounds-state-which c = few (goal.at.bounds-state-which c).After-ring_number-which
 
 pub returns-then-not-has_span : goal.returns-then-not-has_span
 returns-then-not-has_span c =
     let a = c.args in
-    no_span_lem a.state a.spans.now (ring_number (stage_of a.stage) (mark_of a.kind)) a.i
+    no_span_lem a.state.now a.spans.now (ring_number (stage_of a.stage) (mark_of a.kind)) a.i
     (sym c.store_fits.ensures ∙ c.if-not-store_fits.false)
     (has (goal.at.returns-then-not-has_span c).After-has_span ∙ c.if-not-has_span.true)
 
-pub read_span-s-requires : goal.read_span-s-requires
-read_span-s-requires c =
+pub read_span-requires : goal.read_span-requires
+read_span-requires c =
     record {
       which_bound = (
-        few (goal.at.read_span-s-requires c).After-ring_number-which,
+        few (goal.at.read_span-requires c).After-ring_number-which,
         sym c.store_fits.ensures
             ∙ c.if-not-store_fits.false,
       );
@@ -59,8 +59,8 @@ read_span-s-requires c =
 pub returns : goal.returns
 returns c =
     let a = c.args in
-    ap found (rw c.ring_number-which.ensures at c.read_span-s.ensures)
-    ∙ one_span a.state a.spans.now (ring_number (stage_of a.stage) (mark_of a.kind)) a.i
+    ap found (rw c.ring_number-which.ensures at c.read_span.ensures)
+    ∙ one_span a.state.now a.spans.now (ring_number (stage_of a.stage) (mark_of a.kind)) a.i
     (sym c.store_fits.ensures
     ∙ c.if-not-store_fits.false)
     (has (goal.at.returns c).After-has_span ∙ c.if-not-has_span.false)

@@ -1,7 +1,10 @@
 -- Usable by the bit patterns; where a scan stands; guarding word by word. Assumes nothing.
-use Rattle.std.specs.Prelude.{◌≡◌, refl, Bool, true, false, not, cond, ◌&&◌, List, [], ◌∷◌, ◌++◌, map, ℕ, suc, ◌+◌, ◌/◌, ◌%◌, ◌^◌, ◌≤◌, ◌<◌, T, ltb, leb, pos, length, drop, take, set}
-use Rattle.std.proofs.Common.{ap, sym, ◌∙◌, subst, append_assoc, append-nil, add-one, arith, ltb-false, le-leb, drop_of_length-le, length-set, drop-cons, take-suc-set, drop-set-lt, take_all}
+use Rattle.std.specs.Prelude.{◌≡◌, refl, Bool, true, false, not, cond, ◌&&◌, List, [], ◌∷◌, ◌++◌, map, ℕ, suc, ◌+◌, ◌/◌, ◌%◌, ◌^◌, ◌≤◌, ◌<◌, T, ltb, leb, pos, length, drop, take, set, Option, Some, None}
+use Rattle.std.proofs.Common.{ap, sym, ◌∙◌, subst, append_assoc, append-nil, add-one, arith, ltb-false, le-ltb, lt-ltb, le-leb, drop_of_length-le, length-set, drop-cons, take-suc-set, drop-set-lt, take_all}
 use Rattle.std.proofs.lemmas.Bool.{lt-leb}
+use Rattle.std.specs.List.{AllWithin, HoldsAt}
+use Rattle.std.specs.Option.{MatchOption, unwrap_or}
+use Rattle.std.proofs.lemmas.Iterator.{index_from_first}
 use Rattle.std.specs.Float.{fin, binary32}
 use Rattle.std.specs.Float.Ieee.{of_fields, of_bits, to_bits, le, fits}
 use Rattle.std.specs.Float.Ieee.Bits.{is_true}
@@ -12,8 +15,7 @@ use Rattle.rules.specs.Guard.{magnitude, usable_part, usable, first_unusable_fro
 use Rattle.rules.specs.Lists.{at, indicator, all_of}
 use Rattle.rules.proofs.laws.ListLaws.{indicator_few}
 use Rattle.amplitude_limit.specs.Limit.{under}
-use Rattle.sample_guard.specs.declared.Found.TheVariants.{At, Nothing}
-use Rattle.sample_guard.specs.Found.{found, place_in, guarded_word}
+use Rattle.sample_guard.specs.Found.{found}
 use Rattle.sample_guard.proofs.laws.Patterns.{size_pattern}
 
 -- ---- the limit's pattern
@@ -56,27 +58,52 @@ usable_pattern w =
 
 -- ---- a place
 
-pub place_found : (n k : ℕ) → k ≤ n → place_in n (found n k) ≡ k
+pub place_found : (n k : ℕ) → k ≤ n → unwrap_or (found n k) n ≡ k
 unfolding found
 place_found n k h = go (ltb k n) refl
   where
-    go : (b : Bool) → ltb k n ≡ b → place_in n (cond b (At k) Nothing) ≡ k
+    go : (b : Bool) → ltb k n ≡ b → unwrap_or (cond b (Some k) None) n ≡ k
     go true e = refl
     go false e = let g = ltb-false k n e in omega arith
 
--- ---- a scan that has come to k
+-- ---- a scan
 
-pub scan_next : (xs : List ℕ) (k : ℕ) → k < length xs → usable (at xs k) ≡ true → first_unusable_from k (drop k xs) ≡ first_unusable_from (k + 1) (drop (k + 1) xs)
+from_next : (k : ℕ) (xs : List ℕ) → first_unusable_from (suc k) xs ≡ first_unusable_from k xs + 1
 unfolding first_unusable_from
-scan_next xs k h u = rw (drop-cons xs k 0 h, u, add-one k)
+from_next k [] = omega arith
+from_next k (x ∷ xs) = go (usable x) (from_next (suc k) xs)
+  where
+    go : (u : Bool) → first_unusable_from (suc (suc k)) xs ≡ first_unusable_from (suc k) xs + 1
+        → cond u (first_unusable_from (suc (suc k)) xs) (suc k) ≡ cond u (first_unusable_from (suc k) xs) k + 1
+    go true e = e
+    go false e = omega arith
 
-pub scan_stop : (xs : List ℕ) (k : ℕ) → k < length xs → usable (at xs k) ≡ false → first_unusable_from k (drop k xs) ≡ k
+from_hit : (x : ℕ) (xs : List ℕ) → usable x ≡ false → first_unusable_from 0 (x ∷ xs) ≡ 0
 unfolding first_unusable_from
-scan_stop xs k h u = rw (drop-cons xs k 0 h, u)
+from_hit x xs u = rw u
 
-pub scan_end : (xs : List ℕ) (k : ℕ) → length xs ≤ k → first_unusable_from k (drop k xs) ≡ k
+from_miss : (x : ℕ) (xs : List ℕ) → usable x ≡ true → first_unusable_from 0 (x ∷ xs) ≡ first_unusable_from 0 xs + 1
 unfolding first_unusable_from
-scan_end xs k h = ap (first_unusable_from k) (drop_of_length-le xs h)
+from_miss x xs u = rw u (from_next 0 xs)
+
+from_none : first_unusable_from 0 [] ≡ 0
+unfolding first_unusable_from
+from_none = refl
+
+-- the first place of a word that is not usable, with only usable ones before it
+abbrev pub IsFirstUnusable : List ℕ → Option ℕ → Type 0
+IsFirstUnusable xs r =
+    MatchOption r (AllWithin (λ w. usable w ≡ true) xs 0 (length xs))
+    (λ i. (i < length xs) × HoldsAt (λ w. usable w ≡ false) xs i × AllWithin (λ w. usable w ≡ true) xs 0 i)
+
+pub first_found : (xs : List ℕ) (r : Option ℕ) → IsFirstUnusable xs r → r ≡ found (length xs) (first_unusable_from 0 xs)
+unfolding found
+first_found xs r h = go r (index_from_first (first_unusable_from 0) (λ w. usable w ≡ false) (λ w. usable w ≡ true) from_none from_hit from_miss xs r h) h
+  where
+    go : (r : Option ℕ) → first_unusable_from 0 xs ≡ unwrap_or r (length xs) → IsFirstUnusable xs r
+        → r ≡ cond (ltb (first_unusable_from 0 xs) (length xs)) (Some (first_unusable_from 0 xs)) None
+    go None e h = rw (le-ltb (first_unusable_from 0 xs) (length xs) (omega arith))
+    go (Some i) e h = rw (e, lt-ltb i (length xs) h.0)
 
 -- among usable samples it finds nothing
 none_from : (k : ℕ) (xs : List ℕ) → T (all_of (under 0x5bb1_a2bc) xs) → first_unusable_from k xs ≡ k + length xs
@@ -103,31 +130,38 @@ pub record Guarding (xs₀ xs : List ℕ) (n k : ℕ) : Type 0 where
 pub guarding_start : (xs : List ℕ) → Guarding xs xs 0 0
 guarding_start xs = record { within = omega arith; long = refl; words = refl; count = omega arith; few = omega arith }
 
-guarded_here : (xs : List ℕ) (k : ℕ) → k < length xs → guarded (drop k xs) ≡ guarded_word (at xs k) ∷ guarded (drop (suc k) xs)
-unfolding guarded guarded_word
+guarded_here : (xs : List ℕ) (k : ℕ) → k < length xs → guarded (drop k xs) ≡ cond (usable (at xs k)) (at xs k) 0 ∷ guarded (drop (suc k) xs)
+unfolding guarded
 guarded_here xs k h = ap (map (λ w. cond (usable w) w 0)) (drop-cons xs k 0 h)
 
 unusable_here : (xs : List ℕ) (k : ℕ) → k < length xs → unusable (drop k xs) ≡ indicator (not (usable (at xs k))) + unusable (drop (suc k) xs)
 unfolding unusable
 unusable_here xs k h = ap unusable (drop-cons xs k 0 h)
 
-pub guarding_next : (xs₀ xs : List ℕ) (n k r : ℕ) → Guarding xs₀ xs n k → k < length xs → r ≡ indicator (not (usable (at xs k)))
-    → Guarding xs₀ (set xs k (guarded_word (at xs k))) (n + r) (k + 1)
-guarding_next xs₀ xs n k r g h e =
-    let v = guarded_word (at xs k) in
-    let behind = drop-set-lt (suc k) xs k v (omega arith) in
-    rw (add-one k)
-    (record {
-      within = omega (arith, g.long);
-      long = length-set xs k v ∙ g.long;
-      words =
-          (λ i. take-suc-set xs k v h i ++ guarded (behind i))
-          ∙ append_assoc (take k xs) (v ∷ []) (guarded (drop (suc k) xs))
-          ∙ ap (λ (l : List ℕ). take k xs ++ l) (sym (guarded_here xs k h))
-          ∙ g.words;
-      count = omega (arith, ap unusable behind, unusable_here xs k h, g.count);
-      few = omega (arith, g.few, indicator_few (not (usable (at xs k))));
-    })
+module _ (xs₀ xs : List ℕ) (n k : ℕ) (g : Guarding xs₀ xs n k) (h : k < length xs) where
+  guarding_next : (v : ℕ) (u : Bool) → usable (at xs k) ≡ u → v ≡ cond u (at xs k) 0 → Guarding xs₀ (set xs k v) (n + indicator (not u)) (k + 1)
+  guarding_next v u e s =
+      let behind = drop-set-lt (suc k) xs k v (omega arith) in
+      let here : cond (usable (at xs k)) (at xs k) 0 ∷ guarded (drop (suc k) xs) ≡ v ∷ guarded (drop (suc k) xs) =
+      (λ i. cond (e i) (at xs k) 0 ∷ guarded (drop (suc k) xs)) ∙ ap (λ (w : ℕ). w ∷ guarded (drop (suc k) xs)) (sym s) in
+      rw (add-one k)
+      (record {
+        within = omega (arith, g.long);
+        long = length-set xs k v ∙ g.long;
+        words =
+            (λ i. take-suc-set xs k v h i ++ guarded (behind i))
+            ∙ append_assoc (take k xs) (v ∷ []) (guarded (drop (suc k) xs))
+            ∙ ap (λ (l : List ℕ). take k xs ++ l) (sym (guarded_here xs k h ∙ here))
+            ∙ g.words;
+        count = omega (arith, ap unusable behind, unusable_here xs k h, g.count, ap (λ (b : Bool). indicator (not b)) e);
+        few = omega (arith, g.few, indicator_few (not u));
+      })
+
+  pub guarding_kept : usable (at xs k) ≡ true → Guarding xs₀ (set xs k (at xs k)) n (k + 1)
+  guarding_kept e = let z : n + 0 ≡ n = omega arith in rw z at (guarding_next (at xs k) true e refl)
+
+  pub guarding_replaced : usable (at xs k) ≡ false → Guarding xs₀ (set xs k 0) (n + 1) (k + 1)
+  guarding_replaced e = guarding_next 0 false e refl
 
 pub guarding_end : (xs₀ xs : List ℕ) (n k : ℕ) → Guarding xs₀ xs n k → length xs ≤ k → (xs ≡ guarded xs₀) × (n ≡ unusable xs₀)
 unfolding guarded unusable

@@ -1,11 +1,6 @@
--- `sample_guard::replace_unusable` meets its contract: the words before k are guarded, and those from k on are as they were. Assumes nothing.
-use Prim.Native.Nat.{◌-◌}
-use lib.ListN.{length}
+-- `sample_guard::replace_unusable`: the words before the loop's place are guarded, and those from it on are as they were.
 use Rattle.sample_guard.proofs.laws.GuardLaws.{Guarding}
 use Rattle.sample_guard.proofs.replace_unusable.Given as goal
 
-abbrev pub invariant-loop-k : goal.invariant-loop-k
-invariant-loop-k l = Guarding l.initial.samples l.samples l.replaced l.k
-
-abbrev pub decreases-loop-k : goal.decreases-loop-k
-decreases-loop-k l = length l.initial.samples - l.k
+abbrev pub invariant-loop-w : goal.invariant-loop-w
+invariant-loop-w l = Guarding l.initial.samples l.samples l.replaced l.w-index

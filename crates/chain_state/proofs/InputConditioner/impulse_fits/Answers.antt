@@ -1,5 +1,5 @@
 -- `chain_state::InputConditioner::impulse_fits` is `suppressor_fits`. Assumes nothing.
-use mathlib.Core.Path.{◌≡◌, refl}
+use mathlib.Core.Path.{◌≡◌, refl, ◌∙◌}
 use mathlib.Core.Bool.{Bool, true, false}
 use Prim.Native.Nat.{ℕ}
 use Rattle.stage_log.specs.Check.{all_to}
@@ -15,5 +15,5 @@ untouched m running seen e = rw (e.0, e.1) refl
 
 pub returns-then-is_untouched : goal.returns-then-is_untouched
 returns-then-is_untouched c =
-    let s = c.args.self in
-    untouched s.suppressor s.settings.impulse s.counts.seen (c.is_untouched.ensures c.if-is_untouched.true)
+    let s = c.args.self.now in
+    c.if-is_untouched.true ∙ untouched s.suppressor s.settings.impulse s.counts.seen (c.is_untouched.ensures c.if-is_untouched.true)
