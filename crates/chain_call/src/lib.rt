@@ -161,7 +161,6 @@ fn mark_released(
 fn sized(state: InputConditioner)
     ensures rings { length state.notes.log.rings ≡ 12 }
     ensures counts { length state.notes.log.counts ≡ 12 }
-    ensures sorted { length state.suppressor.sorted ≡ window_size }
 {}
 
 // The stages one after another, over a slice that is not refused.
@@ -179,9 +178,10 @@ pub fn accept(
 {
     sized(*state);
     let before = state.counts;
-    let new = samples.len() - before.held;
-    let ready = suppress(state, samples, spans, repairs);
     let set = state.settings;
+    let len = samples.len();
+    let new = len - before.held;
+    let ready = suppress(state, samples, spans, repairs);
     let clamped = filter(set.dc, &mut state.blocker, set.iq, samples, ready);
     state.notes.log = mark_released(
         state.notes.log,
@@ -195,7 +195,7 @@ pub fn accept(
     state.counts = Counts {
         seen: before.seen + new as u64,
         released: before.released + ready as u64,
-        held: samples.len() - ready,
+        held: len - ready,
         clamped: before.clamped + clamped,
     };
     ready
