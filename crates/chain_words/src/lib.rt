@@ -101,10 +101,7 @@ pub const STATE_WORDS: usize = COUNTS + 12;
 pub fn flag_word(b: bool) -> u64
     ensures { result ≡ flag_word b }
 {
-    if b {
-        return 1;
-    }
-    0
+    u64::from(b)
 }
 
 // Every word but 0 is true.
@@ -247,16 +244,14 @@ fn begun_at(w: u64, f: u64) -> Option<u64>
 fn settings_words(s: Settings) -> [u64; 9]
     ensures { result ≡ settings_words s }
 {
-    let dc = s.dc;
-    let iq = s.iq;
-    let settled = iq_words(iq);
+    let settled = iq_words(s.iq);
     [
         ieee::to_bits64(s.fs),
         s.n as u64,
         s.spans as u64,
         s.repairs as u64,
         flag_word(s.impulse),
-        mode_word(dc),
+        mode_word(s.dc),
         settled[0],
         settled[1],
         settled[2],
@@ -280,8 +275,7 @@ fn read_settings(words: &[u64; STATE_WORDS]) -> Settings
 fn gate_settings_words(s: GateSettings) -> [u64; 3]
     ensures { result ≡ gate_settings_words s }
 {
-    let edition = s.edition;
-    [flag_word(s.apply), u64::from(edition), s.blocklen]
+    [flag_word(s.apply), u64::from(s.edition), s.blocklen]
 }
 
 fn read_gate_settings(words: &[u64; STATE_WORDS]) -> GateSettings
@@ -330,12 +324,9 @@ fn read_block(words: &[u64; STATE_WORDS]) -> Block
 fn gate_words(g: Gate) -> [u64; 13]
     ensures { result ≡ gate_words g }
 {
-    let settings = g.settings;
-    let mending = g.mending;
-    let block = g.block;
-    let s = gate_settings_words(settings);
-    let m = mending_words(mending);
-    let b = block_words(block);
+    let s = gate_settings_words(g.settings);
+    let m = mending_words(g.mending);
+    let b = block_words(g.block);
     [
         s[0], s[1], s[2], g.received, m[0], m[1], m[2], m[3], m[4], m[5], b[0], b[1], b[2],
     ]
@@ -355,12 +346,11 @@ fn read_gate(words: &[u64; STATE_WORDS]) -> Gate
 fn blocker_words(b: DcBlocker) -> [u64; 4]
     ensures { result ≡ blocker_words b }
 {
-    let level = b.dc;
     [
         ieee::to_bits64(b.a),
         b.n,
-        ieee::to_bits64(level.re),
-        ieee::to_bits64(level.im),
+        ieee::to_bits64(b.dc.re),
+        ieee::to_bits64(b.dc.im),
     ]
 }
 
@@ -377,8 +367,7 @@ fn read_blocker(words: &[u64; STATE_WORDS]) -> DcBlocker
 fn monitor_words(m: ImageMonitor) -> [u64; 3]
     ensures { result ≡ monitor_words m }
 {
-    let first = m.first;
-    let begun = begun_words(first);
+    let begun = begun_words(m.first);
     [begun[0], begun[1], m.end]
 }
 
@@ -428,51 +417,32 @@ fn read_ring(words: &[u64; STATE_WORDS], at: usize) -> Ring
 fn notes_words(n: Notes) -> [u64; 4]
     ensures { result ≡ notes_words n }
 {
-    let repairs = n.repairs;
-    let ring = ring_words(repairs);
+    let ring = ring_words(n.repairs);
     [ring[0], ring[1], ring[2], n.longruns]
 }
 
 // ---- reading the arrays and the log
 
-// The words from a place on, as many as fit.
-fn copy_out(words: &[u64; STATE_WORDS], at: usize, out: &mut [u64])
-    requires fact_1 { at + length out.old ≤ place.state_words }
-    requires fact_2 { length words.now ≡ place.state_words }
-    ensures { out.new ≡ part at (length out.old) words.now }
-{
-    let mut k: usize = 0;
-    while k < out.len() {
-        out[k] = words[at + k];
-        k += 1;
-    }
-}
-
 fn read_powers(words: &[u64; STATE_WORDS], at: usize) -> [f32; ImpulseSuppressor::WINDOW]
-    requires fact_1 { at + window_size ≤ place.state_words }
-    requires fact_2 { length words.now ≡ place.state_words }
+    requires { at + window_size ≤ place.state_words }
     ensures { result ≡ powers_in at words.now }
 {
     let mut powers = [0.0f32; ImpulseSuppressor::WINDOW];
-    let mut k: usize = 0;
-    while k < ImpulseSuppressor::WINDOW {
-        powers[k] = power_of(words[at + k]);
-        k += 1;
+    for (k, power) in powers.iter_mut().enumerate() {
+        *power = power_of(words[at + k]);
     }
     powers
 }
 
 fn read_pending(words: &[u64; STATE_WORDS]) -> [u64; ImpulseSuppressor::LOOKAHEAD]
-    requires { length words.now ≡ place.state_words }
     ensures { result ≡ part place.pending lookahead_size words.now }
 {
     let mut pending = [0u64; ImpulseSuppressor::LOOKAHEAD];
-    copy_out(words, PENDING, &mut pending);
+    pending.copy_from_slice(&words[PENDING..RINGS]);
     pending
 }
 
 fn read_suppressor(words: &[u64; STATE_WORDS]) -> ImpulseSuppressor
-    requires { length words.now ≡ place.state_words }
     ensures { result ≡ suppressor_in words.now }
 {
     ImpulseSuppressor {
@@ -484,22 +454,17 @@ fn read_suppressor(words: &[u64; STATE_WORDS]) -> ImpulseSuppressor
 }
 
 fn read_log(words: &[u64; STATE_WORDS]) -> Log
-    requires { length words.now ≡ place.state_words }
     ensures { result ≡ log_in words.now }
 {
     let mut log = Log::fresh();
-    let mut k: usize = 0;
-    while k < 12 {
-        let ring = read_ring(words, RINGS + k * 3);
-        log.rings[k] = ring;
+    for k in 0..stage_log::RINGS {
+        log.rings[k] = read_ring(words, RINGS + k * 3);
         log.counts[k] = words[COUNTS + k];
-        k += 1;
     }
     log
 }
 
 fn read_notes(words: &[u64; STATE_WORDS]) -> Notes
-    requires { length words.now ≡ place.state_words }
     ensures { result ≡ notes_in words.now }
 {
     Notes {
@@ -509,16 +474,10 @@ fn read_notes(words: &[u64; STATE_WORDS]) -> Notes
     }
 }
 
-// How many words are lent, which their type says.
-fn sized(words: [u64; STATE_WORDS])
-    ensures { length words ≡ place.state_words }
-{}
-
 // The state that the words say; any words say one.
 pub fn read_state(words: &[u64; STATE_WORDS]) -> InputConditioner
     ensures { result ≡ state_of words.now }
 {
-    sized(*words);
     InputConditioner {
         settings: read_settings(words),
         counts: read_counts(words),
@@ -537,24 +496,18 @@ pub fn put(list: &[u64], words: &mut [u64], at: usize)
     ensures front { take (at + length list.now) words.new ≡ take at words.old ++ list.now }
     ensures sized { length words.new ≡ length words.old }
 {
-    let mut k: usize = 0;
-    while k < list.len() {
-        words[at + k] = list[k];
-        k += 1;
-    }
+    let end = at + list.len();
+    words[at..end].copy_from_slice(list);
 }
 
 fn put_powers(powers: &[f32; ImpulseSuppressor::WINDOW], words: &mut [u64], at: usize)
-    requires fact_1 { at + window_size ≤ length words.old }
-    requires fact_2 { length powers.now ≡ window_size }
+    requires { at + window_size ≤ length words.old }
     ensures front { take (at + window_size) words.new ≡ take at words.old ++ powers_words powers.now }
     ensures sized { length words.new ≡ length words.old }
     ensures held { All Held powers.now }
 {
-    let mut k: usize = 0;
-    while k < ImpulseSuppressor::WINDOW {
-        words[at + k] = power_word(powers[k]);
-        k += 1;
+    for (k, power) in powers.iter().enumerate() {
+        words[at + k] = power_word(*power);
     }
 }
 
@@ -563,11 +516,8 @@ fn put_rings(log: Log, words: &mut [u64], at: usize)
     ensures front { take (at + 36) words.new ≡ take at words.old ++ rings_words log.rings }
     ensures sized { length words.new ≡ length words.old }
 {
-    let mut k: usize = 0;
-    while k < 12 {
-        let ring = log.rings[k];
-        put(&ring_words(ring), words, at + k * 3);
-        k += 1;
+    for (k, ring) in log.rings.iter().enumerate() {
+        put(&ring_words(*ring), words, at + k * 3);
     }
 }
 
@@ -578,51 +528,34 @@ pub fn put_log(log: Log, words: &mut [u64], at: usize)
     ensures sized { length words.new ≡ length words.old }
 {
     put_rings(log, words, at);
-    let counts = log.counts;
-    put(&counts, words, at + 36);
+    put(&log.counts, words, at + 36);
 }
 
 // The settings, the gate and the DC blocker.
 fn write_stages(state: InputConditioner, words: &mut [u64; STATE_WORDS])
-    requires { length words.old ≡ place.state_words }
-    ensures front { take place.begun words.new ≡ stage_words state }
-    ensures sized { length words.new ≡ place.state_words }
+    ensures { take place.begun words.new ≡ stage_words state }
 {
-    let settings = state.settings;
-    let suppressor = state.suppressor;
-    let gate = suppressor.gate;
-    let blocker = state.blocker;
-    put(&settings_words(settings), words, RATE);
-    put(&gate_words(gate), words, APPLY);
-    put(&blocker_words(blocker), words, FACTOR);
+    put(&settings_words(state.settings), words, RATE);
+    put(&gate_words(state.suppressor.gate), words, APPLY);
+    put(&blocker_words(state.blocker), words, FACTOR);
 }
 
 // The monitor, the counts and the notes' numbers.
 fn write_counters(state: InputConditioner, words: &mut [u64; STATE_WORDS])
-    requires { length words.old ≡ place.state_words }
-    ensures front { take place.window words.new ≡ take place.begun words.old ++ counter_words state }
-    ensures sized { length words.new ≡ place.state_words }
+    ensures { take place.window words.new ≡ take place.begun words.old ++ counter_words state }
 {
-    let monitor = state.monitor;
-    let counts = state.counts;
-    let notes = state.notes;
-    put(&monitor_words(monitor), words, BEGUN);
-    put(&counts_words(counts), words, SEEN);
-    put(&notes_words(notes), words, REPAIR_RING);
+    put(&monitor_words(state.monitor), words, BEGUN);
+    put(&counts_words(state.counts), words, SEEN);
+    put(&notes_words(state.notes), words, REPAIR_RING);
 }
 
 fn write_arrays(m: ImpulseSuppressor, words: &mut [u64; STATE_WORDS])
-    requires { length words.old ≡ place.state_words }
     ensures front { take place.rings words.new ≡ take place.window words.old ++ arrays_words m }
-    ensures sized { length words.new ≡ place.state_words }
     ensures held { All Held m.window × All Held m.sorted }
 {
-    let window = m.window;
-    let sorted = m.sorted;
-    let pending = m.pending;
-    put_powers(&window, words, WINDOW);
-    put_powers(&sorted, words, SORTED);
-    put(&pending, words, PENDING);
+    put_powers(&m.window, words, WINDOW);
+    put_powers(&m.sorted, words, SORTED);
+    put(&m.pending, words, PENDING);
 }
 
 // ---- what the types say of the floats
@@ -645,15 +578,13 @@ fn iq_typed(iq: Iq)
 fn settings_typed(s: Settings)
     ensures { Double s.fs × IqTyped s.iq }
 {
-    let iq = s.iq;
-    iq_typed(iq);
+    iq_typed(s.iq);
 }
 
 fn blocker_typed(b: DcBlocker)
     ensures { Double b.a × Doubles b.dc }
 {
-    let level = b.dc;
-    complex_typed(level);
+    complex_typed(b.dc);
 }
 
 // Every word of the state. The words then say the state.
@@ -661,15 +592,10 @@ pub fn write_state(state: InputConditioner, words: &mut [u64; STATE_WORDS])
     ensures words { words.new ≡ words_of state }
     ensures again { state_of words.new ≡ state }
 {
-    let settings = state.settings;
-    let suppressor = state.suppressor;
-    let blocker = state.blocker;
-    let log = state.notes.log;
-    sized(*words);
-    settings_typed(settings);
-    blocker_typed(blocker);
+    settings_typed(state.settings);
+    blocker_typed(state.blocker);
     write_stages(state, words);
     write_counters(state, words);
-    write_arrays(suppressor, words);
-    put_log(log, words, RINGS);
+    write_arrays(state.suppressor, words);
+    put_log(state.notes.log, words, RINGS);
 }

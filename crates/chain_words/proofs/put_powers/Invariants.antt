@@ -10,6 +10,3 @@ use Rattle.chain_words.proofs.put_powers.Given as goal
 
 abbrev pub invariant-loop-k : goal.invariant-loop-k
 invariant-loop-k l = Filled (powers_words l.powers) l.at l.initial.words l.words l.k × All Held (take l.k l.powers)
-
-abbrev pub decreases-loop-k : goal.decreases-loop-k
-decreases-loop-k l = window_size - l.k

@@ -26,7 +26,7 @@ loop-k-preserved c =
     let rings = rings_in 12 (drop place.rings w) in
     let n = rings_length 12 (drop place.rings w) in
     let m = part_length place.counts 12 w (omega arith) in
-    let ring = c.read_ring-ring.ensures ∙ sym (ring_there place.rings 12 l.k w fresh_ring (omega arith)) in
+    let ring = c.read_ring.ensures ∙ sym (ring_there place.rings 12 l.k w fresh_ring (omega arith)) in
     let count = sym (get_d_part place.counts 12 l.k w 0 (omega arith)) in (
       made_next fresh_ring rings l.log.rings l.k _ (omega arith) ring l.invariant.0,
       made_next 0 (part place.counts 12 w) l.log.counts l.k _ (omega arith) count l.invariant.1,

@@ -8,6 +8,3 @@ use Rattle.chain_words.proofs.read_log.Given as goal
 
 abbrev pub invariant-loop-k : goal.invariant-loop-k
 invariant-loop-k l = Made (rings_in 12 (drop place.rings l.words)) l.log.rings l.k × Made (part place.counts 12 l.words) l.log.counts l.k
-
-abbrev pub decreases-loop-k : goal.decreases-loop-k
-decreases-loop-k l = 12 - l.k

@@ -25,7 +25,7 @@ loop-k-preserved c =
     let n = length-map power_of ws ∙ m in
     let e = get_or-map power_of ws l.k 0 in
     let g = get_d_part a.at window_size l.k a.words.now 0 (omega arith) in
-    made_next (power_of 0) (powers_in a.at a.words.now) l.powers l.k _ (omega arith) (c.power_of.ensures ∙ rw (e, g)) l.invariant
+    made_next (power_of 0) (powers_in a.at a.words.now) l.power-items l.k _ (omega arith) (c.power_of.ensures ∙ rw (e, g)) l.invariant
 
 pub returns : goal.returns
 returns c =
@@ -33,4 +33,4 @@ returns c =
     let l = c.loop-k in
     let p = c.requires in
     let n = length-map power_of (part a.at window_size a.words.now) ∙ part_length a.at window_size a.words.now (omega arith) in
-    made_all (power_of 0) (powers_in a.at a.words.now) l.powers l.k (omega arith) l.invariant
+    made_all (power_of 0) (powers_in a.at a.words.now) l.power-items l.k (omega arith) l.invariant

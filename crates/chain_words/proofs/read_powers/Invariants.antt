@@ -6,7 +6,4 @@ use Rattle.chain_words.proofs.Filling.{Made}
 use Rattle.chain_words.proofs.read_powers.Given as goal
 
 abbrev pub invariant-loop-k : goal.invariant-loop-k
-invariant-loop-k l = Made (powers_in l.at l.words) l.powers l.k
-
-abbrev pub decreases-loop-k : goal.decreases-loop-k
-decreases-loop-k l = window_size - l.k
+invariant-loop-k l = Made (powers_in l.at l.words) l.power-items l.k

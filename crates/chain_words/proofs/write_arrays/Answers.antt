@@ -14,7 +14,7 @@ pub put-requires : goal.put-requires
 put-requires c =
     let pending = c.args.m.pending in
     let n : length pending ≡ lookahead_size = c.well_formed.0.1.1.1.1.1.0.1.0.1 in
-    omega (arith, c.put_powers-2.ensures.sized, c.put_powers.ensures.sized, c.requires)
+    omega (arith, c.put_powers-2.ensures.sized, c.put_powers.ensures.sized)
 
 pub returns : goal.returns
 returns c =
@@ -33,9 +33,7 @@ returns c =
     let last = behind place.pending place.rings (take place.pending w2) pending pending w2 w3 refl refl e put3.ensures.front in
     let later = two (take place.sorted w) sorted pending put2.ensures.front last in
     let all = two (take place.window w₀) window (sorted ++ pending) put.ensures.front later in
-    let long = put3.ensures.sized ∙ put2.ensures.sized ∙ put.ensures.sized ∙ c.requires in
     record {
       front = all;
-      sized = long;
       held = (put.ensures.held, put2.ensures.held);
     }

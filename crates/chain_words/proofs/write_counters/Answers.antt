@@ -27,9 +27,4 @@ returns c =
     let p2 = behind place.seen place.repair_ring (take place.seen w) second.result counts w w2 refl second.ensures refl put2.ensures.front in
     let p3 = behind place.repair_ring place.window (take place.repair_ring w2) third.result notes w2 w3 refl third.ensures refl put3.ensures.front in
     let all = two (take place.begun w₀) monitor (counts ++ notes) p (two (take place.seen w) counts notes p2 p3) in
-    record {
-      front = all;
-      sized =
-          put3.ensures.sized ∙ put2.ensures.sized ∙ put.ensures.sized
-          ∙ c.requires;
-    }
+    all

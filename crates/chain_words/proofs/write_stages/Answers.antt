@@ -26,9 +26,4 @@ returns c =
     refl one.ensures refl put.ensures.front in
     let p2 = behind place.apply place.factor settings two.result gate w w2 p two.ensures refl put2.ensures.front in
     let p3 = behind place.factor place.begun (settings ++ gate) three.result blocker w2 w3 p2 three.ensures refl put3.ensures.front in
-    record {
-      front = p3;
-      sized =
-          put3.ensures.sized ∙ put2.ensures.sized ∙ put.ensures.sized
-          ∙ c.requires;
-    }
+    p3

@@ -22,12 +22,12 @@ returns c =
     let arrays = c.write_arrays in
     let log = c.put_log in
     let end = log.new.words in
-    let long : length end ≤ place.state_words = omega (arith, log.ensures.sized, arrays.ensures.sized) in
-    let front = ap (λ (x : List ℕ). x ++ (counter_words s ++ (arrays_words s.suppressor ++ log_words s.notes.log))) stages.ensures.front in
+    let long : length end ≤ place.state_words = omega (arith, log.ensures.sized) in
+    let front = ap (λ (x : List ℕ). x ++ (counter_words s ++ (arrays_words s.suppressor ++ log_words s.notes.log))) stages.ensures in
     let later =
     two (take place.window counters.new.words) (arrays_words s.suppressor) (log_words s.notes.log) arrays.ensures.front log.ensures.front in
     let all =
-    two (take place.begun stages.new.words) (counter_words s) (arrays_words s.suppressor ++ log_words s.notes.log) counters.ensures.front later in
+    two (take place.begun stages.new.words) (counter_words s) (arrays_words s.suppressor ++ log_words s.notes.log) counters.ensures later in
     let words : end ≡ words_of s = sym (take_all place.state_words end long) ∙ all ∙ front in
     let settings = c.settings_typed.ensures in
     let blocker = c.blocker_typed.ensures in
