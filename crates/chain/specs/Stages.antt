@@ -13,8 +13,7 @@ use Rattle.impulse.specs.declared.ImpulseSuppressor.{ImpulseSuppressor}
 use Rattle.impulse.specs.Machine.{setting_of}
 use Rattle.impulse_slice.specs.Noted.{Noted, noted_of, note_all, state_after, handed, told}
 use Rattle.dc.specs.declared.DcBlocker.{DcBlocker}
-use Rattle.dc.specs.declared.Blocked.{Blocked}
-use Rattle.dc.specs.Blocker.{after_slice, processed_all}
+use Rattle.dc.specs.Blocker.{Blocked, after_slice, processed_all}
 use Rattle.iq.specs.View.{settled_of}
 use Rattle.stage_mode.specs.View.{mode_of}
 use Rattle.chain_state.specs.declared.InputConditioner.{InputConditioner}

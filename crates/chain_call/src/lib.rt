@@ -14,13 +14,14 @@ ghost use Rattle.impulse.specs.View.{suppressor_of};
 ghost use Rattle.iq.specs.View.{settled_of};
 ghost use Rattle.stage_mode.specs.View.{mode_of};
 ghost use Rattle.impulse_slice.specs.Noted.{noted_of, note_all, over};
+ghost use Rattle.dc.specs.Blocker.{Blocked};
 ghost use Rattle.chain.specs.Stages.{machine_of, notes_in, new_part, impulse_after, impulse_out, impulse_told, dc_after, blocked_by, noted_dc, noted_iq, hands_on};
 ghost use Rattle.chain.specs.Stages.{process, Acceptable};
 ghost use Rattle.chain.specs.Calls.{unread_refusal, told_unread, told_read, called};
 ghost use Rattle.chain_call.specs.Said.{said};
 
 use chain_state::{Counts, InputConditioner};
-use dc::{Blocked, DcBlocker};
+use dc::DcBlocker;
 use impulse::ImpulseSuppressor;
 use impulse_slice::Ran;
 use iq::Iq;
@@ -97,18 +98,16 @@ fn suppress(
     )
 }
 
-// The DC stage over the first `ready` samples.
-fn remove_dc(mode: StageMode, blocker: DcBlocker, samples: &mut [u64], ready: usize) -> Blocked
+// The DC stage over the first `ready` samples: on how many its update was clamped.
+fn remove_dc(mode: StageMode, blocker: &mut DcBlocker, samples: &mut [u64], ready: usize) -> u64
     requires ready_in_bounds { ready ≤ length samples.old }
-    requires ready_bound { blocker.n + ready < 2 ^ 64 }
-    ensures after { result ≡ dc_after (mode_of mode) blocker (take ready samples.old) }
-    ensures written { samples.new ≡ blocked_by (mode_of mode) blocker (take ready samples.old) ++ drop ready samples.old }
+    requires ready_bound { blocker.old.n + ready < 2 ^ 64 }
+    ensures after { ◌≡◌ {A = Blocked} (record { blocker = blocker.new; clamped = result })
+        (dc_after (mode_of mode) blocker.old (take ready samples.old)) }
+    ensures written { samples.new ≡ blocked_by (mode_of mode) blocker.old (take ready samples.old) ++ drop ready samples.old }
 {
     match mode {
-        StageMode::Off => Blocked {
-            blocker,
-            clamped: 0,
-        },
+        StageMode::Off => 0,
         StageMode::Observe => blocker.observe(&samples[..ready]),
         StageMode::Apply => blocker.process(&mut samples[..ready]),
     }
@@ -159,16 +158,23 @@ fn mark_iq(log: Log, iq: Iq, spans: &mut [u64], capacity: usize, start: u64, rea
 }
 
 // The DC and the IQ stage over the first `ready` samples.
-fn filter(mode: StageMode, blocker: DcBlocker, iq: Iq, samples: &mut [u64], ready: usize) -> Blocked
+fn filter(
+    mode: StageMode,
+    blocker: &mut DcBlocker,
+    iq: Iq,
+    samples: &mut [u64],
+    ready: usize,
+) -> u64
     requires ready_in_bounds { ready ≤ length samples.old }
-    requires ready_bound { blocker.n + ready < 2 ^ 64 }
-    ensures after { result ≡ dc_after (mode_of mode) blocker (take ready samples.old) }
+    requires ready_bound { blocker.old.n + ready < 2 ^ 64 }
+    ensures after { ◌≡◌ {A = Blocked} (record { blocker = blocker.new; clamped = result })
+        (dc_after (mode_of mode) blocker.old (take ready samples.old)) }
     ensures written { samples.new
-        ≡ map (corrected_by (settled_of iq)) (blocked_by (mode_of mode) blocker (take ready samples.old)) ++ drop ready samples.old }
+        ≡ map (corrected_by (settled_of iq)) (blocked_by (mode_of mode) blocker.old (take ready samples.old)) ++ drop ready samples.old }
 {
-    let after = remove_dc(mode, blocker, samples, ready);
+    let clamped = remove_dc(mode, blocker, samples, ready);
     correct(iq, samples, ready);
-    after
+    clamped
 }
 
 // The marks over what is released.
@@ -223,9 +229,8 @@ pub fn accept(
     let set = state.settings;
     let mode = set.dc;
     let iq = set.iq;
-    let before = state.blocker;
-    let blocked = filter(mode, before, iq, samples, ready);
-    let blocker = blocked.blocker;
+    let mut blocker = state.blocker;
+    let clamped = filter(mode, &mut blocker, iq, samples, ready);
     let mut notes = ran.notes;
     let log = notes.log;
     let marked = mark_released(
@@ -249,7 +254,7 @@ pub fn accept(
         seen: counts.seen + new as u64,
         released: counts.released + ready as u64,
         held: len - ready,
-        clamped: counts.clamped + blocked.clamped,
+        clamped: counts.clamped + clamped,
     };
     let mut after = state;
     after.counts = counts;

@@ -17,7 +17,7 @@ use Rattle.impulse_slice.specs.declared.Ran.{Ran}
 use Rattle.impulse_slice.specs.Noted.{Noted, noted_of, note_all, handed, over, Roomy}
 use Rattle.impulse_slice.proofs.laws.NotesLaws.{note_none, bounded_up, roomy_up}
 use Rattle.impulse_slice.proofs.laws.StageLaws.{handed_most, roomy_run}
-use Rattle.dc.specs.declared.Blocked.{Blocked}
+use Rattle.dc.specs.Blocker.{Blocked}
 use Rattle.iq.specs.View.{settled_of}
 use Rattle.stage_mode.specs.View.{mode_of}
 use Rattle.chain_state.specs.declared.Counts.{Counts}

@@ -28,9 +28,9 @@ suppress-ran-requires c =
       sorted_len = c.well_formed.0.1.1.1.1.0.1.1.1.1.0.1.0.1;
     }
 
-pub filter-blocked-requires : goal.filter-blocked-requires
-filter-blocked-requires c =
-    let s = (goal.at.filter-blocked-requires c).Start in
+pub filter-clamped-requires : goal.filter-clamped-requires
+filter-clamped-requires c =
+    let s = (goal.at.filter-clamped-requires c).Start in
     let a = s.args in
     let r = c.suppress-ran.ensures in
     let k = r.ready in
@@ -85,12 +85,12 @@ overflow_add-counts-3 c =
     let n = (state_fit a.state (fit s).stored.fits).clamped in
     let few =
     ready_clamped a.state a.samples.now a.spans.now a.repairs.now (fit s) c.suppress-ran.result _ _ _ r.noted r.ready
-    r.written _ c.filter-blocked.ensures.after in
+    r.written _ c.filter-clamped.ensures.after in
     omega arith
 
 pub shape_of-samples : goal.shape_of-samples
 shape_of-samples c =
-    c.filter-blocked.auto.samples ∙ c.suppress-ran.auto.samples
+    c.filter-clamped.auto.samples ∙ c.suppress-ran.auto.samples
 
 pub shape_of-spans : goal.shape_of-spans
 shape_of-spans c =
@@ -110,9 +110,9 @@ returns c =
       answer = ap accepted (ready_count a.state a.samples.now a.spans.now a.repairs.now (fit s) m _ _ _ r.noted r.ready r.written);
       chain =
           processed_chain a.state a.samples.now a.spans.now a.repairs.now (fit s) m _ _ _ r.noted r.ready r.written _ r.suppressor _
-          c.filter-blocked.ensures.after _ _
+          c.filter-clamped.ensures.after _ _
           c.mark_released-marked.ensures;
       written =
           processed_written a.state a.samples.now a.spans.now a.repairs.now (fit s) m _ _ _ r.noted r.ready r.written _
-          c.filter-blocked.ensures.written;
+          c.filter-clamped.ensures.written;
     }

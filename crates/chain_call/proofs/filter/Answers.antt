@@ -12,11 +12,11 @@ use Rattle.chain_call.proofs.filter.Goals as goal
 pub returns : goal.returns
 returns c =
     let a = c.args in
-    let front = blocked_by (mode_of a.mode) a.blocker (take a.ready a.samples.now) in
-    let dc = c.remove_dc-after.ensures in
+    let front = blocked_by (mode_of a.mode) a.blocker.now (take a.ready a.samples.now) in
+    let dc = c.remove_dc-clamped.ensures in
     record {
       after = dc.after;
       written =
           c.correct.ensures ∙ filtered (corrected_by (settled_of a.iq)) front (drop a.ready a.samples.now) _ a.ready dc.written
-          (blocked_by_length (mode_of a.mode) a.blocker (take a.ready a.samples.now) ∙ length-take-le a.ready a.samples.now c.requires.ready_in_bounds);
+          (blocked_by_length (mode_of a.mode) a.blocker.now (take a.ready a.samples.now) ∙ length-take-le a.ready a.samples.now c.requires.ready_in_bounds);
     }

@@ -23,7 +23,7 @@ use Rattle.impulse_slice.specs.Noted.{state_after, handed, told, marks_for, Ring
 use Rattle.impulse_slice.proofs.laws.NotedRings.{noted_repairs, noted_long}
 use Rattle.impulse_slice.proofs.laws.StageLaws.{setting_after}
 use Rattle.dc.specs.declared.DcBlocker.{DcBlocker}
-use Rattle.dc.specs.declared.Blocked.{Blocked}
+use Rattle.dc.specs.Blocker.{Blocked}
 use Rattle.dc.specs.Blocker.{level_of, blocker_of, blocker_after, after_slice}
 use Rattle.dc.proofs.laws.Cutting.{level_append, blocked_append, clamped_append}
 use Rattle.iq.specs.View.{settled_of}

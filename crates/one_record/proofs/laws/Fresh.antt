@@ -18,7 +18,7 @@ use Rattle.stage_log.specs.View.{marks_at}
 use Rattle.impulse_slice.specs.Noted.{note_all, told, marks_for, Rings}
 use Rattle.impulse_slice.proofs.laws.NotesLaws.{note_none}
 use Rattle.dc.specs.declared.DcBlocker.{DcBlocker}
-use Rattle.dc.specs.declared.Blocked.{Blocked}
+use Rattle.dc.specs.Blocker.{Blocked}
 use Rattle.iq_monitor.specs.Hops.{last_end, window_state}
 use Rattle.iq_monitor.proofs.laws.WordsLaws.{no_words}
 use Rattle.iq.specs.View.{settled_of}
