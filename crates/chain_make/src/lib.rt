@@ -55,8 +55,7 @@ fn fresh_settings(config: ConditioningConfig) -> Settings
     let impulse = config.impulse;
     let dc = config.dc;
     let mode = config.iq;
-    let calibration = config.calibration;
-    let iq = iq::settle(mode, calibration, config.centre);
+    let iq = iq::settle(mode, config.calibration, config.centre);
     Settings {
         fs: config.fs,
         n: config.n,

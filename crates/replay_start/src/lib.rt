@@ -10,7 +10,6 @@ use chain_config::ConditioningConfig;
 use chain_make::MakingAnswer;
 use chain_state::InputConditioner;
 use impulse_pause::PauseEdition;
-use iq::Calibration;
 use replay_format::HeaderRead;
 use stage_mode::StageMode;
 
@@ -41,7 +40,7 @@ fn idle() -> ConditioningConfig
         fs: 0.0,
         centre: 0.0,
         n: 0,
-        calibration: Calibration::Absent,
+        calibration: None,
         spans: 0,
         repairs: 0,
         edition: PauseEdition::First,

@@ -7,7 +7,6 @@ use chain_log::SpanRead;
 use chain_state::InputConditioner;
 use complex::Complex32;
 use impulse_pause::PauseEdition;
-use iq::Calibration;
 use stage_log::{Mark, Stage};
 use stage_mode::StageMode;
 use std::io;
@@ -26,7 +25,7 @@ fn configuration() -> ConditioningConfig {
         fs: 48000.0,
         centre: 7.1e6,
         n: 8,
-        calibration: Calibration::Absent,
+        calibration: None,
         spans: 4,
         repairs: 4,
         edition: PauseEdition::First,
@@ -97,6 +96,8 @@ fn main(rt: HostRuntime) -> io::Result<()> {
     print_log(&rt, last, &spans)?;
 
     // the repair lifted out again
-    chain_undo::revert_repairs(last, &repairs, &mut second, 9);
+    if let Err(refusal) = chain_undo::revert_repairs(&last, &repairs, &mut second, 9) {
+        return print_line(&rt, "refused: ", refusal.number());
+    }
     print_sample(&rt, "sample 20 was ", second[11])
 }

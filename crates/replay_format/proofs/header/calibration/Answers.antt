@@ -6,4 +6,4 @@ pub returns-then-bytes-eq0 : goal.returns-then-bytes-eq0
 returns-then-bytes-eq0 c = rw c.if-bytes-eq0.true
 
 pub returns : goal.returns
-returns c = rw (c.real_at-gain.ensures, c.real_at-phase.ensures, c.real_at-centre.ensures) (present _ _ c.if-bytes-eq0.false)
+returns c = rw (c.real_at.ensures, c.real_at-2.ensures, c.real_at-3.ensures) (present _ _ c.if-bytes-eq0.false)
