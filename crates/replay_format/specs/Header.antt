@@ -1,5 +1,5 @@
 -- What a header says, in document 01's words and in the code's types. Definitions only.
-use Rattle.std.specs.Prelude.{cond, List, ℕ, Result, Ok, Err}
+use Rattle.std.specs.Prelude.{cond, List, ℕ, Result, Ok, Err, Option, Some, None}
 use Rattle.rules.specs.Iq.{Calibrated, none, with}
 use Rattle.rules.specs.Mode.{Mode, off, observe, apply}
 use Rattle.rules.specs.Pauses.{Edition, first, second}
@@ -11,8 +11,7 @@ use Rattle.stage_mode.specs.declared.StageMode.{StageMode}
 use Rattle.stage_mode.specs.declared.StageMode.TheVariants as mode
 use Rattle.impulse_pause.specs.declared.PauseEdition.{PauseEdition}
 use Rattle.impulse_pause.specs.declared.PauseEdition.TheVariants as edition
-use Rattle.iq.specs.declared.Calibration.{Calibration}
-use Rattle.iq.specs.declared.Calibration.TheVariants.{Absent, Present}
+use Rattle.iq.specs.declared.IqCalibration.{IqCalibration}
 use Rattle.chain_config.specs.declared.ConditioningConfig.{ConditioningConfig}
 use Rattle.chain_config.specs.Config.{config_of}
 use Rattle.replay_format.specs.Format.{header_fits, config_in}
@@ -45,9 +44,9 @@ abbrev pub edition_from : Edition → PauseEdition
 edition_from first = edition.First
 edition_from second = edition.Second
 
-abbrev pub calibration_from : Calibrated → Calibration
-calibration_from none = Absent
-calibration_from (with c) = Present (record { gain = c.gain; phase = c.phase; centre = c.centre })
+abbrev pub calibration_from : Calibrated → Option IqCalibration
+calibration_from none = None
+calibration_from (with c) = Some (record { gain = c.gain; phase = c.phase; centre = c.centre })
 
 abbrev pub config_from : Config → ConditioningConfig
 config_from c =

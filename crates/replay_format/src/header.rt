@@ -11,8 +11,8 @@ ghost use Rattle.replay_format.specs.Header.{said_header, header_said};
 use crate::{CHANNELS, REPAIRS, SPANS, words};
 use chain_config::ConditioningConfig;
 use impulse_pause::PauseEdition;
-use iq::{Calibration, IqCalibration};
 use refusal::Refusal;
+use iq::IqCalibration;
 use stage_mode::StageMode;
 
 const HEADER_SIZE: usize = 49;
@@ -72,20 +72,17 @@ fn real_at(bytes: &[u8], k: usize) -> f64
     ieee::from_bits64(words::word_at(bytes, 9 + 8 * k))
 }
 
-fn calibration(bytes: &[u8]) -> Calibration
+fn calibration(bytes: &[u8]) -> Option<IqCalibration>
     requires { 49 ≤ length bytes.now }
     ensures { calibrated_of result ≡ calibration_in bytes.now }
 {
     if bytes[8] == 0 {
-        return Calibration::Absent;
+        return None;
     }
-    let gain = real_at(bytes, 2);
-    let phase = real_at(bytes, 3);
-    let centre = real_at(bytes, 4);
-    Calibration::Present(IqCalibration {
-        gain,
-        phase,
-        centre,
+    Some(IqCalibration {
+        gain: real_at(bytes, 2),
+        phase: real_at(bytes, 3),
+        centre: real_at(bytes, 4),
     })
 }
 

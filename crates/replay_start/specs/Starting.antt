@@ -1,9 +1,8 @@
 -- A recording's start: what its header makes of the state and of every lent word, and what is answered. Definitions only.
-use Rattle.std.specs.Prelude.{List, ℕ}
+use Rattle.std.specs.Prelude.{None, List, ℕ}
 use Rattle.rules.specs.Constants.{zero_f}
 use Rattle.impulse_pause.specs.declared.PauseEdition.TheVariants as edition
 use Rattle.stage_mode.specs.declared.StageMode.TheVariants as mode
-use Rattle.iq.specs.declared.Calibration.TheVariants.{Absent}
 use Rattle.chain_config.specs.declared.ConditioningConfig.{ConditioningConfig}
 use Rattle.chain_state.specs.declared.InputConditioner.{InputConditioner}
 use Rattle.chain_make.specs.Making as making
@@ -28,7 +27,7 @@ idle =
       fs = zero_f;
       centre = zero_f;
       n = 0;
-      calibration = Absent;
+      calibration = None;
       spans = 0;
       repairs = 0;
       edition = edition.First;

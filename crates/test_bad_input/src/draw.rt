@@ -4,7 +4,7 @@
 use chain_config::ConditioningConfig;
 use chain_words::mode_at;
 use impulse_pause::PauseEdition;
-use iq::{Calibration, IqCalibration};
+use iq::IqCalibration;
 
 // Xorshift: the seed of the next turn.
 pub fn shifted(x: u64) -> u64 {
@@ -116,11 +116,11 @@ fn usual_rate(w: u64) -> f64 {
     }
 }
 
-fn any_calibration(seed: u64) -> Calibration {
+fn any_calibration(seed: u64) -> Option<IqCalibration> {
     if drawn(seed, 126) % 4 == 0 {
-        return Calibration::Absent;
+        return None;
     }
-    Calibration::Present(IqCalibration {
+    Some(IqCalibration {
         gain: any_float(seed, 127, 1.25),
         phase: any_float(seed, 128, 3.0),
         centre: 100.0,

@@ -4,7 +4,6 @@ use crate::bench::{Bench, CALL, HOP, MAKING, Tried, UNDO, ended, same_behind};
 use chain_config::ConditioningConfig;
 use chain_words::STATE_WORDS;
 use impulse_pause::PauseEdition;
-use iq::Calibration;
 use stage_mode::StageMode;
 use test_operations::{ACCEPTED, Lent, Told, plain, told_hop};
 
@@ -61,7 +60,7 @@ pub fn fresh(impulse: StageMode, fs: f64) -> Bench {
         fs,
         centre: 100.0,
         n: 8,
-        calibration: Calibration::Absent,
+        calibration: None,
         spans: 2,
         repairs: 2,
         edition: PauseEdition::First,

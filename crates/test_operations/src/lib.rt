@@ -187,6 +187,6 @@ pub fn undo_repairs(
     first: u64,
 ) -> Told {
     let r = part(repairs, length);
-    let answer = chain_undo::revert_repairs(read_state(words), &repairs[..r], samples, first);
-    plain(chain_undo::number(answer))
+    let answer = chain_undo::revert_repairs(&read_state(words), &repairs[..r], samples, first);
+    plain(refusal::number(&answer))
 }

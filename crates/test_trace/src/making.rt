@@ -5,18 +5,18 @@ use crate::{Head, MONITOR_WORDS, REPAIR_WORDS, SPAN_WORDS};
 use chain_config::ConditioningConfig;
 use chain_words::{STATE_WORDS, mode_at, mode_word};
 use impulse_pause::PauseEdition;
-use iq::{Calibration, IqCalibration};
+use iq::IqCalibration;
 use stage_mode::StageMode;
 use std::io;
 use test_operations::{Lent, plain};
 
 // ---- a configuration of thirteen words
 
-fn calibration(w: &[u64]) -> Calibration {
+fn calibration(w: &[u64]) -> Option<IqCalibration> {
     if word(w, 6) == 0 {
-        return Calibration::Absent;
+        return None;
     }
-    Calibration::Present(IqCalibration {
+    Some(IqCalibration {
         gain: float(w, 7),
         phase: float(w, 8),
         centre: float(w, 9),
@@ -38,8 +38,8 @@ fn configuration(w: &[u64]) -> ConditioningConfig {
     }
 }
 
-fn calibration_words(c: Calibration) -> [u64; 4] {
-    let Calibration::Present(x) = c else {
+fn calibration_words(c: Option<IqCalibration>) -> [u64; 4] {
+    let Some(x) = c else {
         return [0, 0, 0, 0];
     };
     [
@@ -119,7 +119,7 @@ pub fn first() -> [u64; STATE_WORDS] {
         fs: 48000.0,
         centre: 0.0,
         n: 8,
-        calibration: Calibration::Absent,
+        calibration: None,
         spans: 2,
         repairs: 2,
         edition: PauseEdition::First,

@@ -6,6 +6,7 @@ use crate::{Head, SLICE_WORDS};
 use chain_words::STATE_WORDS;
 use complex::Complex64;
 use iq::IqCalibration;
+use refusal::Refusal;
 use std::io;
 use test_operations::{Told, part, plain};
 
@@ -22,12 +23,11 @@ pub fn repairs(
     answer_slice(rt, 9, told, input, head.how)
 }
 
-// ---- DC
-
-fn told_dc(answer: dc::Reverted) -> Told {
-    let number = dc::number(answer);
+// The place comes with 7.
+fn told(answer: Result<(), Refusal>) -> Told {
+    let number = refusal::number(&answer);
     match answer {
-        dc::Reverted::Beyond(place) => Told {
+        Err(Refusal::OutOfRange(place)) => Told {
             number,
             value: place as u64,
         },
@@ -35,9 +35,11 @@ fn told_dc(answer: dc::Reverted) -> Told {
     }
 }
 
+// ---- DC
+
 fn level_over(rt: &impl Print, head: Head, input: &[u64], slice: &mut [u64]) -> io::Result<()> {
     let answer = dc::revert_dc(input, ieee::from_bits64(head.a), slice);
-    answer_slice(rt, 10, told_dc(answer), slice, head.how)
+    answer_slice(rt, 10, told(answer), slice, head.how)
 }
 
 pub fn level(rt: &impl Print, head: Head, input: &[u64]) -> io::Result<()> {
@@ -49,24 +51,13 @@ pub fn level(rt: &impl Print, head: Head, input: &[u64]) -> io::Result<()> {
 
 // ---- IQ
 
-fn told_iq(answer: iq_correction::Reverted) -> Told {
-    let number = iq_correction::number(answer);
-    match answer {
-        iq_correction::Reverted::Beyond(place) => Told {
-            number,
-            value: place as u64,
-        },
-        _ => plain(number),
-    }
-}
-
 pub fn correction(rt: &impl Print, head: Head, input: &mut [u64]) -> io::Result<()> {
     let rho = Complex64 {
         re: ieee::from_bits64(head.a),
         im: ieee::from_bits64(head.b),
     };
     let answer = iq_correction::revert_iq(input, rho);
-    answer_slice(rt, 11, told_iq(answer), input, head.how)
+    answer_slice(rt, 11, told(answer), input, head.how)
 }
 
 // ---- the guard
@@ -88,5 +79,5 @@ pub fn validate(rt: &impl Print, head: Head) -> io::Result<()> {
         phase: ieee::from_bits64(head.b),
         centre: ieee::from_bits64(head.c),
     };
-    answer_plain(rt, 13, plain(iq::number(c.validate())), 0, 0)
+    answer_plain(rt, 13, plain(refusal::number(&c.validate())), 0, 0)
 }

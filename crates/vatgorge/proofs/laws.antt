@@ -1,3 +1,4 @@
 pub mod Says
 pub mod ConfigAgain
 pub mod CallAfter
+pub mod Telling

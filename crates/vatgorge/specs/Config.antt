@@ -1,10 +1,9 @@
 -- A configuration as words, and the configuration that words say; any words say one. Definitions only.
-use Rattle.std.specs.Prelude.{cond, List, [], ◌∷◌, ℕ, ◌+◌, eqb}
+use Rattle.std.specs.Prelude.{Option, Some, None, cond, List, [], ◌∷◌, ℕ, ◌+◌, eqb}
 use Rattle.std.specs.Float.{binary64}
 use Rattle.std.specs.Float.Ieee.{to_bits, of_bits}
 use Rattle.impulse_pause.specs.View.{number_of, numbered}
-use Rattle.iq.specs.declared.Calibration.{Calibration}
-use Rattle.iq.specs.declared.Calibration.TheVariants.{Absent, Present}
+use Rattle.iq.specs.declared.IqCalibration.{IqCalibration}
 use Rattle.chain_config.specs.declared.ConditioningConfig.{ConditioningConfig}
 use Rattle.chain_config.specs.Config.{config_of, observed}
 use Rattle.replay_format.specs.Header.{config_from}
@@ -60,10 +59,10 @@ config_word_count = edition + 1
 -- ---- the configuration that words say
 
 -- 0 says that there is none
-abbrev pub calibration_at : ℕ → ℕ → ℕ → ℕ → Calibration
+abbrev pub calibration_at : ℕ → ℕ → ℕ → ℕ → Option IqCalibration
 calibration_at w gain phase centre =
-    cond (eqb w 0) Absent
-    (Present (record { gain = of_bits binary64 gain; phase = of_bits binary64 phase; centre = of_bits binary64 centre }))
+    cond (eqb w 0) None
+    (Some (record { gain = of_bits binary64 gain; phase = of_bits binary64 phase; centre = of_bits binary64 centre }))
 
 -- of the modes 0 is off, 1 observes, and every other applies; of the editions 2 is the second, and every other the first
 unfoldable pub config_in : List ℕ → ConditioningConfig
@@ -84,11 +83,11 @@ config_in ws =
 -- ---- a configuration as words
 
 -- whether there is one, and its numbers, which are 0 where there is none
-abbrev pub calibration_parts : Calibration → ℕ × ℕ × ℕ × ℕ
-calibration_parts Absent = (0, 0, 0, 0)
-calibration_parts (Present c) = (1, to_bits binary64 c.gain, to_bits binary64 c.phase, to_bits binary64 c.centre)
+abbrev pub calibration_parts : Option IqCalibration → ℕ × ℕ × ℕ × ℕ
+calibration_parts None = (0, 0, 0, 0)
+calibration_parts (Some c) = (1, to_bits binary64 c.gain, to_bits binary64 c.phase, to_bits binary64 c.centre)
 
-abbrev pub calibration_words : Calibration → List ℕ
+abbrev pub calibration_words : Option IqCalibration → List ℕ
 calibration_words c = let p = calibration_parts c in p.0 ∷ p.1 ∷ p.2 ∷ p.3 ∷ []
 
 unfoldable pub config_words : ConditioningConfig → List ℕ
@@ -111,9 +110,9 @@ config_words g =
 
 -- ---- what the types of the code say of its floats
 
-abbrev pub CalibrationTyped : Calibration → Type 0
-CalibrationTyped Absent = Unit {0}
-CalibrationTyped (Present c) = Double c.gain × Double c.phase × Double c.centre
+abbrev pub CalibrationTyped : Option IqCalibration → Type 0
+CalibrationTyped None = Unit {0}
+CalibrationTyped (Some c) = Double c.gain × Double c.phase × Double c.centre
 
 pub record ConfigTyped (g : ConditioningConfig) : Type 0 where
   pub fs : Double g.fs

@@ -8,7 +8,7 @@ ghost use Rattle.vatgorge.specs.Config.{observed_in};
 
 use chain_config::ConditioningConfig;
 use impulse_pause::PauseEdition;
-use iq::{Calibration, IqCalibration};
+use iq::IqCalibration;
 
 // ---- where each field stands, counted from the one before
 
@@ -52,13 +52,13 @@ pub extern "C" fn vg_config_words() -> u64
 
 // ---- reading
 
-fn calibration_at(w: u64, gain: u64, phase: u64, centre: u64) -> Calibration
+fn calibration_at(w: u64, gain: u64, phase: u64, centre: u64) -> Option<IqCalibration>
     ensures { result ≡ calibration_at w gain phase centre }
 {
     if w == 0 {
-        return Calibration::Absent;
+        return None;
     }
-    Calibration::Present(IqCalibration {
+    Some(IqCalibration {
         gain: ieee::from_bits64(gain),
         phase: ieee::from_bits64(phase),
         centre: ieee::from_bits64(centre),
@@ -90,12 +90,12 @@ pub fn read_config(words: &[u64; CONFIG_WORDS]) -> ConditioningConfig
 
 // ---- writing
 
-fn calibration_words(calibration: Calibration) -> [u64; 4]
+fn calibration_words(calibration: Option<IqCalibration>) -> [u64; 4]
     ensures { result ≡ calibration_words calibration }
 {
     match calibration {
-        Calibration::Absent => [0, 0, 0, 0],
-        Calibration::Present(c) => [
+        None => [0, 0, 0, 0],
+        Some(c) => [
             1,
             ieee::to_bits64(c.gain),
             ieee::to_bits64(c.phase),
@@ -132,15 +132,14 @@ fn config_words(config: ConditioningConfig) -> [u64; CONFIG_WORDS]
 
 // What the types say of the floats.
 fn present_typed(c: IqCalibration)
-    ensures { CalibrationTyped (Calibration.Present c) }
+    ensures { CalibrationTyped (Some c) }
 {}
 
-fn calibration_typed(calibration: Calibration)
+fn calibration_typed(calibration: Option<IqCalibration>)
     ensures { CalibrationTyped calibration }
 {
-    match calibration {
-        Calibration::Absent => {}
-        Calibration::Present(c) => present_typed(c),
+    if let Some(c) = calibration {
+        present_typed(c);
     }
 }
 

@@ -376,11 +376,6 @@ pub extern "C" fn vg_undo_repairs(
     ensures { ◌≡◌ {A = undo.After} (record { code = result; samples = samples.new })
         (undo.after state.now repairs.now samples.old first) }
 {
-    let answer = chain_undo::revert_repairs(
-        chain_words::read_state(state),
-        repairs,
-        samples,
-        first,
-    );
-    chain_undo::number(answer)
+    let state = chain_words::read_state(state);
+    refusal::number(&chain_undo::revert_repairs(&state, repairs, samples, first))
 }

@@ -6,10 +6,12 @@ ghost use Rattle.rules.specs.Refusals.{validation};
 ghost use Rattle.dc.specs.Undo as dcUndo;
 ghost use Rattle.iq_correction.specs.Undo as iqUndo;
 ghost use Rattle.rules.specs.Answers.{number_in};
+ghost use Rattle.refusal.specs.Words.{returned_by};
 ghost use Rattle.vatgorge.specs.Stages.{place_after};
 
 use complex::Complex64;
 use iq::IqCalibration;
+use refusal::Refusal;
 
 // Replaces every unusable sample by 0, and answers how many there were.
 #[unsafe(no_mangle)]
@@ -30,18 +32,17 @@ pub extern "C" fn vg_validate(gain: f64, phase: f64, centre: f64) -> u64
         phase,
         centre,
     };
-    iq::number(c.validate())
+    refusal::number(&c.validate())
 }
 
 // The place of 7.
-fn tell_dc(answer: dc::Reverted, place: &mut u64)
-    ensures { place.new ≡ place_after place.old (dcUndo.said answer) }
+fn tell_place(answer: Result<(), Refusal>, place: &mut u64)
+    ensures { place.new ≡ place_after place.old (returned_by answer) }
 {
     match answer {
-        dc::Reverted::Restored => {}
-        dc::Reverted::BadRate => {}
-        dc::Reverted::BadLength => {}
-        dc::Reverted::Beyond(k) => *place = k as u64,
+        Ok(()) => {}
+        Err(Refusal::OutOfRange(k)) => *place = k as u64,
+        Err(_) => {}
     }
 }
 
@@ -54,18 +55,8 @@ pub extern "C" fn vg_undo_dc(y: &[u64], fs: f64, out: &mut [u64], place: &mut u6
     ensures place { place.new ≡ place_after place.old (dcUndo.undo_returned fs out.old y.now) }
 {
     let answer = dc::revert_dc(y, fs, out);
-    tell_dc(answer, place);
-    dc::number(answer)
-}
-
-fn tell_iq(answer: iq_correction::Reverted, place: &mut u64)
-    ensures { place.new ≡ place_after place.old (iqUndo.said answer) }
-{
-    match answer {
-        iq_correction::Reverted::Restored => {}
-        iq_correction::Reverted::Unfit => {}
-        iq_correction::Reverted::Beyond(k) => *place = k as u64,
-    }
+    tell_place(answer, place);
+    refusal::number(&answer)
 }
 
 // IQ undo of a coefficient, in place: 0, 7 or 10. Any but 0 leaves the samples. The place of 7 goes to
@@ -77,6 +68,6 @@ pub extern "C" fn vg_undo_iq(samples: &mut [u64], re: f64, im: f64, place: &mut 
     ensures place { place.new ≡ place_after place.old (iqUndo.undo_returned (record { re = re; im = im }) samples.old) }
 {
     let answer = iq_correction::revert_iq(samples, Complex64 { re, im });
-    tell_iq(answer, place);
-    iq_correction::number(answer)
+    tell_place(answer, place);
+    refusal::number(&answer)
 }

@@ -5,7 +5,6 @@ use chain_config::ConditioningConfig;
 use chain_state::InputConditioner;
 use complex::Complex32;
 use impulse_pause::PauseEdition;
-use iq::Calibration;
 use refusal::Refusal;
 use stage_log::{Mark, Stage};
 use stage_mode::StageMode;
@@ -25,7 +24,7 @@ fn configuration() -> ConditioningConfig {
         fs: 48000.0,
         centre: 7.1e6,
         n: 8,
-        calibration: Calibration::Absent,
+        calibration: None,
         spans: 4,
         repairs: 4,
         edition: PauseEdition::First,
@@ -96,6 +95,8 @@ fn main(rt: HostRuntime) -> io::Result<()> {
     print_log(&rt, &state, &spans)?;
 
     // the repair lifted out again
-    chain_undo::revert_repairs(state, &repairs, &mut second, 9);
+    if let Err(refusal) = chain_undo::revert_repairs(&state, &repairs, &mut second, 9) {
+        return print_line(&rt, "refused: ", refusal.number());
+    }
     print_sample(&rt, "sample 20 was ", second[11])
 }

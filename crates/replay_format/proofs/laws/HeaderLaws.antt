@@ -1,5 +1,5 @@
 -- A header's bytes by the answers of their tests; a configuration stands in the code's types as in the rules'. Assumes nothing.
-use Rattle.std.specs.Prelude.{◌≡◌, refl, Bool, true, false, ◌&&◌, List, ℕ, zero, suc, leb, eqb, length}
+use Rattle.std.specs.Prelude.{◌≡◌, refl, Option, Some, None, Bool, true, false, ◌&&◌, List, ℕ, zero, suc, leb, eqb, length}
 use Rattle.std.proofs.Math.Path.{ap}
 use Rattle.std.proofs.Math.Bool.{cond}
 use Rattle.rules.specs.Iq as rules
@@ -11,8 +11,7 @@ use Rattle.rules.specs.Pauses.{first, second}
 use Rattle.impulse_pause.specs.declared.PauseEdition.{PauseEdition}
 use Rattle.impulse_pause.specs.declared.PauseEdition.TheVariants as edition
 use Rattle.impulse_pause.specs.View.{edition_of, numbered}
-use Rattle.iq.specs.declared.Calibration.{Calibration}
-use Rattle.iq.specs.declared.Calibration.TheVariants.{Absent, Present}
+use Rattle.iq.specs.declared.IqCalibration.{IqCalibration}
 use Rattle.iq.specs.View.{calibrated_of}
 use Rattle.stage_mode.specs.View.{mode_of}
 use Rattle.chain_config.specs.declared.ConditioningConfig.{ConditioningConfig}
@@ -73,9 +72,9 @@ edition_again : (e : PauseEdition) → edition_from (edition_of e) ≡ e
 edition_again edition.First = refl
 edition_again edition.Second = refl
 
-calibration_again : (c : Calibration) → calibration_from (calibrated_of c) ≡ c
-calibration_again Absent = refl
-calibration_again (Present c) = refl
+calibration_again : (c : Option IqCalibration) → calibration_from (calibrated_of c) ≡ c
+calibration_again None = refl
+calibration_again (Some c) = refl
 
 pub config_again : (g : ConditioningConfig) → config_from (config_of g) ≡ g
 config_again g =

@@ -1,16 +1,15 @@
 -- A configuration's words say that configuration. Assumes nothing.
-use Rattle.std.specs.Prelude.{◌≡◌, refl}
-use Rattle.iq.specs.declared.Calibration.{Calibration}
-use Rattle.iq.specs.declared.Calibration.TheVariants.{Absent, Present}
+use Rattle.std.specs.Prelude.{◌≡◌, refl, Option, Some, None}
+use Rattle.iq.specs.declared.IqCalibration.{IqCalibration}
 use Rattle.chain_config.specs.declared.ConditioningConfig.{ConditioningConfig}
 use Rattle.chain_words.proofs.laws.Again.{mode_again, edition_again, double_again}
 use Rattle.vatgorge.specs.Config.{calibration_at, calibration_parts, config_in, config_words, CalibrationTyped, ConfigTyped}
 
-calibration_again : (k : Calibration) → CalibrationTyped k → (let p = calibration_parts k in calibration_at p.0 p.1 p.2 p.3) ≡ k
-calibration_again Absent h = refl
-calibration_again (Present c) h =
+calibration_again : (k : Option IqCalibration) → CalibrationTyped k → (let p = calibration_parts k in calibration_at p.0 p.1 p.2 p.3) ≡ k
+calibration_again None h = refl
+calibration_again (Some c) h =
     λ i.
-    Present
+    Some
     (record { gain = double_again c.gain h.0 i; phase = double_again c.phase h.1 i; centre = double_again c.centre h.2 i })
 
 pub config_again : (g : ConditioningConfig) → ConfigTyped g → config_in (config_words g) ≡ g

@@ -2,13 +2,14 @@
 use mathlib.Core.Path.{ap, ◌∙◌}
 use Rattle.rules.specs.Answers.{number_in}
 use Rattle.vatgorge.specs.Stages.{place_after}
+use Rattle.vatgorge.proofs.laws.Telling.{number_returned}
 use Rattle.vatgorge.proofs.stages.vg_undo_iq.Goals as goal
 
 pub returns : goal.returns
 returns c =
     let e = c.revert_iq-answer.ensures in
     record {
-      code = c.number.ensures ∙ ap number_in e.answer;
+      code = c.number.ensures ∙ number_returned c.revert_iq-answer.result ∙ ap number_in e.answer;
       samples = e.written;
-      place = c.tell_iq.ensures ∙ ap (place_after _) e.answer;
+      place = c.tell_place.ensures ∙ ap (place_after _) e.answer;
     }
