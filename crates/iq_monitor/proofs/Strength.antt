@@ -7,13 +7,11 @@ use native.Mathlib.Omega.{arith}
 use native.Mathlib.Numerals.{add-one}
 use native.Mathlib.Nat.{add-zero}
 use lib.Dec.{ltb}
-use lib.ListN.{length, get_or}
-use lib.Ieee.{Float, nan, lt}
+use lib.ListN.{length}
+use lib.Ieee.{Float}
 use borrow.Author.Tests.{ltb-true, lt-ltb}
-use Rattle.rules.specs.Constants.{zero_f}
 use Rattle.rules.specs.Monitor.{Choice, nobody, channel_at, eligible, stronger, strongest}
 use Rattle.iq_monitor.specs.Observe.{power_at, EligibleFrom, stronger_of}
-use Rattle.rules.proofs.laws.ListLaws.{read_any}
 
 eligible_by : (n k : ℕ) → 2 < k → k + 2 < n → 2 < (k - n / 2) + (n / 2 - k) → eligible n k ≡ true
 eligible_by n k a b c = rw (lt-ltb 2 k a, lt-ltb (k + 2) n b, lt-ltb 2 ((k - n / 2) + (n / 2 - k)) c)

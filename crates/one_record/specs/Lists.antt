@@ -20,7 +20,8 @@ use Rattle.chain_log.specs.Reading.{state_level}
 use Rattle.chain.specs.Stages.{Machine, machine_of, new_part}
 use Rattle.chain.specs.Calls as calls
 use Rattle.chain.specs.Calls.{called}
-use Rattle.chain_hop.specs.Hops.{said_hop, Hopped, hop_of}
+use Rattle.iq_monitor.specs.Observe as image
+use Rattle.chain_hop.specs.Hops.{Hopped, hop_of}
 use Rattle.chain_undo.specs.Undoing.{undo_of}
 
 -- ---- operations
@@ -85,7 +86,7 @@ after_called o ws = record { said = o.said; machine = o.machine; words = ws; sli
 
 abbrev pub after_hopped : List ℕ → List ℕ → Hopped → Outcome Answer
 after_hopped repairs slice o =
-    record { said = said_hop o.called.answer; machine = machine_of o.called.state o.spans repairs; words = o.words; slice = slice }
+    record { said = image.said o.answer; machine = machine_of o.state o.spans repairs; words = o.words; slice = slice }
 
 abbrev pub applied : (a : Act) → Machine → List Float → Outcome (Value a)
 applied (call slice) m ws = after_called (called m slice) ws

@@ -7,7 +7,7 @@ use Rattle.std.proofs.lemmas.Bool.{false≢true}
 use native.Mathlib.Omega.{arith}
 use Rattle.rules.specs.Monitor.{Answer, reported, channel_width}
 use Rattle.rules.specs.Log.{span_of, store_width}
-use Rattle.rules.specs.Answers.{Said, nothing}
+use Rattle.rules.specs.Answers.{Said, nothing, number_of}
 use Rattle.rules.specs.Refusals.{first_of, bad_start, any_beyond, first_beyond_from}
 use Rattle.rules.specs.Constants.{size_limit, total_limit}
 use Rattle.stage_log.specs.declared.Log.{Log}
@@ -23,7 +23,7 @@ use Rattle.iq_monitor.specs.declared.Heard.TheVariants as heard
 use Rattle.iq_monitor.specs.declared.ImageMonitor.{ImageMonitor}
 use Rattle.iq_monitor.specs.Words.{words_fit}
 use Rattle.iq_monitor.specs.Observe.{said, Seen, report_in, first_or, end_of, full, closing, adding, accepted_of, leaving, is_none, observed, hop_said}
-use Rattle.iq_monitor.proofs.laws.ObserveLaws.{observed_by, accepted_by, said_is, is_some, is_next}
+use Rattle.iq_monitor.proofs.laws.ObserveLaws.{observed_by, observed_number, accepted_by, said_is, is_some, is_next}
 use Rattle.chain_state.specs.declared.InputConditioner.{InputConditioner}
 use Rattle.chain_state.specs.Fits.{begun_fits, state_fits}
 use Rattle.chain_state.specs.Changed.{after_hop}
@@ -138,6 +138,18 @@ module _ (c : InputConditioner) (xs : List ℕ) (start : ℕ) (ws : List Float) 
           → Told (cond t (leaving c.monitor ws (Ok heard.Nothing)) (observed c.monitor c.settings.fs c.settings.n xs start ws)).answer
       go true = tt
       go false = let f = state_fit c e in told_observed c.monitor c.settings.fs c.settings.n xs start ws f.first f.settings.size
+
+  -- and no number 5 comes from it
+  pub watched_number : number_of (said (watched c xs start ws).answer) ≡ 5 → ⊥
+  watched_number e = go off (ap (λ (s : Seen). number_of (said s.answer)) (sym (watched_by off refl)) ∙ e)
+    where
+      off : Bool
+      off = is_off_iq (settled_of c.settings.iq)
+
+      go : (t : Bool)
+          → number_of (said (cond t (leaving c.monitor ws (Ok heard.Nothing)) (observed c.monitor c.settings.fs c.settings.n xs start ws)).answer) ≡ 5 → ⊥
+      go true f = omega arith
+      go false f = observed_number c.monitor c.settings.fs c.settings.n xs start ws f
 
 -- a mark may follow
 pub mark_ready : (cap : ℕ) (x : Logged) (k start len : ℕ) → log_fits cap x.log ≡ true → length x.spans ≡ cap * store_width → k < 12 → start + len ≤ 2 ^ 52

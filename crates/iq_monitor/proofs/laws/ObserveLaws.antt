@@ -1,9 +1,9 @@
 -- What the monitor makes of a hop, by its tests' answers. Assumes nothing.
 use Rattle.std.specs.Prelude.{◌≡◌, not, ◌||◌, List, ℕ, ◌≤◌, ◌<◌, ◌^◌, T, eqb, ltb, length, Float, Ok, Err}
 use Rattle.std.proofs.Math.Path.{refl, ap}
-use Rattle.std.proofs.Common.{◌∙◌, subst, eqb-true, ltb-false, eq-eqb, ne_eqb, lt-ltb, le-ltb}
+use Rattle.std.proofs.Common.{sym, arith, ◌∙◌, subst, eqb-true, ltb-false, eq-eqb, ne_eqb, lt-ltb, le-ltb}
 use Rattle.std.proofs.Math.Bool.{Bool, true, false, cond}
-use Rattle.rules.specs.Answers.{accepted, nothing}
+use Rattle.rules.specs.Answers.{accepted, nothing, number_of}
 use Rattle.rules.specs.Monitor.{report, no_report}
 use Rattle.rules.specs.Refusals.{first_of, bad_start, any_beyond, first_beyond_from}
 use Rattle.amplitude_limit.specs.Limit.{returned}
@@ -56,6 +56,29 @@ module _ (m : ImageMonitor) (fs : Float) (n : ℕ) (xs : List ℕ) (start : ℕ)
       let b = (bad_start m.end start).holds in
       let d = (any_beyond xs).holds in
       ap (λ (s : Seen). said s.answer) (observed_by a b d refl refl refl) ∙ said_tests a b d
+
+  -- the monitor's refusals are 9 and 7
+  number_accepted : (t : Bool) → number_of (said (cond t (closing m xs start ws) (adding m xs start ws)).answer) ≡ 5 → ⊥
+  number_accepted true e = omega arith
+  number_accepted false e = omega arith
+
+  number_tests : (a b d : Bool)
+      → number_of
+      (said (cond a (leaving m ws (Ok heard.Nothing))
+      (cond b (leaving m ws (Err why.Early)) (cond d (leaving m ws (Err (why.OutOfRange (first_beyond_from 0 xs)))) (accepted_of m fs xs start ws)))).answer)
+      ≡ 5 → ⊥
+  unfolding accepted_of
+  number_tests true b d e = omega arith
+  number_tests false true d e = omega arith
+  number_tests false false true e = omega arith
+  number_tests false false false e = number_accepted (full fs (first_or m.first start) (end_of xs start)) e
+
+  pub observed_number : number_of (said (observed m fs n xs start ws).answer) ≡ 5 → ⊥
+  observed_number e =
+      let a = is_none n xs in
+      let b = (bad_start m.end start).holds in
+      let d = (any_beyond xs).holds in
+      number_tests a b d (ap (λ (s : Seen). number_of (said s.answer)) (sym (observed_by a b d refl refl refl)) ∙ e)
 
   -- what is seen so is answered so
   pub said_seen : (s : Seen) → s ≡ observed m fs n xs start ws → said s.answer ≡ hop_said m fs n xs start ws

@@ -1,5 +1,5 @@
 -- What an accepted call and an accepted hop have, and that one that is not accepted leaves all. Assumes nothing.
-use Rattle.std.specs.Prelude.{◌≡◌, Bool, cond, List, [], ◌∷◌, ◌++◌, ℕ, zero, suc, ◌+◌, ◌-◌, ◌*◌, T, eqb, ltb, length, Float}
+use Rattle.std.specs.Prelude.{◌≡◌, Bool, cond, List, [], ◌∷◌, ◌++◌, ℕ, zero, suc, ◌+◌, ◌-◌, ◌*◌, T, eqb, ltb, length, Float, Ok, Err}
 use Rattle.std.proofs.Math.Path.{refl}
 use Rattle.std.proofs.Common.{ap, sym, ◌∙◌, subst, arith, lt-ltb}
 use Rattle.std.proofs.Math.Bool.{true, false, false≢true}
@@ -9,18 +9,18 @@ use Rattle.rules.specs.Refusals.{too_many, any_unusable, bad_start, any_beyond, 
 use Rattle.rules.proofs.laws.SortLaws.{all_append}
 use Rattle.rules.specs.Log.{repair_width, store_width}
 use Rattle.stage_log.specs.Check.{ends_fit}
-use Rattle.iq_monitor.specs.Observe.{Seen, leaving, is_none, accepted_of}
+use Rattle.refusal.specs.declared.Refusal.TheVariants as why
+use Rattle.iq_monitor.specs.Observe.{said, Seen, leaving, is_none, accepted_of}
 use Rattle.iq_monitor.proofs.laws.ObserveLaws.{observed_by}
 use Rattle.iq.specs.View.{settled_of}
-use Rattle.iq_monitor.specs.declared.HopAnswer.TheVariants as answer
+use Rattle.iq_monitor.specs.declared.Heard.TheVariants as heard
 use Rattle.chain_state.specs.declared.InputConditioner.{InputConditioner}
 use Rattle.chain_state.specs.Fits.{state_fits}
 use Rattle.chain.specs.Stages.{new_part}
 use Rattle.chain.specs.Calls.{call_refusal}
 use Rattle.chain.proofs.laws.CallTests.{call_number, refusal_by}
-use Rattle.chain_hop.specs.Hops.{said_hop, answer_of, is_off_iq, watched, hop_refusal, hop_of, by_number, followed}
+use Rattle.chain_hop.specs.Hops.{is_off_iq, watched, hop_refusal, hop_of, by_number, followed}
 use Rattle.chain_hop.specs.Hops as hops
-use Rattle.chain_hop.specs.declared.HopSaid.TheVariants as said
 use Rattle.chain_hop.proofs.laws.HopLaws.{watched_by}
 
 -- ---- calls
@@ -80,23 +80,19 @@ module _ (c : InputConditioner) (xs : List ℕ) (start : ℕ) (spans : List ℕ)
     pub parts : (any_beyond xs).holds ≡ false
 
   -- an accepted hop's answer comes only from the end of all tests
-  pub answered_taken : is_accepted (said_hop (hop_of c xs start spans ws).called.answer) ≡ true → Taken
+  pub answered_taken : is_accepted (said (hop_of c xs start spans ws).answer) ≡ true → Taken
   unfolding hop_of hops.taken
   answered_taken e = number_is (hop_refusal c spans ws) refl e
     where
-      unanswered : (b : Bool) → is_accepted (said_hop (cond b said.BadLength said.BadState)) ≡ true → ⊥
-      unanswered true h = false≢true h
-      unanswered false h = false≢true h
-
       Said? : Seen → Type 0
-      Said? s = is_accepted (said_hop (answer_of s.seen.answer)) ≡ true
+      Said? s = is_accepted (said s.answer) ≡ true
 
       by_tests : hop_refusal c spans ws ≡ 0 → (o a b d : Bool) → is_off_iq (settled_of c.settings.iq) ≡ o → is_none c.settings.n xs ≡ a
           → (bad_start c.monitor.end start).holds ≡ b → (any_beyond xs).holds ≡ d
-          → Said? (cond o (leaving c.monitor ws answer.Nothing)
-          (cond a (leaving c.monitor ws answer.Nothing)
-          (cond b (leaving c.monitor ws answer.Early)
-          (cond d (leaving c.monitor ws (answer.Beyond (first_beyond_from 0 xs))) (accepted_of c.monitor c.settings.fs xs start ws)))))
+          → Said? (cond o (leaving c.monitor ws (Ok heard.Nothing))
+          (cond a (leaving c.monitor ws (Ok heard.Nothing))
+          (cond b (leaving c.monitor ws (Err why.Early))
+          (cond d (leaving c.monitor ws (Err (why.OutOfRange (first_beyond_from 0 xs)))) (accepted_of c.monitor c.settings.fs xs start ws)))))
           → Taken
       by_tests n true a b d p q r s h = absurd (false≢true h)
       by_tests n false true b d p q r s h = absurd (false≢true h)
@@ -105,7 +101,7 @@ module _ (c : InputConditioner) (xs : List ℕ) (start : ℕ) (spans : List ℕ)
       by_tests n false false false false p q r s h = record { none = n; watching = p; some = q; starts = r; parts = s }
 
       number_is : (k : ℕ) → hop_refusal c spans ws ≡ k
-          → is_accepted (said_hop (by_number k c spans ws (followed c spans (watched c xs start ws))).called.answer) ≡ true → Taken
+          → is_accepted (said (by_number k c spans ws (followed c spans (watched c xs start ws))).answer) ≡ true → Taken
       number_is zero n h =
           let o = is_off_iq (settled_of c.settings.iq) in
           let a = is_none c.settings.n xs in
@@ -114,7 +110,7 @@ module _ (c : InputConditioner) (xs : List ℕ) (start : ℕ) (spans : List ℕ)
           by_tests n o a b d refl refl refl refl
           (subst Said?
           (watched_by c xs start ws o refl
-          ∙ ap (cond o (leaving c.monitor ws answer.Nothing))
+          ∙ ap (cond o (leaving c.monitor ws (Ok heard.Nothing)))
           (observed_by c.monitor c.settings.fs c.settings.n xs start ws a b d refl refl refl))
           h)
-      number_is (suc k) n h = absurd (unanswered (eqb (suc k) 4) h)
+      number_is (suc k) n h = absurd (false≢true h)

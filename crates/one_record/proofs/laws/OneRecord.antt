@@ -38,12 +38,10 @@ use Rattle.chain.proofs.laws.Processing.{hands_length}
 use Rattle.chain.specs.Calls.{call_refusal, taken, declined, called}
 use Rattle.chain.proofs.laws.CallTests.{call_number, refusal_by, scan_all}
 use Rattle.chain_hop.specs.Hops as hop
-use Rattle.iq_monitor.specs.declared.HopAnswer.{HopAnswer}
-use Rattle.iq_monitor.specs.declared.HopAnswer.TheVariants as answer
 use Rattle.rules.specs.Undo.{undone_all}
 use Rattle.rules.specs.Constants.{total_limit}
 use Rattle.rules.specs.Impulse.{lookahead_size}
-use Rattle.chain_hop.specs.Hops.{is_off_iq, said_hop, Hopped, hop_of, hop_refusal}
+use Rattle.chain_hop.specs.Hops.{is_off_iq, Hopped, hop_of, hop_refusal}
 use Rattle.chain_hop.proofs.laws.HopLaws as hop_laws
 use Rattle.chain_undo.specs.Undoing as undo
 use Rattle.chain_undo.specs.Undoing.{undo_of, undo_refusal}
@@ -219,23 +217,16 @@ module _ (g : ConditioningConfig) (f : Fit g) (xs : List ℕ) (hs : List Hop) (r
           (any_unusable c.counts.held (new_part c slice)).holds
           (sym (call_number_lem slice) ∙ sym (number_returned n place) ∙ h)
 
-  monitor_number : (a : HopAnswer) → number_of (said_hop (hop.answer_of a)) ≡ 5 → ⊥
-  monitor_number answer.Nothing e = omega arith
-  monitor_number answer.NoReport e = omega arith
-  monitor_number (answer.Report v) e = omega arith
-  monitor_number answer.Early e = omega arith
-  monitor_number (answer.Beyond k) e = omega arith
-
   no_five_hop : (h : Hop)
       → number_of
-      (said_hop
+      (image.said
       (hop_of (chain_at g xs hs).machine.state h.channels h.start (chain_at g xs hs).machine.spans
-      (chain_at g xs hs).words).called.answer) ≡ 5 → ⊥
+      (chain_at g xs hs).words).answer) ≡ 5 → ⊥
   unfolding hop.taken
   no_five_hop h e =
       let c = chain.machine.state in
-      monitor_number (hop.watched c h.channels h.start chain.words).seen.answer
-      (ap (λ (o : Hopped). number_of (said_hop o.called.answer))
+      hop_laws.watched_number c h.channels h.start chain.words
+      (ap (λ (o : Hopped). number_of (image.said o.answer))
       (sym (hop_laws.hop_taken c h.channels h.start chain.machine.spans chain.words hop_number_lem)) ∙ e)
 
   -- a row for each act

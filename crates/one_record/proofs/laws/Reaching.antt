@@ -36,7 +36,7 @@ use Rattle.chain.specs.Stages.{Machine, machine_of, notes_in, new_part, process,
 use Rattle.chain.specs.Calls as calls
 use Rattle.chain.specs.Calls.{call_refusal}
 use Rattle.chain_hop.specs.Hops as hops
-use Rattle.chain_hop.specs.Hops.{is_observing, is_off_iq, uncertain, said_hop, Hopped}
+use Rattle.chain_hop.specs.Hops.{is_observing, is_off_iq, uncertain, Hopped}
 use Rattle.one_record.specs.Lists as list
 use Rattle.one_record.specs.Lists.{Given, own, other, handed, kept, Lent, all_own, Act, call, hop, Operation, ownly, Value, Outcome, after_called}
 use Rattle.one_record.specs.Lists.{after_hopped, applied, Chain, leave, on, settle, next, run, Proper}
@@ -98,7 +98,7 @@ suspected_is : (a : Answer) → hops.suspected_by (answer_of a) ≡ suspected_sp
 suspected_is no_report = refl
 suspected_is (report r) = refl
 
-said_is : (a : Answer) → said_hop (hops.answer_of (answer_of a)) ≡ accepted a
+said_is : (a : Answer) → image.said (answer_of a) ≡ accepted a
 said_is no_report = refl
 said_is (report r) = refl
 
@@ -337,7 +337,8 @@ module _ (g : ConditioningConfig) (some : 0 < g.spans) where
       -- the chain's machine after it
       machine_hop : hops.followed (chain_at g xs hs).machine.state (chain_at g xs hs).machine.spans (stepped g.n (window_length g.fs) (window_at hs) h)
           ≡ record {
-            called = record { state = (chain_at g xs (hs ++ (h ∷ []))).machine.state; answer = hops.answer_of (answer_of answer_at) };
+            state = (chain_at g xs (hs ++ (h ∷ []))).machine.state;
+            answer = answer_of answer_at;
             spans = (chain_at g xs (hs ++ (h ∷ []))).machine.spans;
             words = (chain_at g xs (hs ++ (h ∷ []))).words;
           }
@@ -356,11 +357,8 @@ module _ (g : ConditioningConfig) (some : 0 < g.spans) where
           let e : hop_end g.n h ≡ end_at (hs ++ (h ∷ [])) = sym end_next in
           λ i.
           record {
-            called =
-                record {
-                  state = after_hop (core g xs).state (window_state (w i) (e i)) (l i).log;
-                  answer = hops.answer_of (answer_of answer_at);
-                };
+            state = after_hop (core g xs).state (window_state (w i) (e i)) (l i).log;
+            answer = answer_of answer_at;
             spans = (l i).spans;
             words = monitor_words g.n (w i);
           }
@@ -419,14 +417,15 @@ module _ (g : ConditioningConfig) (some : 0 < g.spans) where
       ∙ ap (hops.followed c y.machine.spans) (seen_is hs h xs r.order on a)
       ∙ machine_hop hs h xs r.order on a in
       record {
-        taken = ap (λ (o : Hopped). is_accepted (said_hop o.called.answer)) q ∙ ap is_accepted (said_is (answer_at hs h));
+        taken = ap (λ (o : Hopped). is_accepted (image.said o.answer)) q ∙ ap is_accepted (said_is (answer_at hs h));
         is =
-            ap (λ (o : Hopped). settle (hop h) all_own y (after_hopped y.machine.repairs h.channels o) (said_hop o.called.answer)) q
+            ap (λ (o : Hopped). settle (hop h) all_own y (after_hopped y.machine.repairs h.channels o) (image.said o.answer)) q
             ∙ ap
             (settle (hop h) all_own y
             (after_hopped y.machine.repairs h.channels
             (record {
-              called = record { state = (chain_at g xs (hs ++ (h ∷ []))).machine.state; answer = hops.answer_of (answer_of (answer_at hs h)) };
+              state = (chain_at g xs (hs ++ (h ∷ []))).machine.state;
+              answer = answer_of (answer_at hs h);
               spans = (chain_at g xs (hs ++ (h ∷ []))).machine.spans;
               words = (chain_at g xs (hs ++ (h ∷ []))).words;
             }))
