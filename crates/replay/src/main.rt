@@ -306,8 +306,7 @@ fn write_played(played: Played, spans: &[u64], text: &mut [u8]) -> usize
     if played.off {
         return replay_text::notices::write_off(text);
     }
-    let state = played.state;
-    replay_report::write_report(state, spans, played.replaced, text)
+    replay_report::write_report(&played.state, spans, played.replaced, text)
 }
 
 // Reads and plays every block, beginning with what making left, and puts what is to be printed into the

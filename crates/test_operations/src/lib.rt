@@ -8,6 +8,7 @@ use chain_config::ConditioningConfig;
 use chain_hop::HopSaid;
 use chain_make::MakingAnswer;
 use chain_words::{STATE_WORDS, read_state, write_state};
+use refusal::Refusal;
 
 // ---- an answer as two numbers
 
