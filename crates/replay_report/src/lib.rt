@@ -26,6 +26,8 @@ fn put_count_of(text: &mut Text, log: &Log, stage: Stage, kind: Mark)
     lines::put_count(text, stage, kind, count);
 }
 
+// The four marks in ring order, written out: a loop over a constant would need that constant proved to be
+// the definition's list `marks`. The three stages below likewise.
 fn put_stage_counts(text: &mut Text, log: &Log, stage: Stage)
     ensures { Added text.old (each (shown_count log.now (stage_of stage)) marks) text.new }
 {

@@ -22,6 +22,8 @@ pub fn put_samples(text: &mut Text, replaced: u64, seen: u64, released: u64, hel
     text.put_number(b"held ", held, b'\n');
 }
 
+// The name of a stage, and of a mark below, put as bytes and not by `Display`: the report's theorem
+// (`replay_is`) says each byte of the lent store.
 fn put_stage(text: &mut Text, stage: Stage)
     ensures { Added text.old (letters (stage_name (stage_of stage))) text.new }
 {
