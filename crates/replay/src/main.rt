@@ -182,7 +182,7 @@ fn write_played(played: Result<Option<Playing>, Refusal>, spans: &[u64], text: &
 {
     match played {
         Ok(Some(playing)) => {
-            replay_report::write_report(playing.state, spans, playing.replaced, text)
+            replay_report::write_report(&playing.state, spans, playing.replaced, text)
         }
         Ok(None) => replay_text::notices::write_off(text),
         Err(refusal) => replay_text::notices::write_refusal(refusal.number(), text),

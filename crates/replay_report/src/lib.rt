@@ -1,10 +1,9 @@
-// The report of a state, put into a lent store of bytes. Each function answers the place behind what it
-// put.
+// The report of a state, put into a lent store of bytes.
 #![tactic(auto)]
 
 ghost use Rattle.std.specs.Prelude.{◌≡◌, min, length};
 ghost use Rattle.stage_log.specs.View.{stage_of, mark_of};
-ghost use Rattle.replay_text.specs.Text.{each, put, Written};
+ghost use Rattle.replay_text.specs.Text.{each, put, Added};
 ghost use Rattle.chain_log.specs.Reading.{level_of};
 ghost use Rattle.replay_report.specs.Lines.{level_line};
 ghost use Rattle.replay_report.specs.Report.{marks, report_text};
@@ -12,127 +11,114 @@ ghost use Rattle.replay_report.specs.Shown.{shown_count, shown_counts, shown_lin
 
 mod lines;
 
-use chain_log::{DcLevel, SpanRead};
 use chain_state::InputConditioner;
+use complex::Complex64;
+use replay_text::Text;
 use stage_log::{Log, Mark, Stage};
 
 // ---- the counts
 
 // The count line of a ring of the log.
-fn put_count_of(text: &mut [u8], place: usize, log: Log, stage: Stage, kind: Mark) -> usize
-    ensures { Written text.old place (shown_count log (stage_of stage) (mark_of kind)) text.new result }
+fn put_count_of(text: &mut Text, log: &Log, stage: Stage, kind: Mark)
+    ensures { Added text.old (shown_count log.now (stage_of stage) (mark_of kind)) text.new }
 {
-    let which = stage_log::ring_number(stage, kind);
-    let count = log.counts[which];
-    lines::put_count(text, place, stage, kind, count)
+    let count = log.counts[stage_log::ring_number(stage, kind)];
+    lines::put_count(text, stage, kind, count);
 }
 
-fn put_stage_counts(text: &mut [u8], place: usize, log: Log, stage: Stage) -> usize
-    ensures { Written text.old place (each (shown_count log (stage_of stage)) marks) text.new result }
+// The four marks in ring order, written out: a loop over a constant would need that constant proved to be
+// the definition's list `marks`. The three stages below likewise.
+fn put_stage_counts(text: &mut Text, log: &Log, stage: Stage)
+    ensures { Added text.old (each (shown_count log.now (stage_of stage)) marks) text.new }
 {
-    let a = put_count_of(text, place, log, stage, Mark::Repaired);
-    let b = put_count_of(text, a, log, stage, Mark::Flagged);
-    let c = put_count_of(text, b, log, stage, Mark::Corrected);
-    put_count_of(text, c, log, stage, Mark::Uncertain)
+    put_count_of(text, log, stage, Mark::Repaired);
+    put_count_of(text, log, stage, Mark::Flagged);
+    put_count_of(text, log, stage, Mark::Corrected);
+    put_count_of(text, log, stage, Mark::Uncertain);
 }
 
-fn put_counts(text: &mut [u8], place: usize, log: Log) -> usize
-    ensures { Written text.old place (shown_counts log) text.new result }
+fn put_counts(text: &mut Text, log: &Log)
+    ensures { Added text.old (shown_counts log.now) text.new }
 {
-    let a = put_stage_counts(text, place, log, Stage::Impulse);
-    let b = put_stage_counts(text, a, log, Stage::Dc);
-    put_stage_counts(text, b, log, Stage::Iq)
+    put_stage_counts(text, log, Stage::Impulse);
+    put_stage_counts(text, log, Stage::Dc);
+    put_stage_counts(text, log, Stage::Iq);
 }
 
 // ---- the spans
 
 // The spans of a ring, the oldest first.
-fn put_spans_of(
-    text: &mut [u8],
-    place: usize,
-    state: InputConditioner,
-    spans: &[u64],
-    stage: Stage,
-    kind: Mark,
-) -> usize
-    ensures { Written text.old place (shown_lines state spans.now (stage_of stage) (mark_of kind)) text.new result }
+fn put_spans_of(text: &mut Text, state: &InputConditioner, spans: &[u64], stage: Stage, kind: Mark)
+    ensures { Added text.old (shown_lines state.now spans.now (stage_of stage) (mark_of kind)) text.new }
 {
-    let mut at = place;
-    let mut i: usize = 0;
-    loop {
-        let read = chain_log::span(state, spans, stage, kind, i);
-        let SpanRead::Held(s) = read else {
-            return at;
+    for i in 0..chain_config::SPAN_LIMIT {
+        let Some(s) = chain_log::span(state, spans, stage, kind, i) else {
+            return;
         };
-        at = lines::put_span(text, at, stage, kind, s);
-        i += 1;
+        lines::put_span(text, stage, kind, s);
     }
 }
 
-fn put_stage_spans(
-    text: &mut [u8],
-    place: usize,
-    state: InputConditioner,
-    spans: &[u64],
-    stage: Stage,
-) -> usize
-    ensures { Written text.old place (each (shown_lines state spans.now (stage_of stage)) marks) text.new result }
+fn put_stage_spans(text: &mut Text, state: &InputConditioner, spans: &[u64], stage: Stage)
+    ensures { Added text.old (each (shown_lines state.now spans.now (stage_of stage)) marks) text.new }
 {
-    let a = put_spans_of(text, place, state, spans, stage, Mark::Repaired);
-    let b = put_spans_of(text, a, state, spans, stage, Mark::Flagged);
-    let c = put_spans_of(text, b, state, spans, stage, Mark::Corrected);
-    put_spans_of(text, c, state, spans, stage, Mark::Uncertain)
+    put_spans_of(text, state, spans, stage, Mark::Repaired);
+    put_spans_of(text, state, spans, stage, Mark::Flagged);
+    put_spans_of(text, state, spans, stage, Mark::Corrected);
+    put_spans_of(text, state, spans, stage, Mark::Uncertain);
 }
 
-fn put_spans(text: &mut [u8], place: usize, state: InputConditioner, spans: &[u64]) -> usize
-    ensures { Written text.old place (all_lines state spans.now) text.new result }
+fn put_spans(text: &mut Text, state: &InputConditioner, spans: &[u64])
+    ensures { Added text.old (all_lines state.now spans.now) text.new }
 {
-    let a = put_stage_spans(text, place, state, spans, Stage::Impulse);
-    let b = put_stage_spans(text, a, state, spans, Stage::Dc);
-    put_stage_spans(text, b, state, spans, Stage::Iq)
+    put_stage_spans(text, state, spans, Stage::Impulse);
+    put_stage_spans(text, state, spans, Stage::Dc);
+    put_stage_spans(text, state, spans, Stage::Iq);
 }
 
 // ---- what follows the rings
 
-fn put_level(text: &mut [u8], place: usize, level: DcLevel) -> usize
-    ensures { Written text.old place (level_line (level_of level)) text.new result }
+fn put_level(text: &mut Text, level: Option<Complex64>)
+    ensures { Added text.old (level_line (level_of level)) text.new }
 {
     match level {
-        DcLevel::NoLevel => replay_text::put(text, place, b"dc none\n"),
-        DcLevel::Level(z) => lines::put_words(text, place, z),
+        None => text.put(b"dc none\n"),
+        Some(z) => lines::put_words(text, z),
     }
 }
 
-fn put_rest(text: &mut [u8], place: usize, state: InputConditioner) -> usize
-    ensures { Written text.old place (shown_rest state) text.new result }
+fn put_rest(text: &mut Text, state: &InputConditioner)
+    ensures { Added text.old (shown_rest state.now) text.new }
 {
     let log = chain_log::log(state);
-    let repairs = log.notes.repairs;
-    let level = log.dclevel;
-    let iq = log.iq;
-    let a = lines::put_dropped(text, place, log.dropped, repairs.dropped);
-    let b = put_level(text, a, level);
-    lines::put_settled(text, b, iq)
+    lines::put_dropped(text, log.dropped, log.notes.repairs.dropped);
+    put_level(text, log.dclevel);
+    lines::put_settled(text, log.iq);
 }
 
 // ---- the texts
 
 // The report of a state and its span store, after so many samples were replaced.
-pub fn write_report(state: InputConditioner, spans: &[u64], replaced: u64, text: &mut [u8]) -> usize
-    ensures text { text.new ≡ put text.old 0 (report_text (report_in state spans.now replaced)) }
-    ensures length { result ≡ min (length text.old) (length (report_text (report_in state spans.now replaced))) }
+pub fn write_report(
+    state: &InputConditioner,
+    spans: &[u64],
+    replaced: u64,
+    text: &mut [u8],
+) -> usize
+    ensures text { text.new ≡ put text.old 0 (report_text (report_in state.now spans.now replaced)) }
+    ensures length { result ≡ min (length text.old) (length (report_text (report_in state.now spans.now replaced))) }
 {
     let counts = state.counts;
-    let log = state.notes.log;
-    let a = lines::put_samples(
-        text,
-        0,
+    let mut report = Text::new(text);
+    lines::put_samples(
+        &mut report,
         replaced,
         counts.seen,
         counts.released,
         counts.held as u64,
     );
-    let b = put_counts(text, a, log);
-    let c = put_spans(text, b, state, spans);
-    put_rest(text, c, state)
+    put_counts(&mut report, &state.notes.log);
+    put_spans(&mut report, state, spans);
+    put_rest(&mut report, state);
+    report.length
 }

@@ -4,6 +4,7 @@ use Prim.Native.Char.{code}
 use Prim.Native.String.{String, [] as end, ◌∷◌ as ◌then◌}
 use Rattle.std.proofs.lemmas.List.Edits.{sets}
 use Rattle.io.specs.Digits.{hex_digit_ascii, last_digits}
+use Rattle.replay_text.specs.declared.Text as declared
 
 -- the codes of a text's letters
 unfoldable pub letters : String → List ℕ
@@ -48,3 +49,8 @@ stop_at size place n = max place (min size (place + n))
 pub record Written (text : List ℕ) (place : ℕ) (bytes : List ℕ) (after : List ℕ) (r : ℕ) : Type 0 where
   pub store : after ≡ put text place bytes
   pub stop : r ≡ stop_at (length text) place (length bytes)
+
+-- a text with those bytes behind it, in the same store
+pub record Added (text : declared.Text) (bytes : List ℕ) (after : declared.Text) : Type 0 where
+  pub same_store : after.bytes.ghost_name ≡ text.bytes.ghost_name
+  pub written : Written text.bytes.now text.length bytes after.bytes.now after.length

@@ -5,12 +5,16 @@ ghost use Rattle.std.specs.Prelude.{◌≡◌, min, length};
 ghost use Rattle.replay_text.specs.Text.{put};
 ghost use Rattle.replay_text.specs.Notices.{refused_text, off_text};
 
+use crate::Text;
+
 // That something was refused, with its number.
 pub fn write_refusal(number: u64, text: &mut [u8]) -> usize
     ensures text { text.new ≡ put text.old 0 (refused_text number) }
     ensures length { result ≡ min (length text.old) (length (refused_text number)) }
 {
-    crate::put_number(text, 0, b"refused ", number, b'\n')
+    let mut line = Text::new(text);
+    line.put_number(b"refused ", number, b'\n');
+    line.length
 }
 
 // That all modes are off.
@@ -18,5 +22,7 @@ pub fn write_off(text: &mut [u8]) -> usize
     ensures text { text.new ≡ put text.old 0 off_text }
     ensures length { result ≡ min (length text.old) (length off_text) }
 {
-    crate::put(text, 0, b"off\n")
+    let mut line = Text::new(text);
+    line.put(b"off\n");
+    line.length
 }

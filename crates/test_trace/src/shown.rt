@@ -5,7 +5,7 @@ use crate::{Head, MONITOR_WORDS};
 use chain_log::ConditioningLog;
 use chain_words::{APPLY, COEFFICIENT, RINGS, SEEN, STATE_WORDS, WINDOW, iq_words};
 use complex::Complex64;
-use stage_log::{Mark, Ring, Stage};
+use stage_log::{Mark, Ring, Span, Stage};
 use std::io;
 use test_operations::{NOTHING, part, plain};
 

@@ -24,9 +24,9 @@ ghost use Rattle.vatgorge.specs.Undo as undo;
 use chain_log::ConditioningLog;
 use chain_state::InputConditioner;
 use iq_monitor::{Evidence, Heard, ImageMonitor};
+use complex::Complex64;
 use refusal::Refusal;
 use stage_log::{Mark, Stage, Span};
-use complex::Complex64;
 
 mod config;
 mod making;
@@ -255,8 +255,8 @@ fn level_words(level: Option<Complex64>) -> [u64; 3]
     }
 }
 
-fn log_numbers(l: ConditioningLog) -> [u64; LOG_NUMBERS]
-    ensures { result ≡ log.number_words l }
+fn log_numbers(l: &ConditioningLog) -> [u64; LOG_NUMBERS]
+    ensures { result ≡ log.number_words l.now }
 {
     let ring = chain_words::ring_words(l.notes.repairs);
     let level = level_words(l.dclevel);
@@ -295,7 +295,7 @@ pub extern "C" fn vg_log(state: &[u64; chain_words::STATE_WORDS], out: &mut [u64
 {
     sized(*out);
     let l = chain_log::log(&chain_words::read_state(state));
-    chain_words::put(&log_numbers(l), out, 0);
+    chain_words::put(&log_numbers(&l), out, 0);
     chain_words::put_log(l.notes.log, out, LOG_NUMBERS);
 }
 

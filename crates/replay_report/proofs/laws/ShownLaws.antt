@@ -15,8 +15,9 @@ use Rattle.stage_log.specs.Check.{ring_of}
 use Rattle.chain_state.specs.declared.InputConditioner.{InputConditioner}
 use Rattle.chain_log.specs.Reading.{no_span, found, number_in, store_fits, readable, spans_in, span_read}
 use Rattle.chain_log.proofs.laws.ReadingLaws.{store_is}
-use Rattle.replay_text.specs.Text.{each, Written}
-use Rattle.replay_text.proofs.laws.PutLaws.{written_as, written_then, each_append, each_snoc}
+use Rattle.replay_text.specs.declared.Text.{Text}
+use Rattle.replay_text.specs.Text.{each, Added}
+use Rattle.replay_text.proofs.laws.PutLaws.{added_as, added_then, each_append, each_snoc}
 use Rattle.replay_report.specs.Lines.{sample_lines}
 use Rattle.replay_report.specs.Report.{marks, rings_of, ring_count, count_lines, ring_spans, span_lines, report_text}
 use Rattle.replay_report.specs.Shown.{shown_spans, shown_ring, shown_counts, all_lines, shown_rest, report_in}
@@ -34,18 +35,18 @@ number_some (y ∷ l) zero x e = (omega arith, cc)
 number_some (y ∷ l) (suc i) x e = let h = number_some l i x e in (omega (arith, h.0), h.1)
 
 -- the text of one more
-module _ {text : List ℕ} {place : ℕ} {middle : List ℕ} {stop : ℕ} {after : List ℕ} {end : ℕ} where
+module _ {text middle after : Text} where
   pub span_next : (f : Span → List ℕ) (l : List Span) (i : ℕ) (x : Span) → number_in l i ≡ found x
-      → Written text place (each f (take i l)) middle stop → Written middle stop (f x) after end → Written text place (each f (take (i + 1) l)) after end
+      → Added text (each f (take i l)) middle → Added middle (f x) after → Added text (each f (take (i + 1) l)) after
   span_next f l i x e u v =
       let h = number_some l i x e in
-      written_as
+      added_as
       (sym
       (ap (λ (n : ℕ). each f (take n l)) (add-one i)
       ∙ ap (each f) (take-suc l i (span_of 0 0) h.0)
       ∙ ap (λ (y : Span). each f (take i l ++ (y ∷ []))) h.1
       ∙ each_snoc f (take i l) x))
-      (written_then u v)
+      (added_then u v)
 
 -- ---- the spans that are shown
 

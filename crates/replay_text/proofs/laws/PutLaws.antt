@@ -6,7 +6,8 @@ use mathlib.Core.List.{List, [], ◌∷◌, ◌++◌, append_assoc, append-nil}
 use Rattle.std.proofs.Math.Decide.{dec_le}
 use Rattle.std.proofs.Math.Seq.{set_out, length-sets, take-append_seam}
 use Rattle.std.proofs.lemmas.List.Edits.{sets-eq}
-use Rattle.replay_text.specs.Text.{each, put, stop_at, Written}
+use Rattle.replay_text.specs.declared.Text.{Text}
+use Rattle.replay_text.specs.Text.{each, put, stop_at, Written, Added}
 
 -- ---- the store
 
@@ -72,6 +73,28 @@ module _ {text : List ℕ} {place : ℕ} {cs : List ℕ} {middle : List ℕ} {st
 pub written_last : {text : List ℕ} {place : ℕ} {cs : List ℕ} {after : List ℕ} {end : ℕ} → Written text place cs after end
     → Written text place (cs ++ []) after end
 written_last {text} {place} {cs} w = written_as (sym (append-nil cs)) w
+
+-- ---- the same of texts in stores
+
+pub added_none : (text : Text) → Added text [] text
+added_none text = record { same_store = refl; written = written_none text.bytes.now text.length }
+
+pub added_as : {text : Text} {cs bs : List ℕ} {after : Text} → cs ≡ bs → Added text cs after → Added text bs after
+added_as {text} {cs} {bs} {after} e w = subst (λ (l : List ℕ). Added text l after) e w
+
+pub added_then : {text : Text} {cs : List ℕ} {middle : Text} {bs : List ℕ} {after : Text} → Added text cs middle → Added middle bs after
+    → Added text (cs ++ bs) after
+added_then u v = record { same_store = v.same_store ∙ u.same_store; written = written_then u.written v.written }
+
+pub added_last : {text : Text} {cs : List ℕ} {after : Text} → Added text cs after → Added text (cs ++ []) after
+added_last {text} {cs} w = added_as (sym (append-nil cs)) w
+
+-- what stands in a store that had no text before
+pub added_first : {text : Text} {bs : List ℕ} {after : Text} {store : List ℕ} → text.bytes.now ≡ store → text.length ≡ 0 → Added text bs after
+    → Written store 0 bs after.bytes.now after.length
+added_first {text} {bs} {after} {store} e z w =
+    subst (λ (l : List ℕ). Written l 0 bs after.bytes.now after.length) e
+    (subst (λ (k : ℕ). Written text.bytes.now k bs after.bytes.now after.length) z w.written)
 
 -- ---- the texts of a list's members
 

@@ -1,7 +1,7 @@
--- `replay_text::put_decimal`: the fewest digits are the decimal text.
+-- `replay_text::Text::put_decimal`: the fewest digits are the decimal text.
 use Rattle.std.proofs.Common.{◌∙◌, arith}
 use Rattle.replay_text.proofs.laws.DigitLaws.{fewest_most, fewest_decimal}
-use Rattle.replay_text.proofs.put_decimal.Goals as goal
+use Rattle.replay_text.proofs.Text.put_decimal.Goals as goal
 
 pub returns : goal.returns
 returns c =

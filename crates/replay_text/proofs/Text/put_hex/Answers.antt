@@ -1,8 +1,8 @@
--- `replay_text::put_hex`: the fewest digits, and no fewer than 16, are 16.
+-- `replay_text::Text::put_hex`: the fewest digits, and no fewer than 16, are 16.
 use Rattle.std.proofs.Common.{◌≡◌, arith}
 use Rattle.replay_text.specs.Text.{hexadecimal}
 use Rattle.replay_text.proofs.laws.DigitLaws.{fewest_most}
-use Rattle.replay_text.proofs.put_hex.Goals as goal
+use Rattle.replay_text.proofs.Text.put_hex.Goals as goal
 
 pub returns : goal.returns
 unfolding hexadecimal
