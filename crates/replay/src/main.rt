@@ -11,12 +11,10 @@ ghost use Rattle.rules.specs.Monitor.{channel_width};
 ghost use Rattle.rules.specs.Answers.{accepted};
 ghost use Rattle.refusal.specs.Words.{said_by};
 ghost use Rattle.io.specs.Counts.{IsPrefixLen};
-ghost use Rattle.chain_call.specs.Said.{said};
 ghost use Rattle.replay_text.specs.Text.{put};
 ghost use Rattle.replay.specs.Printing.{begun, text_of};
 
 use arrayvec::ArrayString;
-use chain_call::Conditioned;
 use chain_state::InputConditioner;
 use impulse::ImpulseSuppressor;
 use iq_monitor::ImageMonitor;
