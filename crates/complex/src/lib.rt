@@ -10,8 +10,8 @@ ghost use Rattle.complex.specs.View.{view32, make32, view64, make64, single_of};
 
 use std::ops::{Add, Div, Mul, Sub};
 
-// Two types and not one of a type parameter: the float's operations would be a trait's, whose methods and
-// laws are again one for each format, and of them four methods here are the same.
+// Two types and not one of a type parameter: its sums and products would be a trait's, with a method
+// and a law for each format again, to share four methods here.
 #[derive(Clone, Copy)]
 pub struct Complex32 {
     pub re: f32,

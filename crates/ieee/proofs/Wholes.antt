@@ -7,17 +7,10 @@ use lib.Ieee.Fits.{down_pos}
 use lib.Ieee.Exact.{HasValue}
 use lib.Ieee.Nearest.{div_same}
 use Rattle.ieee.specs.Normal.{significand_of, shift_of}
-use Rattle.ieee.specs.Whole.{ceil_div, round_div, div_by, whole_by}
+use Rattle.ieee.specs.Whole.{ceil_div, round_div, whole_by, Rule}
 use Rattle.ieee.proofs.laws.Numbers.{le_or_lt, pow_split}
 use Rattle.ieee.proofs.laws.Fields.{Meaning}
 use Rattle.ieee.proofs.laws.NormalLaws.{Placed, placed}
-
--- ---- what the two rules for fractions share
-pub record Rule (g : ℕ → ℕ → ℕ) : Type 0 where
-  pub same : (a b c d : ℕ) → 0 < b → 0 < d → a * d ≡ c * b → g a b ≡ g c d
-  pub whole : (n : ℕ) → g n 1 ≡ n
-  pub bound : (a c : ℕ) → 0 < c → g a c ≤ a
-  pub far : (a u v : ℕ) → a * 2 < u → u ≤ v → g a u ≡ g a v
 
 -- ---- the least whole number that is no less
 ceil_ge : (a c : ℕ) → 0 < c → a ≤ ceil_div a c * c
@@ -87,10 +80,6 @@ round_rule = record {
       where
         four : (a d : ℕ) → 2 * a * (2 * d) ≡ 4 * (a * d)
         four a d = simp (mul_assoc, mul_comm, mul_left_comm) (omega arith)
-
-pub is_rule : (up : Bool) → Rule (div_by up)
-is_rule true = ceil_rule
-is_rule false = round_rule
 
 -- ---- a float by such a rule, from its fields
 by_value : (g : ℕ → ℕ → ℕ) → Rule g → (x : Float) (a c : ℕ) → 0 < c → HasValue x false a c → whole_by g x ≡ min (g a c) (2 ^ 64 - 1)

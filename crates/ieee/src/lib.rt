@@ -2,13 +2,16 @@
 // input and exact: bit patterns, widening, narrowing, the square root, ceiling and rounding.
 #![tactic(auto)]
 
-ghost use Rattle.std.specs.Prelude.{◌≡◌, ◌+◌, ◌-◌, ◌*◌, ◌^◌, ◌<◌, ◌≤◌, min, ◌&&◌, T, from_bits, nat_le, nat_lt, to_bits};
+ghost use Rattle.std.specs.Prelude.{ℕ, ◌≡◌, ◌/◌, ◌+◌, ◌-◌, ◌*◌, ◌^◌, ◌<◌, ◌≤◌, min, ◌&&◌, T, from_bits, nat_le, nat_lt, to_bits};
 ghost use Rattle.std.specs.Float.{binary32, binary64};
 ghost use Rattle.std.specs.Float.Ieee.Nearest.{closest};
 ghost use Rattle.ieee.specs.Narrow.{narrowed, magnitude_of, pattern_in, cut_of, normal_in, Rounded, RoundedBoth};
 ghost use Rattle.ieee.specs.Normal.{significand_of, Normalised};
 ghost use Rattle.ieee.specs.Root.{rooted, HalfRoot};
-ghost use Rattle.ieee.specs.Whole.{ceil_div, round_div, div_by, whole_by};
+ghost use Rattle.ieee.specs.Whole.{ceil_div, round_div, whole_by, Adds};
+
+// One function for each format, here and at `from_bits`: of a type parameter the patterns and the
+// tests would be a trait's, and again one for each.
 
 // The bit pattern of x. Every NaN has the one pattern that the logic gives it.
 pub fn to_bits32(x: f32) -> u32
@@ -339,41 +342,41 @@ pub fn root(x: f64) -> f64
     root_finite(b)
 }
 
-// m / 2^r as a whole number: the least that is not below it, or the nearest, the larger of two.
-fn dropped(m: u64, r: u64, up: bool) -> u64
+// m / 2^r as a whole number: the rule for the rest is what it adds to m first, by the unit 2^r.
+fn dropped<F: Fn(u64) -> u64>(m: u64, r: u64, added: F) -> u64
     requires digits { m < 2 ^ 62 }
     requires shift { r < 64 }
-    ensures { result ≡ div_by up m (2 ^ r) }
+    requires callable { (u : ℕ) → 0 < u → F.pre added u }
+    requires small { (u y : ℕ) → F.post added u y → y ≤ u }
+    ensures { (y : ℕ) × F.post added (2 ^ r) y × (result ≡ (m + y) / 2 ^ r) }
 {
-    let u = 1u64 << r;
-    if up {
-        (m + (u - 1)) >> r
-    } else {
-        (m + u / 2) >> r
-    }
+    let unit = 1u64 << r;
+    (m + added(unit)) >> r
 }
 
 // The f64 of the bits b, which is no NaN and not negative, as a whole number.
-fn whole_positive(b: u64, up: bool) -> u64
-    requires { b ≤ 0x7ff0_0000_0000_0000 }
-    ensures { result ≡ whole_by (div_by up) (from_bits binary64 b) }
+fn whole_positive<F: Fn(u64) -> u64>(b: u64, added: F) -> u64
+    requires number { b ≤ 0x7ff0_0000_0000_0000 }
+    requires callable { (u : ℕ) → 0 < u → F.pre added u }
+    requires small { (u y : ℕ) → F.post added u y → y ≤ u }
+    ensures { (g : ℕ → ℕ → ℕ) → Adds g (F.post added) → result ≡ whole_by g (from_bits binary64 b) }
 {
     let n = normalise(b);
-    let digits = n.digits;
-    let place = n.place;
     // at this place the last digit is a one
     let first = 1074 + n.shift;
-    if place <= first {
-        return dropped(digits, (first - place).min(63), up);
+    if n.place <= first {
+        return dropped(n.digits, (first - n.place).min(63), added);
     }
-    if place <= first + 2 {
-        return digits << (place - first);
+    if n.place <= first + 2 {
+        return n.digits << (n.place - first);
     }
     0xffff_ffff_ffff_ffff
 }
 
-fn whole(x: f64, up: bool) -> u64
-    ensures { result ≡ whole_by (div_by up) x }
+fn whole<F: Fn(u64) -> u64>(x: f64, added: F) -> u64
+    requires callable { (u : ℕ) → 0 < u → F.pre added u }
+    requires small { (u y : ℕ) → F.post added u y → y ≤ u }
+    ensures { (g : ℕ → ℕ → ℕ) → Adds g (F.post added) → result ≡ whole_by g x }
 {
     if x != x {
         return 0;
@@ -382,19 +385,19 @@ fn whole(x: f64, up: bool) -> u64
     if b >= 0x8000_0000_0000_0000 {
         return 0;
     }
-    whole_positive(b, up)
+    whole_positive(b, added)
 }
 
 // The least whole number that is not below x, as Rust's `x.ceil() as u64`.
 pub fn ceiling(x: f64) -> u64
     ensures { result ≡ whole_by ceil_div x }
 {
-    whole(x, true)
+    whole(x, |unit| unit - 1)
 }
 
 // The whole number nearest to x, a tie away from zero, as Rust's `x.round() as u64`.
 pub fn round_half_away(x: f64) -> u64
     ensures { result ≡ whole_by round_div x }
 {
-    whole(x, false)
+    whole(x, |unit| unit / 2)
 }
