@@ -112,7 +112,8 @@ fn try_sample(rho: Complex64, w: u64) -> Tried
     }
 }
 
-// A group's corrections with no branch between them, and whether all are right.
+// A group's corrections with no branch between them, and whether all are right. Of what is written through
+// a `zip` with `iter_mut` a proof would know the length alone.
 fn try_group(rho: Complex64, part: &[u64], out: &mut [u64; 16]) -> bool
     requires small { Small (view64 rho) }
     requires whole { length part.now ≡ 16 }
@@ -154,7 +155,8 @@ fn correct_group(rho: Complex64, part: &mut [u64])
     correct_each(rho, part);
 }
 
-// The samples corrected in groups of 16, as far as there are 16: how many are.
+// The samples corrected in groups of 16, as far as there are 16: how many are. Of what is written through
+// `chunks_exact_mut` a proof would know the length alone.
 fn correct_groups(rho: Complex64, samples: &mut [u64]) -> usize
     requires { Small (view64 rho) }
     ensures { Mapping (corrected (view64 rho)) samples.old samples.new result }
@@ -178,14 +180,21 @@ fn correct_all(rho: Complex64, samples: &mut [u64])
     correct_each(rho, &mut samples[k..]);
 }
 
+// Each correction undone by this divisor, one after the other. It and `correct_each` are one line
+// each: one of them with a closure would be no shorter.
+fn uncorrect_each(rho: Complex64, divisor: f64, samples: &mut [u64])
+    ensures { samples.new ≡ map (uncorrected_by (view64 rho) divisor) samples.old }
+{
+    for w in samples.iter_mut() {
+        *w = uncorrect(rho, divisor, *w);
+    }
+}
+
 // Each correction undone, in place. The divisor is worked out once, before the samples.
 fn uncorrect_all(rho: Complex64, samples: &mut [u64])
     ensures { samples.new ≡ map (uncorrected (view64 rho)) samples.old }
 {
-    let divisor = divisor(rho);
-    for w in samples.iter_mut() {
-        *w = uncorrect(rho, divisor, *w);
-    }
+    uncorrect_each(rho, divisor(rho), samples);
 }
 
 // The stage over a slice, as it was settled.
