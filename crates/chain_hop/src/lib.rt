@@ -55,7 +55,7 @@ fn hop_refusal(state: &InputConditioner, spans: &[u64], words: &[f64]) -> Result
     Ok(())
 }
 
-// Marks a window that is suspected.
+// Marks a window that is suspected. The log, its spans and their capacity are the parameters of `Log::mark`.
 fn mark_window(log: Log, spans: &mut [u64], capacity: usize, evidence: Evidence) -> Log
     requires log_value { (log_fits capacity log ≡ true) × (length spans.old ≡ capacity * store_width) }
     requires window { Window evidence }

@@ -10,7 +10,7 @@ use Rattle.rules.specs.Lists.{at, all_of}
 use Rattle.rules.specs.Monitor.{mirror_of, channel_width}
 use Rattle.rules.specs.Refusals.{first_beyond_from}
 
--- the lent words of n channels
+-- the lent words of n channels. A fact and no struct: the words are lent for each hop anew, and a struct would hold that loan
 abbrev pub LentWords : ℕ → List Float → Type 0
 LentWords n ws = (length ws ≡ channel_width * n) × (n ≤ size_limit)
 

@@ -67,7 +67,8 @@ struct Terms {
     product: Complex64,
 }
 
-// The sample of a word, neither of whose parts is a NaN, widened.
+// The sample of a word, neither of whose parts is a NaN, widened. It has no test for NaN, as `unpack` of
+// `complex` has: it runs for every channel of every hop.
 fn wide(w: u64) -> Complex64
     requires { NoNan (sample_of w) }
     ensures { view64 result ≡ sample_of w }
@@ -303,8 +304,8 @@ fn word_fits(x: f64) -> bool
     false
 }
 
-// Whether all words are. It counts those that are not, with no branch: a state whose words fit is the
-// common one, and every word of it is tested at every hop.
+// Whether all words are. It counts those that are not, and does not stop at the first: at every hop all
+// words are tested, and nearly always all fit, so the loop has no branch.
 fn all_fit(words: &[f64]) -> bool
     ensures { result ≡ all_of sum_fits words.now }
 {
