@@ -1,6 +1,6 @@
 // A recording's header: its bytes, and the configuration that they say.
 
-ghost use Rattle.std.specs.Prelude.{◌≡◌, ◌<◌, ◌≤◌, length};
+ghost use Rattle.std.specs.Prelude.{◌≡◌, ◌<◌};
 ghost use Rattle.iq.specs.View.{calibrated_of};
 ghost use Rattle.impulse_pause.specs.View.{edition_of};
 ghost use Rattle.stage_mode.specs.View.{mode_of};
@@ -18,15 +18,14 @@ use stage_mode::StageMode;
 const HEADER_SIZE: usize = 49;
 
 // Mark CND.
-fn mark_fits(bytes: &[u8]) -> bool
+fn mark_fits(bytes: &[u8; HEADER_SIZE]) -> bool
     ensures { result ≡ mark_fits bytes.now }
 {
     bytes.starts_with(b"CND")
 }
 
 // A little-endian u16.
-fn version(bytes: &[u8]) -> u64
-    requires { 49 ≤ length bytes.now }
+fn version(bytes: &[u8; HEADER_SIZE]) -> u64
     ensures { result ≡ version_in bytes.now }
 {
     u64::from(u16::from_le_bytes([bytes[3], bytes[4]]))
@@ -47,8 +46,7 @@ fn edition_by(version: u64) -> PauseEdition
 }
 
 // The mode bytes, and the byte that says whether a calibration is present.
-fn modes_fit(bytes: &[u8]) -> bool
-    requires { 49 ≤ length bytes.now }
+fn modes_fit(bytes: &[u8; HEADER_SIZE]) -> bool
     ensures { result ≡ modes_fit bytes.now }
 {
     bytes[5] <= 2 && bytes[6] <= 2 && bytes[7] <= 2 && bytes[8] <= 1
@@ -65,15 +63,14 @@ fn mode_by(byte: u8) -> StageMode
 }
 
 // f64 number k.
-fn real_at(bytes: &[u8], k: usize) -> f64
-    requires { (k < 5) × (49 ≤ length bytes.now) }
+fn real_at(bytes: &[u8; HEADER_SIZE], k: usize) -> f64
+    requires { k < 5 }
     ensures { result ≡ real_at bytes.now k }
 {
     ieee::from_bits64(words::word_at(bytes, 9 + 8 * k))
 }
 
-fn calibration(bytes: &[u8]) -> Option<IqCalibration>
-    requires { 49 ≤ length bytes.now }
+fn calibration(bytes: &[u8; HEADER_SIZE]) -> Option<IqCalibration>
     ensures { calibrated_of result ≡ calibration_in bytes.now }
 {
     if bytes[8] == 0 {
@@ -86,8 +83,7 @@ fn calibration(bytes: &[u8]) -> Option<IqCalibration>
     })
 }
 
-fn config(bytes: &[u8]) -> ConditioningConfig
-    requires { 49 ≤ length bytes.now }
+fn config(bytes: &[u8; HEADER_SIZE]) -> ConditioningConfig
     ensures { config_of result ≡ config_in bytes.now }
 {
     ConditioningConfig {
@@ -108,12 +104,11 @@ fn config(bytes: &[u8]) -> ConditioningConfig
 pub fn header(bytes: &[u8]) -> Result<ConditioningConfig, Refusal>
     ensures { said_header result ≡ header_said bytes.now }
 {
-    if bytes.len() < HEADER_SIZE
-        || !mark_fits(bytes)
-        || !version_fits(version(bytes))
-        || !modes_fit(bytes)
-    {
+    let Some(head) = bytes.first_chunk::<HEADER_SIZE>() else {
+        return Err(Refusal::BadHeader);
+    };
+    if !mark_fits(head) || !version_fits(version(head)) || !modes_fit(head) {
         return Err(Refusal::BadHeader);
     }
-    Ok(config(bytes))
+    Ok(config(head))
 }

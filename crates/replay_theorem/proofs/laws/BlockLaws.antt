@@ -1,19 +1,15 @@
 -- A recording read block by block: whole samples of whole blocks, a header that what follows it does not change, and what the last block
 -- shows of all bytes. Assumes nothing.
-use Rattle.std.specs.Prelude.{◌≡◌, refl, Bool, false, cond, ◌&&◌, List, [], ◌∷◌, ◌++◌, ℕ, zero, suc, ◌+◌, ◌*◌, ◌/◌, ◌%◌, ◌≤◌, ◌<◌, leb, eqb, length, take, drop}
-use Rattle.std.proofs.Common.{ap, sym, ◌∙◌, append_assoc, append-nil, arith, le-leb, length-append, length-drop}
-use Rattle.std.proofs.lemmas.List.{map-append, take-append-le, drop-append-le}
+use Rattle.std.specs.Prelude.{◌≡◌, refl, cond, List, [], ◌∷◌, ◌++◌, ℕ, zero, suc, ◌+◌, ◌*◌, ◌/◌, ◌%◌, length, take, drop}
+use Rattle.std.proofs.Common.{ap, sym, ◌∙◌, append_assoc, append-nil, arith, length-append}
+use Rattle.std.proofs.lemmas.List.{map-append}
 use Rattle.std.proofs.Math.Numerals.{unary_clauses}
-use Rattle.std.proofs.lemmas.Bool.{lt-leb}
-use Rattle.std.proofs.Math.ListN.{get_or-append}
 use Rattle.std.proofs.Math.Seq.{drop-append-add, drop-append_seam}
-use Rattle.std.specs.Float.{binary64}
-use Rattle.std.specs.Float.Ieee.{of_bits}
-use Rattle.rules.specs.Lists.{up_to, at}
+use Rattle.rules.specs.Lists.{up_to}
 use Rattle.rules.proofs.laws.ListLaws.{up_to_same, length-map}
 use Rattle.rules.specs.Guard.{usable, guarded, unusable}
-use Rattle.replay_format.specs.Format.{little_endian, word_at, sample_size, words_in, header_size, mark_fits, modes_fit, header_fits}
-use Rattle.replay_format.specs.Format.{version_in, version_fits, edition_by, mode_by, calibration_by, config_in, real_at}
+use Rattle.replay_format.specs.Format.{little_endian, word_at, sample_size, words_in, header_size}
+use Rattle.replay_format.proofs.laws.FrontLaws.{word_front}
 use Rattle.replay_theorem.specs.Replay.{Block, joined, last_bytes, Read}
 
 -- ---- words
@@ -24,13 +20,7 @@ up_to_append f m zero = simp unary_clauses (sym (append-nil (up_to f m)))
 up_to_append f m (suc n) =
     simp unary_clauses (ap (λ l. l ++ (f (m + n) ∷ [])) (up_to_append f m n) ∙ append_assoc (up_to f m) (up_to (λ i. f (m + i)) n) (f (m + n) ∷ []))
 
--- a word before the seam of two lists, and one behind it
-word_front : (xs ys : List ℕ) (k : ℕ) → k + 8 ≤ length xs → word_at (xs ++ ys) k ≡ word_at xs k
-unfolding word_at
-word_front xs ys k h =
-    ap (λ (l : List ℕ). little_endian (take 8 l)) (drop-append-le k xs ys (omega arith))
-    ∙ ap little_endian (take-append-le 8 (drop k xs) ys (omega (arith, length-drop k xs)))
-
+-- a word behind the seam of two lists
 word_back : (xs ys : List ℕ) (k : ℕ) → word_at (xs ++ ys) (length xs + k) ≡ word_at ys k
 unfolding word_at
 word_back xs ys k = ap (λ (l : List ℕ). little_endian (take 8 l)) (drop-append-add xs ys k)
@@ -55,48 +45,7 @@ no_words = refl
 
 -- ---- the header
 
-pub too_short : (l : List ℕ) → length l < header_size → header_fits l ≡ false
-too_short l h = ap (λ (b : Bool). b && mark_fits l && version_fits (version_in l) && modes_fit l) (lt-leb 49 (length l) h)
-
 module _ (head rest : List ℕ) (long : length head ≡ header_size) where
-  byte : (k : ℕ) → k < 49 → at (head ++ rest) k ≡ at head k
-  byte k h = get_or-append head rest 0 k (omega arith)
-
-  real : (k : ℕ) → k < 5 → real_at (head ++ rest) k ≡ real_at head k
-  real k h = ap (of_bits binary64) (word_front head rest (9 + 8 * k) (omega arith))
-
-  same_version : version_in (head ++ rest) ≡ version_in head
-  same_version = λ i. little_endian (byte 3 (omega arith) i ∷ byte 4 (omega arith) i ∷ [])
-
-  pub same_fits : header_fits (head ++ rest) ≡ header_fits head
-  same_fits =
-      λ i.
-      size i
-      && (eqb (byte 0 (omega arith) i) 67 && eqb (byte 1 (omega arith) i) 78 && eqb (byte 2 (omega arith) i) 68)
-      && version_fits (same_version i)
-      && (leb (byte 5 (omega arith) i) 2 && leb (byte 6 (omega arith) i) 2 && leb (byte 7 (omega arith) i) 2 && leb (byte 8 (omega arith) i) 1)
-    where
-      size : leb header_size (length (head ++ rest)) ≡ leb header_size (length head)
-      size = le-leb 49 (length (head ++ rest)) (omega (arith, length-append head rest)) ∙ sym (le-leb 49 (length head) (omega arith))
-
-  pub same_config : config_in (head ++ rest) ≡ config_in head
-  unfolding config_in
-  same_config =
-      λ i.
-      record {
-        impulse_mode = mode_by (byte 5 (omega arith) i);
-        dc_mode = mode_by (byte 6 (omega arith) i);
-        iq_mode = mode_by (byte 7 (omega arith) i);
-        fs = real 0 (omega arith) i;
-        centre = real 1 (omega arith) i;
-        n = 8;
-        calibration =
-            calibration_by (byte 8 (omega arith) i) (record { gain = real 2 (omega arith) i; phase = real 3 (omega arith) i; centre = real 4 (omega arith) i });
-        spans = 256;
-        repairs = 1024;
-        edition = edition_by (same_version i);
-      }
-
   pub behind_header : drop header_size (head ++ rest) ≡ rest
   behind_header = ap (λ (n : ℕ). drop n (head ++ rest)) (sym long) ∙ drop-append_seam head rest
 

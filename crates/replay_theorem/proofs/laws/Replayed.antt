@@ -47,6 +47,7 @@ use Rattle.one_record.proofs.laws.Fresh.{fresh_is, made_is}
 use Rattle.one_record.proofs.laws.OneRecord.{at_rules, at_few, spans_long, call_accepted, call_beyond}
 use Rattle.replay_format.specs.Format.{header_fits, header_size, sample_size, config_in, words_in, samples_in, input_refusal, tail_refusal}
 use Rattle.replay_format.proofs.laws.FormatLaws.{words_many, tail_by, bad_header_lem, good_header}
+use Rattle.replay_format.proofs.laws.FrontLaws.{too_short, same_fits, same_config}
 use Rattle.replay_format.proofs.laws.HeaderLaws.{said_where}
 use Rattle.replay_format.specs.Header as header
 use Rattle.replay_format.specs.Header.{header_number, mode_from, edition_from, calibration_from, config_from}
@@ -57,8 +58,8 @@ use Rattle.replay_start.specs.Starting.{made_by, start_said, config_by, start_st
 use Rattle.replay_report.specs.Report.{rings_of, ring_by, report_text, report_by, text_unless, played_text, printed}
 use Rattle.replay_text.specs.Notices.{refused_text, off_text}
 use Rattle.replay_report.specs.Shown.{shown_spans, shown_ring, report_in}
-use Rattle.replay_theorem.proofs.laws.BlockLaws.{words_append, no_words, same_fits, same_config, behind_header, guarded_append, guarded_count}
-use Rattle.replay_theorem.proofs.laws.BlockLaws.{unusable_append, same_tail, too_short}
+use Rattle.replay_theorem.proofs.laws.BlockLaws.{words_append, no_words, behind_header, guarded_append, guarded_count}
+use Rattle.replay_theorem.proofs.laws.BlockLaws.{unusable_append, same_tail}
 use Rattle.replay_theorem.specs.Replay.{Block, joined, last_bytes, after_call, played, answered_by, started_text, ended_text, replayed, Fits, Read}
 
 -- ---- the configuration in the code's types is the header's
