@@ -1,5 +1,5 @@
 -- `replay_text::Text::put`: the bytes before the loop's place stand behind the text.
-use Rattle.std.proofs.Common.{ℕ, add-one, ◌<◌, length, arith}
+use Rattle.std.proofs.Common.{ℕ, add-one}
 use Rattle.std.proofs.Math.Seq.{take-suc}
 use Rattle.replay_text.proofs.laws.PutLaws.{added_none, added_then}
 use Rattle.replay_text.proofs.Text.put.Goals as goal
