@@ -1,7 +1,5 @@
 -- `chain_words::put_powers`: word by word. Assumes nothing.
-use Prim.Native.Nat.{◌-◌}
 use lib.ListN.{take}
-use Rattle.rules.specs.Impulse.{window_size}
 use Rattle.impulse_window.specs.Rising.{Held}
 use Rattle.rules.specs.Lists.{All}
 use Rattle.chain_words.specs.Words.{powers_words}

@@ -1,7 +1,7 @@
 -- `chain_words::put_rings`: ring by ring. Assumes nothing.
 use mathlib.Core.List.{◌++◌}
 use mathlib.Core.Path.{◌≡◌}
-use Prim.Native.Nat.{◌+◌, ◌*◌, ◌-◌, ◌≤◌}
+use Prim.Native.Nat.{◌+◌, ◌*◌, ◌≤◌}
 use lib.ListN.{length, take}
 use Rattle.chain_words.specs.Words.{rings_words}
 use Rattle.chain_words.proofs.put_rings.Given as goal

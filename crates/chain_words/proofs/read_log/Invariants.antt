@@ -1,5 +1,4 @@
 -- `chain_words::read_log`: ring by ring. Assumes nothing.
-use Prim.Native.Nat.{◌-◌}
 use lib.ListN.{drop}
 use Rattle.chain_words.specs.States.{part, rings_in}
 use Rattle.chain_words.specs.Places as place

@@ -1,6 +1,4 @@
 -- `chain_words::read_powers`: word by word. Assumes nothing.
-use Prim.Native.Nat.{◌-◌}
-use Rattle.rules.specs.Impulse.{window_size}
 use Rattle.chain_words.specs.States.{powers_in}
 use Rattle.chain_words.proofs.Filling.{Made}
 use Rattle.chain_words.proofs.read_powers.Given as goal

@@ -1,5 +1,5 @@
 -- `chain_words::write_counters`: part by part. Assumes nothing.
-use mathlib.Core.Path.{refl, ◌∙◌}
+use mathlib.Core.Path.{refl}
 use mathlib.Core.List.{◌++◌}
 use lib.ListN.{take}
 use Rattle.chain_words.specs.Words.{monitor_words, counts_words, notes_words}

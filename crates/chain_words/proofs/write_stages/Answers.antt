@@ -1,5 +1,5 @@
 -- `chain_words::write_stages`: part by part. Assumes nothing.
-use mathlib.Core.Path.{refl, ◌∙◌}
+use mathlib.Core.Path.{refl}
 use mathlib.Core.List.{[], ◌++◌}
 use Rattle.chain_words.specs.Words.{settings_words, gate_words, blocker_words}
 use Rattle.chain_words.specs.Places as place
