@@ -11,8 +11,8 @@ ghost use Rattle.replay_format.specs.Header.{said_header, header_said};
 use crate::{CHANNELS, REPAIRS, SPANS, words};
 use chain_config::ConditioningConfig;
 use impulse_pause::PauseEdition;
-use refusal::Refusal;
 use iq::IqCalibration;
+use refusal::Refusal;
 use stage_mode::StageMode;
 
 const HEADER_SIZE: usize = 49;

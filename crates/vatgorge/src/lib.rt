@@ -23,10 +23,10 @@ ghost use Rattle.vatgorge.specs.Undo as undo;
 
 use chain_log::ConditioningLog;
 use chain_state::InputConditioner;
-use iq_monitor::{Evidence, Heard, ImageMonitor};
 use complex::Complex64;
+use iq_monitor::{Evidence, Heard, ImageMonitor};
 use refusal::Refusal;
-use stage_log::{Mark, Stage, Span};
+use stage_log::{Mark, Span, Stage};
 
 mod config;
 mod making;
