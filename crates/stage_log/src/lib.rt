@@ -255,11 +255,11 @@ impl Log {
     }
 
     // Marks a span in ring number which, whose part of the store is lent on.
-    fn mark_at(self, spans: &mut [u64], capacity: usize, which: usize, span: Span) -> Log
+    fn mark_at(&mut self, spans: &mut [u64], capacity: usize, which: usize, span: Span)
         requires which_bound { which < 12 }
-        requires fits { Fits capacity (record { log = self; spans = spans.old }) which (span_in span) }
-        ensures { ◌≡◌ {A = Logged} (record { log = result; spans = spans.new })
-            (marked_at capacity (record { log = self; spans = spans.old }) which (span_in span)) }
+        requires fits { Fits capacity (record { log = self.old; spans = spans.old }) which (span_in span) }
+        ensures { ◌≡◌ {A = Logged} (record { log = self.new; spans = spans.new })
+            (marked_at capacity (record { log = self.old; spans = spans.old }) which (span_in span)) }
     {
         let a = which * (capacity * SPAN_WORDS);
         let e = a + capacity * SPAN_WORDS;
@@ -268,28 +268,17 @@ impl Log {
             ring: self.rings[which],
         };
         marks.mark(&mut spans[a..e], capacity, span);
-        let mut out = self;
-        out.rings[which] = marks.ring;
-        out.counts[which] = marks.samples;
-        out
+        self.rings[which] = marks.ring;
+        self.counts[which] = marks.samples;
     }
 
-    // Marks len samples from start on for a stage.
-    pub fn mark(
-        self,
-        spans: &mut [u64],
-        capacity: usize,
-        stage: Stage,
-        kind: Mark,
-        start: u64,
-        len: u64,
-    ) -> Log
-        requires { Fits capacity (record { log = self; spans = spans.old }) (ring_number (stage_of stage) (mark_of kind)) (span_of start len) }
-        ensures { ◌≡◌ {A = Logged} (record { log = result; spans = spans.new })
-            (marked_at capacity (record { log = self; spans = spans.old }) (ring_number (stage_of stage) (mark_of kind)) (span_of start len)) }
+    // Marks a span for a stage.
+    pub fn mark(&mut self, spans: &mut [u64], capacity: usize, stage: Stage, kind: Mark, span: Span)
+        requires { Fits capacity (record { log = self.old; spans = spans.old }) (ring_number (stage_of stage) (mark_of kind)) (span_in span) }
+        ensures { ◌≡◌ {A = Logged} (record { log = self.new; spans = spans.new })
+            (marked_at capacity (record { log = self.old; spans = spans.old }) (ring_number (stage_of stage) (mark_of kind)) (span_in span)) }
     {
-        let which = ring_number(stage, kind);
-        self.mark_at(spans, capacity, which, Span { start, len })
+        self.mark_at(spans, capacity, ring_number(stage, kind), span);
     }
 }
 
