@@ -148,8 +148,7 @@ fn mark_released(
 // The lengths of a state's arrays. They follow from its type where it is passed by value, and not where
 // its parts stand behind a reference.
 fn sized(state: InputConditioner)
-    ensures rings { length state.notes.log.rings ≡ 12 }
-    ensures counts { length state.notes.log.counts ≡ 12 }
+    ensures { length state.notes.log.marks ≡ 12 }
 {}
 
 // The stages one after another, over a slice that is not refused.

@@ -6,7 +6,7 @@ ghost use Rattle.std.specs.Prelude.{◌≡◌, true, List, [], ◌∷◌, ℕ, �
 ghost use Rattle.rules.specs.Log.{Sound, repair_width, store_width};
 ghost use Rattle.rules.specs.Log.{spans_of};
 ghost use Rattle.rules.specs.Log.{ring_number, stage_number, mark_number, span_of, joins, lengthened, roomed, append, mark};
-ghost use Rattle.stage_log.specs.View.{stage_of, mark_of, ring_in, marks_in, span_in, Logged, fresh_ring, fresh_log, fresh_notes, marked_at, words_of_repair};
+ghost use Rattle.stage_log.specs.View.{stage_of, mark_of, ring_in, marks_in, span_in, Logged, fresh_ring, fresh_marks, fresh_log, fresh_notes, marked_at, words_of_repair};
 ghost use Rattle.stage_log.specs.Ready.{Open, Markable, Fits};
 ghost use Rattle.stage_log.specs.Check.{end_fits, ring_fits, log_fits, ends_fit, dropped_in_all};
 
@@ -88,8 +88,7 @@ pub struct Marks {
 
 #[derive(Clone, Copy, PartialEq, Eq, Debug)]
 pub struct Log {
-    pub rings: [Ring; RINGS],
-    pub counts: [u64; RINGS],
+    pub marks: [Marks; RINGS],
 }
 
 // All that the log is told: the rings of spans, the ring of repairs, and how many runs were too long.
@@ -215,6 +214,15 @@ fn enter_span(ring: Ring, words: &mut [u64], capacity: usize, span: Span) -> Rin
 }
 
 impl Marks {
+    pub fn fresh() -> Marks
+        ensures { result ≡ fresh_marks }
+    {
+        Marks {
+            samples: 0,
+            ring: Ring::fresh(),
+        }
+    }
+
     // Marks a span in the ring whose words these are.
     pub fn mark(&mut self, words: &mut [u64], capacity: usize, span: Span)
         requires { Markable capacity (marks_in self.old words.old) (span_in span) }
@@ -249,8 +257,7 @@ impl Log {
         ensures { result ≡ fresh_log }
     {
         Log {
-            rings: [Ring::fresh(); RINGS],
-            counts: [0; RINGS],
+            marks: [Marks::fresh(); RINGS],
         }
     }
 
@@ -263,13 +270,7 @@ impl Log {
     {
         let a = which * (capacity * SPAN_WORDS);
         let e = a + capacity * SPAN_WORDS;
-        let mut marks = Marks {
-            samples: self.counts[which],
-            ring: self.rings[which],
-        };
-        marks.mark(&mut spans[a..e], capacity, span);
-        self.rings[which] = marks.ring;
-        self.counts[which] = marks.samples;
+        self.marks[which].mark(&mut spans[a..e], capacity, span);
     }
 
     // Marks a span for a stage.
@@ -341,8 +342,8 @@ impl Log {
     pub fn fits(self, capacity: usize) -> bool
         ensures { result ≡ log_fits capacity self }
     {
-        for (k, ring) in self.rings.iter().enumerate() {
-            if !ring_fits(*ring, self.counts[k], capacity) {
+        for marks in &self.marks {
+            if !ring_fits(marks.ring, marks.samples, capacity) {
                 return false;
             }
         }
@@ -354,10 +355,10 @@ impl Log {
         requires { (log_fits capacity self ≡ true) × (length spans.now ≡ capacity * store_width) }
         ensures { result ≡ ends_fit capacity (record { log = self; spans = spans.now }) }
     {
-        for (k, ring) in self.rings.iter().enumerate() {
+        for (k, marks) in self.marks.iter().enumerate() {
             let a = k * (capacity * SPAN_WORDS);
             let e = a + capacity * SPAN_WORDS;
-            if !end_fits(*ring, &spans[a..e], capacity) {
+            if !end_fits(marks.ring, &spans[a..e], capacity) {
                 return false;
             }
         }
@@ -369,8 +370,8 @@ impl Log {
         ensures { result ≡ dropped_in_all self }
     {
         let mut sum: u64 = 0;
-        for ring in &self.rings {
-            sum = sum.saturating_add(ring.dropped);
+        for marks in &self.marks {
+            sum = sum.saturating_add(marks.ring.dropped);
         }
         sum
     }

@@ -24,7 +24,7 @@ use Rattle.chain_call.proofs.accept.Goals.{After-sized, After-filter-clamped}
 
 -- the slice is acceptable
 fit : (s : After-sized) → Acceptable s.args.state.now s.args.samples.now s.args.spans.now s.args.repairs.now
-fit s = acceptable s.args.state.now s.args.samples.now s.args.spans.now s.args.repairs.now s.requires s.sized.ensures.rings s.sized.ensures.counts
+fit s = acceptable s.args.state.now s.args.samples.now s.args.spans.now s.args.repairs.now s.requires s.sized.ensures
 
 -- the impulse stage leaves the blocker
 same : {x y : InputConditioner} → x ≡ y → x.blocker ≡ y.blocker
