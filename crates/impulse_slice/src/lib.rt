@@ -82,7 +82,7 @@ fn note_mended(
             len: r.len,
         },
     );
-    notes.repairs = stage_log::record_repair(notes.repairs, repairs, repair_capacity, r);
+    notes.repairs.record(repairs, repair_capacity, r);
 }
 
 // What became of a run.

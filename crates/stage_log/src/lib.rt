@@ -175,6 +175,28 @@ impl Ring {
             ..self
         }
     }
+
+    // An entry of so many words, behind the others.
+    fn enter(&mut self, words: &mut [u64], capacity: usize, entry: &[u64])
+        requires some { 0 < length entry.now }
+        requires open_ring { Open (length entry.now) capacity (ring_in self.old words.old) }
+        ensures { ring_in self.new words.new ≡ append capacity (ring_in self.old words.old) entry.now }
+    {
+        let roomy = self.with_room(capacity);
+        let place = roomy.next_place(capacity) * entry.len();
+        let end = place + entry.len();
+        words[place..end].copy_from_slice(entry);
+        *self = roomy.with_one_more();
+    }
+
+    // A repair, behind the others.
+    pub fn record(&mut self, repairs: &mut [u64], capacity: usize, r: Repair)
+        requires { Open repair_width capacity (ring_in self.old repairs.old) }
+        ensures { ring_in self.new repairs.new ≡ append capacity (ring_in self.old repairs.old) (words_of_repair r) }
+    {
+        let entry = [r.start, r.len, r.first, r.second, r.third, r.fourth];
+        self.enter(repairs, capacity, &entry);
+    }
 }
 
 // Whether the newest span ends at start.
@@ -201,18 +223,6 @@ fn lengthen(ring: Ring, words: &mut [u64], capacity: usize, span: Span)
     words[place] += span.len;
 }
 
-// A new span, behind the others.
-fn enter_span(ring: Ring, words: &mut [u64], capacity: usize, span: Span) -> Ring
-    requires { Open 2 capacity (ring_in ring words.old) }
-    ensures { ring_in result words.new ≡ append capacity (ring_in ring words.old) (span.start ∷ span.len ∷ []) }
-{
-    let q = ring.with_room(capacity);
-    let place = q.next_place(capacity) * SPAN_WORDS;
-    words[place] = span.start;
-    words[place + 1] = span.len;
-    q.with_one_more()
-}
-
 impl Marks {
     pub fn fresh() -> Marks
         ensures { result ≡ fresh_marks }
@@ -235,7 +245,7 @@ impl Marks {
         if joins_newest(self.ring, words, capacity, span.start) {
             lengthen(self.ring, words, capacity, span);
         } else {
-            self.ring = enter_span(self.ring, words, capacity, span);
+            self.ring.enter(words, capacity, &[span.start, span.len]);
         }
     }
 }
@@ -281,22 +291,6 @@ impl Log {
     {
         self.mark_at(spans, capacity, ring_number(stage, kind), span);
     }
-}
-
-// A repair, behind the others.
-pub fn record_repair(ring: Ring, repairs: &mut [u64], capacity: usize, r: Repair) -> Ring
-    requires { Open repair_width capacity (ring_in ring repairs.old) }
-    ensures { ring_in result repairs.new ≡ append capacity (ring_in ring repairs.old) (words_of_repair r) }
-{
-    let q = ring.with_room(capacity);
-    let place = q.next_place(capacity) * REPAIR_WORDS;
-    repairs[place] = r.start;
-    repairs[place + 1] = r.len;
-    repairs[place + 2] = r.first;
-    repairs[place + 3] = r.second;
-    repairs[place + 4] = r.third;
-    repairs[place + 5] = r.fourth;
-    q.with_one_more()
 }
 
 // ---- reading

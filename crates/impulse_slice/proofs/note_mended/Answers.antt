@@ -11,15 +11,15 @@ mark-requires c =
     let a = c.args in
     bounded_fits _ _ _ _ (span_of a.r.start a.r.len) c.requires.roomy.spans (lit< tt) (omega (arith, c.requires.len_bound)) (omega (arith, c.requires.len_bound))
 
-pub record_repair-notes-requires : goal.record_repair-notes-requires
-record_repair-notes-requires c =
+pub record-requires : goal.record-requires
+record-requires c =
     record { sound = c.requires.roomy.repairs; dropped = omega (arith, c.requires.roomy.dropped) }
 
 pub returns : goal.returns
 returns c =
     let a = c.args in
     let m = c.mark in
-    let q = c.record_repair-notes in
+    let q = c.record in
     mended_noted a.span_capacity a.repair_capacity a.notes.now m.new.self a.spans.now m.new.spans a.repairs.now q.new.repairs a.r
-    q.result q.ensures
+    q.new.self q.ensures
     m.ensures
