@@ -133,8 +133,7 @@ process m new =
 -- a fit state, with its stores
 pub record Stored (c : InputConditioner) (spans repairs : List ℕ) : Type 0 where
   pub fits : state_fits c ≡ true
-  pub rings : length c.notes.log.rings ≡ 12
-  pub counts : length c.notes.log.counts ≡ 12
+  pub marks : length c.notes.log.marks ≡ 12
   pub repairs_long : length repairs ≡ repair_width * c.settings.repairs
   pub spans_long : length spans ≡ store_width * c.settings.spans
   pub ends : ends_fit c.settings.spans (record { log = c.notes.log; spans = spans }) ≡ true

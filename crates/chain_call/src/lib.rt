@@ -2,13 +2,12 @@
 #![tactic(auto)]
 
 ghost use Rattle.std.specs.Prelude.{◌≡◌, ◌++◌, map, ◌+◌, ◌^◌, ◌≤◌, ◌<◌, length, take, drop};
-ghost use Rattle.rules.specs.Log.{span_of};
 ghost use Rattle.rules.specs.Iq.{corrected_by};
 ghost use Rattle.rules.specs.Answers.{accepted};
 ghost use Rattle.refusal.specs.Words.{said_by};
 ghost use Rattle.rules.specs.Refusals.{too_many};
 ghost use Rattle.rules.specs.Constants.{total_limit};
-ghost use Rattle.stage_log.specs.View.{Logged};
+ghost use Rattle.stage_log.specs.View.{Logged, span_in};
 ghost use Rattle.stage_log.specs.Ready.{Bounded};
 ghost use Rattle.iq.specs.View.{settled_of};
 ghost use Rattle.stage_mode.specs.View.{mode_of};
@@ -23,7 +22,7 @@ use chain_state::{Counts, InputConditioner};
 use dc::DcBlocker;
 use iq::Iq;
 use refusal::Refusal;
-use stage_log::{Log, Mark, Stage};
+use stage_log::{Log, Mark, Span, Stage};
 use stage_mode::StageMode;
 
 // The impulse stage over the samples behind the held ones; the answer is how many are released.
@@ -81,38 +80,29 @@ fn correct(iq: Iq, samples: &mut [u64], ready: usize)
 }
 
 // An applying DC stage marks what is released.
-fn mark_dc(
-    log: Log,
-    mode: StageMode,
-    spans: &mut [u64],
-    capacity: usize,
-    start: u64,
-    ready: u64,
-) -> Log
-    requires bounded { Bounded capacity (2 ^ 54) (record { log = log; spans = spans.old }) }
-    requires start_bound { (start ≤ 2 ^ 52) × (ready ≤ total_limit) }
-    ensures { ◌≡◌ {A = Logged} (record { log = result; spans = spans.new })
-        (noted_dc capacity (mode_of mode) (record { log = log; spans = spans.old }) (span_of start ready)) }
+fn mark_dc(log: &mut Log, mode: StageMode, spans: &mut [u64], capacity: usize, span: Span)
+    requires bounded { Bounded capacity (2 ^ 54) (record { log = log.old; spans = spans.old }) }
+    requires start_bound { (span.start ≤ 2 ^ 52) × (span.len ≤ total_limit) }
+    ensures { ◌≡◌ {A = Logged} (record { log = log.new; spans = spans.new })
+        (noted_dc capacity (mode_of mode) (record { log = log.old; spans = spans.old }) (span_in span)) }
 {
     match mode {
-        StageMode::Off => log,
-        StageMode::Observe => log,
-        StageMode::Apply => log.mark(spans, capacity, Stage::Dc, Mark::Corrected, start, ready),
+        StageMode::Off | StageMode::Observe => {}
+        StageMode::Apply => log.mark(spans, capacity, Stage::Dc, Mark::Corrected, span),
     }
 }
 
 // A correcting IQ stage marks what is released, and so does one that is withheld.
-fn mark_iq(log: Log, iq: Iq, spans: &mut [u64], capacity: usize, start: u64, ready: u64) -> Log
-    requires bounded { Bounded capacity (2 ^ 55) (record { log = log; spans = spans.old }) }
-    requires start_bound { (start ≤ 2 ^ 52) × (ready ≤ total_limit) }
-    ensures { ◌≡◌ {A = Logged} (record { log = result; spans = spans.new })
-        (noted_iq capacity (settled_of iq) (record { log = log; spans = spans.old }) (span_of start ready)) }
+fn mark_iq(log: &mut Log, iq: Iq, spans: &mut [u64], capacity: usize, span: Span)
+    requires bounded { Bounded capacity (2 ^ 55) (record { log = log.old; spans = spans.old }) }
+    requires start_bound { (span.start ≤ 2 ^ 52) × (span.len ≤ total_limit) }
+    ensures { ◌≡◌ {A = Logged} (record { log = log.new; spans = spans.new })
+        (noted_iq capacity (settled_of iq) (record { log = log.old; spans = spans.old }) (span_in span)) }
 {
     match iq {
-        Iq::Off => log,
-        Iq::Observing => log,
-        Iq::Correcting(_) => log.mark(spans, capacity, Stage::Iq, Mark::Corrected, start, ready),
-        Iq::Withheld => log.mark(spans, capacity, Stage::Iq, Mark::Uncertain, start, ready),
+        Iq::Off | Iq::Observing => {}
+        Iq::Correcting(_) => log.mark(spans, capacity, Stage::Iq, Mark::Corrected, span),
+        Iq::Withheld => log.mark(spans, capacity, Stage::Iq, Mark::Uncertain, span),
     }
 }
 
@@ -138,29 +128,27 @@ fn filter(
 
 // The marks over what is released.
 fn mark_released(
-    log: Log,
+    log: &mut Log,
     mode: StageMode,
     iq: Iq,
     spans: &mut [u64],
     capacity: usize,
-    start: u64,
-    ready: u64,
-) -> Log
-    requires bounded { Bounded capacity (2 ^ 54) (record { log = log; spans = spans.old }) }
-    requires start_bound { (start ≤ 2 ^ 52) × (ready ≤ total_limit) }
-    ensures { ◌≡◌ {A = Logged} (record { log = result; spans = spans.new })
-        (noted_iq capacity (settled_of iq) (noted_dc capacity (mode_of mode) (record { log = log; spans = spans.old }) (span_of start ready))
-        (span_of start ready)) }
+    span: Span,
+)
+    requires bounded { Bounded capacity (2 ^ 54) (record { log = log.old; spans = spans.old }) }
+    requires start_bound { (span.start ≤ 2 ^ 52) × (span.len ≤ total_limit) }
+    ensures { ◌≡◌ {A = Logged} (record { log = log.new; spans = spans.new })
+        (noted_iq capacity (settled_of iq) (noted_dc capacity (mode_of mode) (record { log = log.old; spans = spans.old }) (span_in span))
+        (span_in span)) }
 {
-    let marked = mark_dc(log, mode, spans, capacity, start, ready);
-    mark_iq(marked, iq, spans, capacity, start, ready)
+    mark_dc(log, mode, spans, capacity, span);
+    mark_iq(log, iq, spans, capacity, span);
 }
 
 // The lengths of a state's arrays. They follow from its type where it is passed by value, and not where
 // its parts stand behind a reference.
 fn sized(state: InputConditioner)
-    ensures rings { length state.notes.log.rings ≡ 12 }
-    ensures counts { length state.notes.log.counts ≡ 12 }
+    ensures { length state.notes.log.marks ≡ 12 }
 {}
 
 // The stages one after another, over a slice that is not refused.
@@ -183,14 +171,17 @@ pub fn accept(
     let new = len - before.held;
     let ready = suppress(state, samples, spans, repairs);
     let clamped = filter(set.dc, &mut state.blocker, set.iq, samples, ready);
-    state.notes.log = mark_released(
-        state.notes.log,
+    let released = Span {
+        start: before.released,
+        len: ready as u64,
+    };
+    mark_released(
+        &mut state.notes.log,
         set.dc,
         set.iq,
         spans,
         set.spans,
-        before.released,
-        ready as u64,
+        released,
     );
     state.counts = Counts {
         seen: before.seen + new as u64,

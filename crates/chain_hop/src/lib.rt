@@ -19,7 +19,7 @@ use chain_state::InputConditioner;
 use iq::Iq;
 use iq_monitor::{Evidence, Heard, ImageMonitor};
 use refusal::Refusal;
-use stage_log::{Log, Mark, Stage};
+use stage_log::{Log, Mark, Span, Stage};
 
 fn is_off(iq: Iq) -> bool
     ensures { result ≡ is_off_iq (settled_of iq) }
@@ -56,38 +56,39 @@ fn hop_refusal(state: &InputConditioner, spans: &[u64], words: &[f64]) -> Result
 }
 
 // Marks a window that is suspected. The log, its spans and their capacity are the parameters of `Log::mark`.
-fn mark_window(log: Log, spans: &mut [u64], capacity: usize, evidence: Evidence) -> Log
-    requires log_value { (log_fits capacity log ≡ true) × (length spans.old ≡ capacity * store_width) }
+fn mark_window(log: &mut Log, spans: &mut [u64], capacity: usize, evidence: Evidence)
+    requires log_value { (log_fits capacity log.old ≡ true) × (length spans.old ≡ capacity * store_width) }
     requires window { Window evidence }
-    ensures { ◌≡◌ {A = Logged} (record { log = result; spans = spans.new })
-        (foldl (uncertain capacity) (record { log = log; spans = spans.old }) (suspected_span (report (report_from evidence)))) }
+    ensures { ◌≡◌ {A = Logged} (record { log = log.new; spans = spans.new })
+        (foldl (uncertain capacity) (record { log = log.old; spans = spans.old }) (suspected_span (report (report_from evidence)))) }
 {
     if !evidence.suspected {
-        return log;
+        return;
     }
     log.mark(
         spans,
         capacity,
         Stage::Iq,
         Mark::Uncertain,
-        evidence.start,
-        evidence.end - evidence.start,
-    )
+        Span {
+            start: evidence.start,
+            len: evidence.end - evidence.start,
+        },
+    );
 }
 
 // Marks the window of the monitor's report, if it suspects one, only while observing.
-fn noted(log: Log, spans: &mut [u64], capacity: usize, iq: Iq, heard: Result<Heard, Refusal>) -> Log
-    requires log_value { (log_fits capacity log ≡ true) × (length spans.old ≡ capacity * store_width) }
+fn noted(log: &mut Log, spans: &mut [u64], capacity: usize, iq: Iq, heard: Result<Heard, Refusal>)
+    requires log_value { (log_fits capacity log.old ≡ true) × (length spans.old ≡ capacity * store_width) }
     requires told { Told heard }
-    ensures { ◌≡◌ {A = Logged} (record { log = result; spans = spans.new })
-        (noted capacity (is_observing (settled_of iq)) heard (record { log = log; spans = spans.old })) }
+    ensures { ◌≡◌ {A = Logged} (record { log = log.new; spans = spans.new })
+        (noted capacity (is_observing (settled_of iq)) heard (record { log = log.old; spans = spans.old })) }
 {
     if is_observing(iq)
         && let Ok(Heard::Report(evidence)) = heard
     {
-        return mark_window(log, spans, capacity, evidence);
+        mark_window(log, spans, capacity, evidence);
     }
-    log
 }
 
 // What the monitor makes of a hop, unless IQ is off.
@@ -123,8 +124,8 @@ fn take_hop(
         (taken state.old x.now start spans.old words.old) }
 {
     let heard = watched(state, x, start, words);
-    state.notes.log = noted(
-        state.notes.log,
+    noted(
+        &mut state.notes.log,
         spans,
         state.settings.spans,
         state.settings.iq,

@@ -78,7 +78,7 @@ fn read_span(log: &Log, spans: &[u64], capacity: usize, which: usize, i: usize) 
 {
     let a = which * (capacity * stage_log::SPAN_WORDS);
     let e = a + capacity * stage_log::SPAN_WORDS;
-    stage_log::span_at(log.rings[which], &spans[a..e], capacity, i)
+    stage_log::span_at(log.marks[which].ring, &spans[a..e], capacity, i)
 }
 
 // Span number i of a ring, the oldest first, if there is one.
@@ -96,7 +96,7 @@ pub fn span(
         return None;
     }
     let which = stage_log::ring_number(stage, kind);
-    if !has_span(state.notes.log.rings[which], capacity, i) {
+    if !has_span(state.notes.log.marks[which].ring, capacity, i) {
         return None;
     }
     Some(read_span(&state.notes.log, spans, capacity, which, i))

@@ -7,6 +7,7 @@ use Rattle.stage_mode.specs.declared.StageMode.{StageMode}
 use Rattle.stage_mode.specs.declared.StageMode.TheVariants as mode
 use Rattle.impulse_pause.specs.View.{numbered}
 use Rattle.stage_log.specs.declared.Ring.{Ring}
+use Rattle.stage_log.specs.declared.Marks.{Marks}
 use Rattle.stage_log.specs.declared.Log.{Log}
 use Rattle.stage_log.specs.declared.Notes.{Notes}
 use Rattle.impulse.specs.declared.Run.{Run}
@@ -130,13 +131,13 @@ suppressor_in ws =
 abbrev pub ring_in : List ℕ → ℕ → Ring
 ring_in ws k = record { head = word ws k; count = word ws (k + 1); dropped = word ws (k + 2) }
 
--- so many rings, from the first word on
-unfoldable pub rings_in : ℕ → List ℕ → List Ring
-rings_in zero ws = []
-rings_in (suc n) ws = ring_in ws 0 ∷ rings_in n (drop 3 ws)
+-- so many rings, from the first word of one list on, with their counts, from the first word of another
+unfoldable pub marks_in : ℕ → List ℕ → List ℕ → List Marks
+marks_in zero ws ns = []
+marks_in (suc n) ws ns = record { samples = word ns 0; ring = ring_in ws 0 } ∷ marks_in n (drop 3 ws) (drop 1 ns)
 
 abbrev pub log_in : List ℕ → Log
-log_in ws = record { rings = rings_in 12 (drop place.rings ws); counts = part place.counts 12 ws }
+log_in ws = record { marks = marks_in 12 (drop place.rings ws) (drop place.counts ws) }
 
 abbrev pub notes_in : List ℕ → Notes
 notes_in ws = record { log = log_in ws; repairs = ring_in ws place.repair_ring; longruns = word ws place.long_runs }

@@ -33,5 +33,4 @@ pub record Typed (s : InputConditioner) : Type 0 where
   pub window_long : length s.suppressor.window ≡ window_size
   pub sorted_long : length s.suppressor.sorted ≡ window_size
   pub pending_long : length s.suppressor.pending ≡ lookahead_size
-  pub rings_long : length s.notes.log.rings ≡ 12
-  pub counts_long : length s.notes.log.counts ≡ 12
+  pub marks_long : length s.notes.log.marks ≡ 12

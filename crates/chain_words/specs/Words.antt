@@ -6,6 +6,7 @@ use Rattle.stage_mode.specs.declared.StageMode.{StageMode}
 use Rattle.stage_mode.specs.declared.StageMode.TheVariants as mode
 use Rattle.impulse_pause.specs.View.{number_of}
 use Rattle.stage_log.specs.declared.Ring.{Ring}
+use Rattle.stage_log.specs.declared.Marks.{Marks}
 use Rattle.stage_log.specs.declared.Log.{Log}
 use Rattle.stage_log.specs.declared.Notes.{Notes}
 use Rattle.impulse.specs.declared.Run.{Run}
@@ -109,12 +110,16 @@ powers_words xs = map power_word xs
 abbrev pub arrays_words : ImpulseSuppressor → List ℕ
 arrays_words m = powers_words m.window ++ (powers_words m.sorted ++ m.pending)
 
-unfoldable pub rings_words : List Ring → List ℕ
+unfoldable pub rings_words : List Marks → List ℕ
 rings_words [] = []
-rings_words (r ∷ rs) = r.head ∷ r.count ∷ r.dropped ∷ rings_words rs
+rings_words (m ∷ ms) = m.ring.head ∷ m.ring.count ∷ m.ring.dropped ∷ rings_words ms
 
+abbrev pub samples_words : List Marks → List ℕ
+samples_words ms = map (λ (m : Marks). m.samples) ms
+
+-- the rings, and then the counts
 abbrev pub log_words : Log → List ℕ
-log_words l = rings_words l.rings ++ l.counts
+log_words l = rings_words l.marks ++ samples_words l.marks
 
 -- ---- the state
 

@@ -8,7 +8,7 @@ ghost use Rattle.rules.specs.Impulse.{window_size, lookahead_size};
 ghost use Rattle.chain_words.specs.Places as place;
 ghost use Rattle.chain_words.specs.Words.{flag_word, power_word, mode_word, iq_words, run_words, left_words, begun_words, settings_words, gate_settings_words};
 ghost use Rattle.chain_words.specs.Words.{mending_words, block_words, gate_words, blocker_words, monitor_words, counts_words, ring_words, notes_words};
-ghost use Rattle.chain_words.specs.Words.{powers_words, arrays_words, rings_words, log_words, stage_words, counter_words, words_of};
+ghost use Rattle.chain_words.specs.Words.{powers_words, arrays_words, rings_words, samples_words, log_words, stage_words, counter_words, words_of};
 ghost use Rattle.chain_words.specs.States.{flag_of, power_of, mode_at, complex_at, iq_at, run_at, left_at, begun_at, settings_in, gate_settings_in, mending_in};
 ghost use Rattle.chain_words.specs.States.{block_in, gate_in, blocker_in, monitor_in, counts_in, part, powers_in, suppressor_in, ring_in, log_in, notes_in};
 ghost use Rattle.chain_words.specs.States.{state_of};
@@ -21,7 +21,7 @@ use impulse::{Block, Gate, GateSettings, ImpulseSuppressor, Mending, Run};
 use impulse_pause::PauseEdition;
 use iq::Iq;
 use iq_monitor::ImageMonitor;
-use stage_log::{Log, Notes, Ring};
+use stage_log::{Log, Marks, Notes, Ring};
 use stage_mode::StageMode;
 
 // ---- where each part stands, counted from the one before
@@ -456,12 +456,14 @@ fn read_suppressor(words: &[u64; STATE_WORDS]) -> ImpulseSuppressor
 fn read_log(words: &[u64; STATE_WORDS]) -> Log
     ensures { result ≡ log_in words.now }
 {
-    let mut log = Log::fresh();
-    for k in 0..stage_log::RINGS {
-        log.rings[k] = read_ring(words, RINGS + k * 3);
-        log.counts[k] = words[COUNTS + k];
+    let mut marks = [Marks::fresh(); stage_log::RINGS];
+    for (k, ring) in marks.iter_mut().enumerate() {
+        *ring = Marks {
+            samples: words[COUNTS + k],
+            ring: read_ring(words, RINGS + k * 3),
+        };
     }
-    log
+    Log { marks }
 }
 
 fn read_notes(words: &[u64; STATE_WORDS]) -> Notes
@@ -513,11 +515,21 @@ fn put_powers(powers: &[f32; ImpulseSuppressor::WINDOW], words: &mut [u64], at: 
 
 fn put_rings(log: Log, words: &mut [u64], at: usize)
     requires { at + 36 ≤ length words.old }
-    ensures front { take (at + 36) words.new ≡ take at words.old ++ rings_words log.rings }
+    ensures front { take (at + 36) words.new ≡ take at words.old ++ rings_words log.marks }
     ensures sized { length words.new ≡ length words.old }
 {
-    for (k, ring) in log.rings.iter().enumerate() {
-        put(&ring_words(*ring), words, at + k * 3);
+    for (k, marks) in log.marks.iter().enumerate() {
+        put(&ring_words(marks.ring), words, at + k * 3);
+    }
+}
+
+fn put_samples(log: Log, words: &mut [u64], at: usize)
+    requires { at + 12 ≤ length words.old }
+    ensures front { take (at + 12) words.new ≡ take at words.old ++ samples_words log.marks }
+    ensures sized { length words.new ≡ length words.old }
+{
+    for (k, marks) in log.marks.iter().enumerate() {
+        words[at + k] = marks.samples;
     }
 }
 
@@ -528,7 +540,7 @@ pub fn put_log(log: Log, words: &mut [u64], at: usize)
     ensures sized { length words.new ≡ length words.old }
 {
     put_rings(log, words, at);
-    put(&log.counts, words, at + 36);
+    put_samples(log, words, at + 36);
 }
 
 // The settings, the gate and the DC blocker.

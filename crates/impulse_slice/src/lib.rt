@@ -10,7 +10,7 @@ ghost use Rattle.impulse.specs.Running.{step, emit, news};
 ghost use Rattle.impulse_slice.specs.Noted.{noted_of, note_all, doubts, filled_events, ended_end, state_after, handed, told, placed, over, Roomy};
 
 use impulse::{Ended, ImpulseSuppressor};
-use stage_log::{Mark, Notes, Repair, Stage};
+use stage_log::{Mark, Notes, Repair, Span, Stage};
 
 // ---- telling the log
 
@@ -24,7 +24,13 @@ fn note_doubt(notes: &mut Notes, doubt: bool, j: u64, spans: &mut [u64], span_ca
     if !doubt {
         return;
     }
-    notes.log = notes.log.mark(spans, span_capacity, Stage::Impulse, Mark::Uncertain, j, 1);
+    notes.log.mark(
+        spans,
+        span_capacity,
+        Stage::Impulse,
+        Mark::Uncertain,
+        Span { start: j, len: 1 },
+    );
 }
 
 // A run that was kept is flagged, and a long one is counted.
@@ -42,13 +48,12 @@ fn note_kept(
         → noted_of notes.new spans.new rs
         ≡ note_all span_capacity repair_capacity (noted_of notes.old spans.old rs) (filled_events (Ended.Kept start len long)) }
 {
-    notes.log = notes.log.mark(
+    notes.log.mark(
         spans,
         span_capacity,
         Stage::Impulse,
         Mark::Flagged,
-        start,
-        len,
+        Span { start, len },
     );
     notes.longruns += u64::from(long);
 }
@@ -67,15 +72,17 @@ fn note_mended(
     ensures { noted_of notes.new spans.new repairs.new
         ≡ note_all span_capacity repair_capacity (noted_of notes.old spans.old repairs.old) (filled_events (Ended.Mended r)) }
 {
-    notes.log = notes.log.mark(
+    notes.log.mark(
         spans,
         span_capacity,
         Stage::Impulse,
         Mark::Repaired,
-        r.start,
-        r.len,
+        Span {
+            start: r.start,
+            len: r.len,
+        },
     );
-    notes.repairs = stage_log::record_repair(notes.repairs, repairs, repair_capacity, r);
+    notes.repairs.record(repairs, repair_capacity, r);
 }
 
 // What became of a run.

@@ -22,8 +22,8 @@ use stage_log::{Log, Mark, Stage};
 fn put_count_of(text: &mut Text, log: &Log, stage: Stage, kind: Mark)
     ensures { Added text.old (shown_count log.now (stage_of stage) (mark_of kind)) text.new }
 {
-    let count = log.counts[stage_log::ring_number(stage, kind)];
-    lines::put_count(text, stage, kind, count);
+    let marks = log.marks[stage_log::ring_number(stage, kind)];
+    lines::put_count(text, stage, kind, marks.samples);
 }
 
 // The four marks in ring order, written out: a loop over a constant would need that constant proved to be

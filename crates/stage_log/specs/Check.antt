@@ -5,7 +5,7 @@ use Rattle.rules.specs.Log as rules
 use Rattle.rules.specs.Log.{newest_end}
 use Rattle.stage_log.specs.declared.Ring.{Ring}
 use Rattle.stage_log.specs.declared.Log.{Log}
-use Rattle.stage_log.specs.View.{Logged, fresh_ring, marks_at}
+use Rattle.stage_log.specs.View.{Logged, fresh_marks, marks_at}
 
 -- f 0, .., f (n - 1) all hold
 unfoldable pub all_to : (ℕ → Bool) → ℕ → Bool
@@ -23,10 +23,10 @@ ring_fits cap r counter = ltb r.head cap && leb r.count cap && leb r.dropped cou
 
 -- ring number k and its count
 abbrev pub ring_of : Log → ℕ → Ring
-ring_of l k = get_or l.rings k fresh_ring
+ring_of l k = (get_or l.marks k fresh_marks).ring
 
 abbrev pub count_of : Log → ℕ → ℕ
-count_of l k = get_or l.counts k 0
+count_of l k = (get_or l.marks k fresh_marks).samples
 
 unfoldable pub log_fits : ℕ → Log → Bool
 log_fits cap l = all_to (λ k. ring_fits cap (ring_of l k) (count_of l k)) 12

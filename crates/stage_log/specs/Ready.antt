@@ -19,10 +19,9 @@ pub record Fits (cap : ℕ) (x : Logged) (k : ℕ) (s : Span) : Type 0 where
   pub store : length x.spans ≡ cap * store_width
   pub marks : Markable cap (marks_at cap x k) s
 
--- twelve rings, twelve counts, and a store of twelve parts
+-- twelve rings with their counts, and a store of twelve parts
 pub record Twelve (cap : ℕ) (x : Logged) : Type 0 where
-  pub rings : length x.log.rings ≡ 12
-  pub counts : length x.log.counts ≡ 12
+  pub marks : length x.log.marks ≡ 12
   pub store : length x.spans ≡ cap * store_width
 
 -- every ring is sound, and its counters are at most b

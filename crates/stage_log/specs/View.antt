@@ -35,6 +35,9 @@ bare r = record { head = r.head; count = r.count; dropped = r.dropped }
 abbrev pub marks_in : Marks → List ℕ → rules.Marks
 marks_in m ws = record { samples = m.samples; ring = ring_in m.ring ws }
 
+abbrev pub bare_marks : rules.Marks → Marks
+bare_marks m = record { samples = m.samples; ring = bare m.ring }
+
 abbrev pub span_in : declared.Span → Span
 span_in s = span_of s.start s.len
 
@@ -51,8 +54,11 @@ pub record Logged : Type 0 where
 abbrev pub fresh_ring : Ring
 fresh_ring = record { head = 0; count = 0; dropped = 0 }
 
+abbrev pub fresh_marks : Marks
+fresh_marks = record { samples = 0; ring = fresh_ring }
+
 unfoldable pub fresh_log : Log
-fresh_log = record { rings = replicate 12 fresh_ring; counts = replicate 12 0 }
+fresh_log = record { marks = replicate 12 fresh_marks }
 
 abbrev pub fresh_notes : Notes
 fresh_notes = record { log = fresh_log; repairs = fresh_ring; longruns = 0 }
@@ -70,14 +76,13 @@ with_part size ws k part = take (k * size) ws ++ (part ++ drop size (drop (k * s
 
 -- the marks of ring number k
 unfoldable pub marks_at : ℕ → Logged → ℕ → rules.Marks
-marks_at cap x k =
-    record { samples = get_or x.log.counts k 0; ring = ring_in (get_or x.log.rings k fresh_ring) (part_of (cap * 2) x.spans k) }
+marks_at cap x k = marks_in (get_or x.log.marks k fresh_marks) (part_of (cap * 2) x.spans k)
 
 -- the log with other marks there
 unfoldable pub with_marks : ℕ → Logged → ℕ → rules.Marks → Logged
 with_marks cap x k m =
     record {
-      log = record { rings = set x.log.rings k (bare m.ring); counts = set x.log.counts k m.samples };
+      log = record { marks = set x.log.marks k (bare_marks m) };
       spans = with_part (cap * 2) x.spans k m.ring.words;
     }
 
@@ -93,5 +98,4 @@ joined [] = []
 joined (m ∷ ms) = m.ring.words ++ joined ms
 
 unfoldable pub log_of : List rules.Marks → Logged
-log_of ms =
-    record { log = record { rings = map (λ (m : rules.Marks). bare m.ring) ms; counts = map (λ (m : rules.Marks). m.samples) ms }; spans = joined ms }
+log_of ms = record { log = record { marks = map (λ (m : rules.Marks). bare_marks m) ms }; spans = joined ms }

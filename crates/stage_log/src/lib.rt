@@ -6,7 +6,7 @@ ghost use Rattle.std.specs.Prelude.{◌≡◌, true, List, [], ◌∷◌, ℕ, �
 ghost use Rattle.rules.specs.Log.{Sound, repair_width, store_width};
 ghost use Rattle.rules.specs.Log.{spans_of};
 ghost use Rattle.rules.specs.Log.{ring_number, stage_number, mark_number, span_of, joins, lengthened, roomed, append, mark};
-ghost use Rattle.stage_log.specs.View.{stage_of, mark_of, ring_in, marks_in, span_in, Logged, fresh_ring, fresh_log, fresh_notes, marked_at, words_of_repair};
+ghost use Rattle.stage_log.specs.View.{stage_of, mark_of, ring_in, marks_in, span_in, Logged, fresh_ring, fresh_marks, fresh_log, fresh_notes, marked_at, words_of_repair};
 ghost use Rattle.stage_log.specs.Ready.{Open, Markable, Fits};
 ghost use Rattle.stage_log.specs.Check.{end_fits, ring_fits, log_fits, ends_fit, dropped_in_all};
 
@@ -88,8 +88,7 @@ pub struct Marks {
 
 #[derive(Clone, Copy, PartialEq, Eq, Debug)]
 pub struct Log {
-    pub rings: [Ring; RINGS],
-    pub counts: [u64; RINGS],
+    pub marks: [Marks; RINGS],
 }
 
 // All that the log is told: the rings of spans, the ring of repairs, and how many runs were too long.
@@ -176,6 +175,28 @@ impl Ring {
             ..self
         }
     }
+
+    // An entry of so many words, behind the others.
+    fn enter(&mut self, words: &mut [u64], capacity: usize, entry: &[u64])
+        requires some { 0 < length entry.now }
+        requires open_ring { Open (length entry.now) capacity (ring_in self.old words.old) }
+        ensures { ring_in self.new words.new ≡ append capacity (ring_in self.old words.old) entry.now }
+    {
+        let roomy = self.with_room(capacity);
+        let place = roomy.next_place(capacity) * entry.len();
+        let end = place + entry.len();
+        words[place..end].copy_from_slice(entry);
+        *self = roomy.with_one_more();
+    }
+
+    // A repair, behind the others.
+    pub fn record(&mut self, repairs: &mut [u64], capacity: usize, r: Repair)
+        requires { Open repair_width capacity (ring_in self.old repairs.old) }
+        ensures { ring_in self.new repairs.new ≡ append capacity (ring_in self.old repairs.old) (words_of_repair r) }
+    {
+        let entry = [r.start, r.len, r.first, r.second, r.third, r.fourth];
+        self.enter(repairs, capacity, &entry);
+    }
 }
 
 // Whether the newest span ends at start.
@@ -202,19 +223,16 @@ fn lengthen(ring: Ring, words: &mut [u64], capacity: usize, span: Span)
     words[place] += span.len;
 }
 
-// A new span, behind the others.
-fn enter_span(ring: Ring, words: &mut [u64], capacity: usize, span: Span) -> Ring
-    requires { Open 2 capacity (ring_in ring words.old) }
-    ensures { ring_in result words.new ≡ append capacity (ring_in ring words.old) (span.start ∷ span.len ∷ []) }
-{
-    let q = ring.with_room(capacity);
-    let place = q.next_place(capacity) * SPAN_WORDS;
-    words[place] = span.start;
-    words[place + 1] = span.len;
-    q.with_one_more()
-}
-
 impl Marks {
+    pub fn fresh() -> Marks
+        ensures { result ≡ fresh_marks }
+    {
+        Marks {
+            samples: 0,
+            ring: Ring::fresh(),
+        }
+    }
+
     // Marks a span in the ring whose words these are.
     pub fn mark(&mut self, words: &mut [u64], capacity: usize, span: Span)
         requires { Markable capacity (marks_in self.old words.old) (span_in span) }
@@ -227,7 +245,7 @@ impl Marks {
         if joins_newest(self.ring, words, capacity, span.start) {
             lengthen(self.ring, words, capacity, span);
         } else {
-            self.ring = enter_span(self.ring, words, capacity, span);
+            self.ring.enter(words, capacity, &[span.start, span.len]);
         }
     }
 }
@@ -249,64 +267,30 @@ impl Log {
         ensures { result ≡ fresh_log }
     {
         Log {
-            rings: [Ring::fresh(); RINGS],
-            counts: [0; RINGS],
+            marks: [Marks::fresh(); RINGS],
         }
     }
 
     // Marks a span in ring number which, whose part of the store is lent on.
-    fn mark_at(self, spans: &mut [u64], capacity: usize, which: usize, span: Span) -> Log
+    fn mark_at(&mut self, spans: &mut [u64], capacity: usize, which: usize, span: Span)
         requires which_bound { which < 12 }
-        requires fits { Fits capacity (record { log = self; spans = spans.old }) which (span_in span) }
-        ensures { ◌≡◌ {A = Logged} (record { log = result; spans = spans.new })
-            (marked_at capacity (record { log = self; spans = spans.old }) which (span_in span)) }
+        requires fits { Fits capacity (record { log = self.old; spans = spans.old }) which (span_in span) }
+        ensures { ◌≡◌ {A = Logged} (record { log = self.new; spans = spans.new })
+            (marked_at capacity (record { log = self.old; spans = spans.old }) which (span_in span)) }
     {
         let a = which * (capacity * SPAN_WORDS);
         let e = a + capacity * SPAN_WORDS;
-        let mut marks = Marks {
-            samples: self.counts[which],
-            ring: self.rings[which],
-        };
-        marks.mark(&mut spans[a..e], capacity, span);
-        let mut out = self;
-        out.rings[which] = marks.ring;
-        out.counts[which] = marks.samples;
-        out
+        self.marks[which].mark(&mut spans[a..e], capacity, span);
     }
 
-    // Marks len samples from start on for a stage.
-    pub fn mark(
-        self,
-        spans: &mut [u64],
-        capacity: usize,
-        stage: Stage,
-        kind: Mark,
-        start: u64,
-        len: u64,
-    ) -> Log
-        requires { Fits capacity (record { log = self; spans = spans.old }) (ring_number (stage_of stage) (mark_of kind)) (span_of start len) }
-        ensures { ◌≡◌ {A = Logged} (record { log = result; spans = spans.new })
-            (marked_at capacity (record { log = self; spans = spans.old }) (ring_number (stage_of stage) (mark_of kind)) (span_of start len)) }
+    // Marks a span for a stage.
+    pub fn mark(&mut self, spans: &mut [u64], capacity: usize, stage: Stage, kind: Mark, span: Span)
+        requires { Fits capacity (record { log = self.old; spans = spans.old }) (ring_number (stage_of stage) (mark_of kind)) (span_in span) }
+        ensures { ◌≡◌ {A = Logged} (record { log = self.new; spans = spans.new })
+            (marked_at capacity (record { log = self.old; spans = spans.old }) (ring_number (stage_of stage) (mark_of kind)) (span_in span)) }
     {
-        let which = ring_number(stage, kind);
-        self.mark_at(spans, capacity, which, Span { start, len })
+        self.mark_at(spans, capacity, ring_number(stage, kind), span);
     }
-}
-
-// A repair, behind the others.
-pub fn record_repair(ring: Ring, repairs: &mut [u64], capacity: usize, r: Repair) -> Ring
-    requires { Open repair_width capacity (ring_in ring repairs.old) }
-    ensures { ring_in result repairs.new ≡ append capacity (ring_in ring repairs.old) (words_of_repair r) }
-{
-    let q = ring.with_room(capacity);
-    let place = q.next_place(capacity) * REPAIR_WORDS;
-    repairs[place] = r.start;
-    repairs[place + 1] = r.len;
-    repairs[place + 2] = r.first;
-    repairs[place + 3] = r.second;
-    repairs[place + 4] = r.third;
-    repairs[place + 5] = r.fourth;
-    q.with_one_more()
 }
 
 // ---- reading
@@ -352,8 +336,8 @@ impl Log {
     pub fn fits(self, capacity: usize) -> bool
         ensures { result ≡ log_fits capacity self }
     {
-        for (k, ring) in self.rings.iter().enumerate() {
-            if !ring_fits(*ring, self.counts[k], capacity) {
+        for marks in &self.marks {
+            if !ring_fits(marks.ring, marks.samples, capacity) {
                 return false;
             }
         }
@@ -365,10 +349,10 @@ impl Log {
         requires { (log_fits capacity self ≡ true) × (length spans.now ≡ capacity * store_width) }
         ensures { result ≡ ends_fit capacity (record { log = self; spans = spans.now }) }
     {
-        for (k, ring) in self.rings.iter().enumerate() {
+        for (k, marks) in self.marks.iter().enumerate() {
             let a = k * (capacity * SPAN_WORDS);
             let e = a + capacity * SPAN_WORDS;
-            if !end_fits(*ring, &spans[a..e], capacity) {
+            if !end_fits(marks.ring, &spans[a..e], capacity) {
                 return false;
             }
         }
@@ -380,8 +364,8 @@ impl Log {
         ensures { result ≡ dropped_in_all self }
     {
         let mut sum: u64 = 0;
-        for ring in &self.rings {
-            sum = sum.saturating_add(ring.dropped);
+        for marks in &self.marks {
+            sum = sum.saturating_add(marks.ring.dropped);
         }
         sum
     }

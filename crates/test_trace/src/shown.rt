@@ -17,9 +17,8 @@ fn write_ring(rt: &impl Print, samples: u64, ring: Ring) -> io::Result<()> {
 }
 
 fn write_rings(rt: &impl Print, log: &ConditioningLog) -> io::Result<()> {
-    let marks = log.notes.log;
-    for (samples, ring) in marks.counts.iter().zip(&marks.rings) {
-        write_ring(rt, *samples, *ring)?;
+    for marks in &log.notes.log.marks {
+        write_ring(rt, marks.samples, marks.ring)?;
     }
     Ok(())
 }

@@ -287,12 +287,12 @@ module _ (c : InputConditioner) (samples spans repairs : List ℕ) where
         → called (machine_of c spans repairs) samples ≡ taken (machine_of c spans repairs) samples
     read_accepted e = accepted_call (told_none c.counts.held (new_part c samples) e)
 
-    pub acceptable : length c.notes.log.rings ≡ 12 → length c.notes.log.counts ≡ 12 → Acceptable c samples spans repairs
-    acceptable rings counts =
+    pub acceptable : length c.notes.log.marks ≡ 12 → Acceptable c samples spans repairs
+    acceptable marks =
         let p = passes c (length samples) spans repairs z in
         record {
           stored =
-              record { fits = p.fits; rings = rings; counts = counts; repairs_long = p.repairs_long; spans_long = p.spans_long; ends = p.ends };
+              record { fits = p.fits; marks = marks; repairs_long = p.repairs_long; spans_long = p.spans_long; ends = p.ends };
           held_in =
               p.held_in;
           few = p.few;

@@ -40,7 +40,7 @@ module _ (c : InputConditioner) (samples spans repairs : List ℕ) (a : Acceptab
   fit = state_fit c a.stored.fits
 
   pub call_twelve : Twelve c.settings.spans (record { log = c.notes.log; spans = spans })
-  call_twelve = record { rings = a.stored.rings; counts = a.stored.counts; store = omega (arith, a.stored.spans_long) }
+  call_twelve = record { marks = a.stored.marks; store = omega (arith, a.stored.spans_long) }
 
   pub call_roomy : Roomy c.settings.spans c.settings.repairs (2 ^ 52) (notes_in (machine_of c spans repairs))
   call_roomy =

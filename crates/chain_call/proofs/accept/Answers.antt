@@ -3,7 +3,7 @@ use mathlib.Core.Path.{◌≡◌, refl, ap, ◌∙◌}
 use Prim.Native.Nat.{◌+◌, ◌-◌}
 use native.Mathlib.Omega.{arith}
 use lib.ListN.{length, take, drop}
-use mathlib.Core.List.{List, map, ◌++◌}
+use mathlib.Core.List.{map, ◌++◌}
 use Rattle.stage_log.specs.View.{with_log}
 use Rattle.rules.specs.Iq.{corrected_by}
 use Rattle.iq.specs.View.{settled_of}
@@ -24,7 +24,7 @@ use Rattle.chain_call.proofs.accept.Goals.{After-sized, After-filter-clamped}
 
 -- the slice is acceptable
 fit : (s : After-sized) → Acceptable s.args.state.now s.args.samples.now s.args.spans.now s.args.repairs.now
-fit s = acceptable s.args.state.now s.args.samples.now s.args.spans.now s.args.repairs.now s.requires s.sized.ensures.rings s.sized.ensures.counts
+fit s = acceptable s.args.state.now s.args.samples.now s.args.spans.now s.args.repairs.now s.requires s.sized.ensures
 
 -- the impulse stage leaves the blocker
 same : {x y : InputConditioner} → x ≡ y → x.blocker ≡ y.blocker
@@ -72,9 +72,9 @@ filter-clamped-requires c =
       ready_bound = omega arith;
     }
 
-pub mark_released-state-requires : goal.mark_released-state-requires
-mark_released-state-requires c =
-    let s = (goal.at.mark_released-state-requires c).After-sized in
+pub mark_released-requires : goal.mark_released-requires
+mark_released-requires c =
+    let s = (goal.at.mark_released-requires c).After-sized in
     let a = s.args in
     let r = c.suppress-ready.ensures in
     let k = r.ready in
@@ -123,7 +123,7 @@ shape_of-samples c =
 
 pub shape_of-spans : goal.shape_of-spans
 shape_of-spans c =
-    c.mark_released-state.auto.spans
+    c.mark_released.auto.spans
     ∙ c.suppress-ready.auto.spans
 
 pub shape_of-repairs : goal.shape_of-repairs
@@ -152,14 +152,14 @@ returns-clause-chain c =
     let r = c.suppress-ready.ensures in
     let m = c.suppress-ready.new.state.notes in
     let k = c.suppress-ready.result in
-    let l = c.mark_released-state in
+    let l = c.mark_released in
     let n : Counts = record {
       seen = a.state.now.counts.seen + (length a.samples.now - a.state.now.counts.held);
       released = a.state.now.counts.released + k;
       held = length a.samples.now - k;
       clamped = a.state.now.counts.clamped + c.filter-clamped.result;
     } in
-    ap (λ (x : InputConditioner). machine_of (after_call x n x.suppressor c.filter-clamped.new.blocker (with_log m l.result)) l.new.spans c.suppress-ready.new.repairs) r.state
+    ap (λ (x : InputConditioner). machine_of (after_call x n x.suppressor c.filter-clamped.new.blocker (with_log m l.new.log)) l.new.spans c.suppress-ready.new.repairs) r.state
     ∙ processed_chain a.state.now a.samples.now a.spans.now a.repairs.now (fit s) m k _ _ _ r.noted r.ready r.written _ refl (blocked f)
     (after f) _ _
     l.ensures

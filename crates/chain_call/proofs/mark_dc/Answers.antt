@@ -1,14 +1,17 @@
 -- `chain_call::mark_dc` notes what is released, as the mode has it. Assumes nothing.
-use mathlib.Core.Path.{◌≡◌, refl, sym, ap, ◌∙◌}
+use mathlib.Core.Path.{◌≡◌, sym, ap, ◌∙◌}
+use mathlib.Core.Logic.{◌⊎◌, inl, inr}
 use Prim.Native.Nat.{ℕ, ◌^◌, ◌<◌, ◌≤◌}
 use native.Mathlib.Omega.{arith}
 use lib.Dec.{lit<}
-use Rattle.rules.specs.Log.{span_of}
+use Rattle.rules.specs.Log.{Span, span_of}
 use Rattle.rules.specs.Mode.{Mode}
 use Rattle.rules.specs.Constants.{total_limit}
-use Rattle.stage_log.specs.View.{Logged}
+use Rattle.stage_log.specs.View.{Logged, span_in}
 use Rattle.stage_log.specs.Ready.{Fits, Bounded}
 use Rattle.stage_log.proofs.laws.CheckLaws.{bounded_fits}
+use Rattle.stage_mode.specs.declared.StageMode.{StageMode}
+use Rattle.stage_mode.specs.declared.StageMode.TheVariants.{Off, Observe}
 use Rattle.stage_mode.specs.View.{mode_of}
 use Rattle.chain.specs.Stages.{noted_dc}
 use Rattle.chain_call.proofs.mark_dc.Goals as goal
@@ -26,15 +29,18 @@ noted cap x start ready e h = h ∙ sym (ap (λ (s : Mode). noted_dc cap s x (sp
 pub mark-requires : goal.mark-requires
 mark-requires c = room _ _ 6 _ _ (lit< tt) c.requires.bounded c.requires.start_bound
 
-pub returns-in-Off : goal.returns-in-Off
-returns-in-Off c = let a = c.args in noted _ (record { log = a.log; spans = a.spans.now }) _ _ (ap mode_of c.in-Off.is) refl
+-- nothing, where nothing is marked
+none : (cap : ℕ) (x : Logged) (m : StageMode) (s : Span) → (m ≡ Off) ⊎ (m ≡ Observe) → x ≡ noted_dc cap (mode_of m) x s
+none cap x m s (inl e) = rw e
+none cap x m s (inr e) = rw e
 
-pub returns-in-Observe : goal.returns-in-Observe
-returns-in-Observe c = let a = c.args in
-    noted _ (record { log = a.log; spans = a.spans.now }) _ _ (ap mode_of c.in-Observe.is) refl
+pub returns-in-Off : goal.returns-in-Off
+returns-in-Off c =
+    let a = c.args in
+    none a.capacity (record { log = a.log.now; spans = a.spans.now }) a.mode (span_in a.span) c.in-Off.is
 
 pub returns-in-Apply : goal.returns-in-Apply
 returns-in-Apply c =
     let a = c.args in
-    noted _ (record { log = a.log; spans = a.spans.now }) _ _ (ap mode_of c.in-Apply.is)
+    noted _ (record { log = a.log.now; spans = a.spans.now }) _ _ (ap mode_of c.in-Apply.is)
     c.mark.ensures

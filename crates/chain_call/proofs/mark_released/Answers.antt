@@ -2,8 +2,7 @@
 use mathlib.Core.Path.{sym, ap, ◌∙◌, subst}
 use Prim.Native.Nat.{◌^◌}
 use native.Mathlib.Omega.{arith}
-use Rattle.rules.specs.Log.{span_of}
-use Rattle.stage_log.specs.View.{Logged}
+use Rattle.stage_log.specs.View.{Logged, span_in}
 use Rattle.stage_log.specs.Ready.{Bounded}
 use Rattle.iq.specs.View.{settled_of}
 use Rattle.stage_mode.specs.View.{mode_of}
@@ -17,8 +16,8 @@ mark_iq-requires c =
     let short = c.requires.start_bound.1 in
     record {
       bounded =
-          subst (Bounded a.capacity (2 ^ 55)) (sym c.mark_dc-marked.ensures)
-          (noted_dc_bounded a.capacity (2 ^ 54) (2 ^ 55) (mode_of a.mode) (record { log = a.log; spans = a.spans.now }) (span_of a.start a.ready)
+          subst (Bounded a.capacity (2 ^ 55)) (sym c.mark_dc.ensures)
+          (noted_dc_bounded a.capacity (2 ^ 54) (2 ^ 55) (mode_of a.mode) (record { log = a.log.now; spans = a.spans.now }) (span_in a.span)
           c.requires.bounded (omega arith));
       start_bound = c.requires.start_bound;
     }
@@ -27,5 +26,5 @@ pub returns : goal.returns
 returns c =
     let a = c.args in
     c.mark_iq.ensures
-    ∙ ap (λ (x : Logged). noted_iq a.capacity (settled_of a.iq) x (span_of a.start a.ready))
-    c.mark_dc-marked.ensures
+    ∙ ap (λ (x : Logged). noted_iq a.capacity (settled_of a.iq) x (span_in a.span))
+    c.mark_dc.ensures

@@ -14,7 +14,7 @@ pub returns-then-not-evidence : goal.returns-then-not-evidence
 returns-then-not-evidence c =
     let a = c.args in
     let e = a.evidence in
-    sym (ap (λ (t : Bool). foldl (uncertain a.capacity) (record { log = a.log; spans = a.spans.now })
+    sym (ap (λ (t : Bool). foldl (uncertain a.capacity) (record { log = a.log.now; spans = a.spans.now })
     (cond t (span_of e.start (e.end - e.start) ∷ []) [])) (not-true e.suspected c.if-not-evidence.true))
 
 pub mark-requires : goal.mark-requires
@@ -22,7 +22,7 @@ mark-requires c =
     let a = c.args in
     let e = a.evidence in
     let h : e.start + (e.end - e.start) ≤ 2 ^ 52 = omega (arith, c.requires.window.0, c.requires.window.1) in
-    mark_ready a.capacity (record { log = a.log; spans = a.spans.now }) 11 e.start (e.end - e.start) c.requires.log_value.0 c.requires.log_value.1 (omega arith) h
+    mark_ready a.capacity (record { log = a.log.now; spans = a.spans.now }) 11 e.start (e.end - e.start) c.requires.log_value.0 c.requires.log_value.1 (omega arith) h
 
 pub returns : goal.returns
 returns c =
@@ -30,5 +30,5 @@ returns c =
     let e = a.evidence in
     c.mark.ensures
     ∙ sym (ap
-    (λ (t : Bool). foldl (uncertain a.capacity) (record { log = a.log; spans = a.spans.now })
+    (λ (t : Bool). foldl (uncertain a.capacity) (record { log = a.log.now; spans = a.spans.now })
     (cond t (span_of e.start (e.end - e.start) ∷ []) [])) (not-false e.suspected c.if-not-evidence.false))

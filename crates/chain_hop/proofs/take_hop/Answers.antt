@@ -23,10 +23,10 @@ fit c = state_fit c.args.state.now (ready c).state
 pub watched-heard-requires : goal.watched-heard-requires
 watched-heard-requires c = ((ready (goal.at.watched-heard-requires c).Start).words, (fit (goal.at.watched-heard-requires c).Start).settings.size)
 
-pub noted-state-requires : goal.noted-state-requires
-noted-state-requires c =
+pub noted-requires : goal.noted-requires
+noted-requires c =
     let a = c.args in
-    let start = (goal.at.noted-state-requires c).Start in
+    let start = (goal.at.noted-requires c).Start in
     let l : length a.spans.now ≡ a.state.now.settings.spans * store_width = omega (arith, (ready start).spans) in
     let P : InputConditioner → Type 0 = λ s. (log_fits s.settings.spans s.notes.log ≡ true) × (length a.spans.now ≡ s.settings.spans * store_width) in
     record {
@@ -38,5 +38,5 @@ pub returns : goal.returns
 returns c =
     let a = c.args in
     let w = c.watched-heard in
-    taken_by a.state.now a.x.now a.start a.spans.now a.words.now w.new.state w.result c.noted-state.result _ w.new.words w.ensures.rest w.ensures.seen
-    c.noted-state.ensures
+    taken_by a.state.now a.x.now a.start a.spans.now a.words.now w.new.state w.result c.noted.new.log _ w.new.words w.ensures.rest w.ensures.seen
+    c.noted.ensures

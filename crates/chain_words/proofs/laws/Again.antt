@@ -18,10 +18,10 @@ use Rattle.iq.specs.declared.Iq.{Iq}
 use Rattle.iq.specs.declared.Iq.TheVariants as iq
 use Rattle.chain_state.specs.declared.InputConditioner.{InputConditioner}
 use Rattle.rules.specs.Impulse.{window_size, lookahead_size}
-use Rattle.chain_words.specs.Words.{flag_word, power_word, mode_word, iq_parts, run_parts, left_parts, begun_parts, powers_words, rings_words, words_of}
-use Rattle.chain_words.specs.States.{flag_of, power_of, mode_at, complex_at, iq_at, run_at, left_at, begun_at, rings_in, state_of}
+use Rattle.chain_words.specs.Words.{flag_word, power_word, mode_word, iq_parts, run_parts, left_parts, begun_parts, powers_words, rings_words, samples_words, words_of}
+use Rattle.chain_words.specs.States.{flag_of, power_of, mode_at, complex_at, iq_at, run_at, left_at, begun_at, marks_in, state_of}
 use Rattle.chain_words.specs.Typed.{Double, Doubles, IqTyped, Typed}
-use Rattle.chain_words.proofs.laws.Rings.{rings_words_length, rings_again}
+use Rattle.chain_words.proofs.laws.Rings.{rings_words_length, marks_again}
 
 -- ---- one word
 
@@ -89,10 +89,10 @@ module _ (s : InputConditioner) (t : Typed s) where
   p = s.suppressor.pending
 
   abbrev r : List ℕ
-  r = rings_words s.notes.log.rings
+  r = rings_words s.notes.log.marks
 
   abbrev k : List ℕ
-  k = s.notes.log.counts
+  k = samples_words s.notes.log.marks
 
   w_long : length w ≡ window_size
   w_long = length-map power_word s.suppressor.window ∙ t.window_long
@@ -101,7 +101,7 @@ module _ (s : InputConditioner) (t : Typed s) where
   o_long = length-map power_word s.suppressor.sorted ∙ t.sorted_long
 
   r_long : length r ≡ 36
-  r_long = let h = rings_words_length s.notes.log.rings in let l = t.rings_long in omega arith
+  r_long = let h = rings_words_length s.notes.log.marks in let l = t.marks_long in omega arith
 
   -- what stands behind the numbers
   abbrev rest : List ℕ
@@ -134,18 +134,15 @@ module _ (s : InputConditioner) (t : Typed s) where
   log_there : drop 87 rest ≡ r ++ k
   log_there = drop_at (w ++ (o ++ p)) (r ++ k) 87 arrays_long
 
-  rings_there : rings_in 12 (drop 87 rest) ≡ s.notes.log.rings
-  rings_there =
-      ap (rings_in 12) log_there
-      ∙ ap (λ (n : ℕ). rings_in n (r ++ k)) (sym t.rings_long)
-      ∙ rings_again s.notes.log.rings k
-
-  counts_there : take 12 (drop 123 rest) ≡ k
+  counts_there : drop 123 rest ≡ k
   counts_there =
       let n : length ((w ++ (o ++ p)) ++ r) ≡ 123 = let a = length-append (w ++ (o ++ p)) r in omega (arith, arrays_long, r_long) in
-      ap (λ (l : List ℕ). take 12 (drop 123 l))
-      (sym (append_assoc (w ++ (o ++ p)) r k) ∙ ap (λ (l : List ℕ). ((w ++ (o ++ p)) ++ r) ++ l) (sym (append-nil k)))
-      ∙ middle ((w ++ (o ++ p)) ++ r) k [] 123 12 n t.counts_long
+      ap (drop 123) (sym (append_assoc (w ++ (o ++ p)) r k)) ∙ drop_at ((w ++ (o ++ p)) ++ r) k 123 n
+
+  marks_there : marks_in 12 (drop 87 rest) (drop 123 rest) ≡ s.notes.log.marks
+  marks_there =
+      (λ i. marks_in (sym t.marks_long i) (log_there i) ((counts_there ∙ sym (append-nil k)) i))
+      ∙ marks_again s.notes.log.marks k []
 
   -- ---- the state
 
@@ -186,7 +183,7 @@ module _ (s : InputConditioner) (t : Typed s) where
         monitor = record { first = begun_again s.monitor.first i; end = s.monitor.end };
         notes =
             record {
-              log = record { rings = rings_there i; counts = counts_there i };
+              log = record { marks = marks_there i };
               repairs = s.notes.repairs;
               longruns = s.notes.longruns;
             };

@@ -44,8 +44,7 @@ returns c =
       window_long = gs.1.1.1.0.1.0.1;
       sorted_long = gs.1.1.1.1.0.1.0.1;
       pending_long = gs.1.1.1.1.1.0.1.0.1;
-      rings_long = gl.1.1.0.1.0.1;
-      counts_long = gl.1.1.1.0.1.0.1;
+      marks_long = gl.1.1.0.1.0.1;
     } in
     record {
       words = words;

@@ -11,8 +11,8 @@ pub returns-then-not-doubt : goal.returns-then-not-doubt
 unfolding note_all
 returns-then-not-doubt c repair_capacity rs = simp c.if-not-doubt.true
 
-pub mark-notes-requires : goal.mark-notes-requires
-mark-notes-requires c =
+pub mark-requires : goal.mark-requires
+mark-requires c =
     let a = c.args in
     bounded_fits _ _ _ _ (span_of a.j 1) c.requires.bounded (lit< tt) (omega arith) (omega (arith, c.requires.j_bound))
 
@@ -20,5 +20,5 @@ pub returns : goal.returns
 returns c repair_capacity rs =
     let a = c.args in
     simp c.if-not-doubt.false
-    (doubt_noted a.span_capacity repair_capacity a.notes.now c.mark-notes.result a.spans.now c.mark-notes.new.spans rs a.j
-    c.mark-notes.ensures)
+    (doubt_noted a.span_capacity repair_capacity a.notes.now c.mark.new.self a.spans.now c.mark.new.spans rs a.j
+    c.mark.ensures)

@@ -15,7 +15,7 @@ use Rattle.rules.specs.Log.{Stage, impulse, dc, iq, Mark, Repaired, Flagged, Cor
 use Rattle.rules.specs.Log.{repaired, repairs_of, long_runs, repair_width, store_width}
 use Rattle.rules.specs.Chain.{setting_of, impulse_events, after_impulse, after_dc, settled_by, released, clamped_of, ring_of, repair_ring, long_runs_of, evidence}
 use Rattle.stage_log.specs.View.{fresh_log, marks_at}
-use Rattle.stage_log.proofs.laws.LogLaws.{fresh_marks}
+use Rattle.stage_log.proofs.laws.LogLaws.{fresh_marks_at}
 use Rattle.impulse.specs.declared.ImpulseSuppressor.{ImpulseSuppressor}
 use Rattle.impulse.specs.Machine.{fresh}
 use Rattle.impulse.proofs.laws.Theorem.{state_of}
@@ -156,7 +156,7 @@ module _ (g : ConditioningConfig) (blocks : 0 < block_length g.fs) (xs : List �
         call_at (fresh_machine g) xs (fresh_rings g some) k
         ∙ ap (ring_after g.spans (fresh_state g) xs k)
         (ap (λ (n : ℕ). marks_at g.spans (record { log = fresh_log; spans = replicate n 0 }) k)
-        (let q : store_width * g.spans ≡ g.spans * store_width = omega arith in q) ∙ fresh_marks g.spans k h)
+        (let q : store_width * g.spans ≡ g.spans * store_width = omega arith in q) ∙ fresh_marks_at g.spans k h)
 
     -- and after the hops
     hopped_at : (k : ℕ) → k < 12 → (k ≡ 11 → ⊥)

@@ -12,7 +12,7 @@ use Rattle.rules.specs.Log as rules
 use Rattle.rules.specs.Log.{Span, mark, no_marks}
 use Rattle.rules.specs.Lists.{up_to}
 use Rattle.rules.proofs.laws.ListLaws.{length_up_to, get_d_up_to, up_to_same, length-map}
-use Rattle.stage_log.specs.View.{Logged, bare, fresh_ring, part_of, marks_at, marked_at, joined, log_of}
+use Rattle.stage_log.specs.View.{Logged, bare_marks, fresh_marks, part_of, marks_at, marked_at, joined, log_of}
 use Rattle.stage_log.proofs.laws.LogLaws.{marked_same, marked_other}
 use Rattle.stage_log.specs.Ready.{Twelve}
 use Rattle.impulse_slice.specs.Noted.{Rings, note_all}
@@ -49,21 +49,12 @@ joined_parts size ws f (suc n) h =
     ∙ ap (λ (k : ℕ). take k ws) (let q : n * size + size ≡ suc n * size = omega (arith, suc-mul n size) in q)
 
 module _ (cap : ℕ) (x : Logged) (t : Twelve cap x) where
-  rings_again : map (λ (m : rules.Marks). bare m.ring) (rings_of cap x) ≡ x.log.rings
+  marks_again : map (λ (m : rules.Marks). bare_marks m) (rings_of cap x) ≡ x.log.marks
   unfolding marks_at
-  rings_again =
-      let f : rules.Marks → _ = λ (m : rules.Marks). bare m.ring in
-      ext_get_or fresh_ring (map f (rings_of cap x)) x.log.rings
-      (length-map f (rings_of cap x) ∙ length_up_to (marks_at cap x) 12 ∙ sym t.rings)
-      (λ k h. get_or-map f (rings_of cap x) k (no_marks cap)
-      ∙ ap f (get_d_up_to (no_marks cap) (marks_at cap x) 12 k (omega (arith, length-map f (rings_of cap x), length_up_to (marks_at cap x) 12))))
-
-  counts_again : map (λ (m : rules.Marks). m.samples) (rings_of cap x) ≡ x.log.counts
-  unfolding marks_at
-  counts_again =
-      let f : rules.Marks → ℕ = λ (m : rules.Marks). m.samples in
-      ext_get_or 0 (map f (rings_of cap x)) x.log.counts
-      (length-map f (rings_of cap x) ∙ length_up_to (marks_at cap x) 12 ∙ sym t.counts)
+  marks_again =
+      let f : rules.Marks → _ = λ (m : rules.Marks). bare_marks m in
+      ext_get_or fresh_marks (map f (rings_of cap x)) x.log.marks
+      (length-map f (rings_of cap x) ∙ length_up_to (marks_at cap x) 12 ∙ sym t.marks)
       (λ k h. get_or-map f (rings_of cap x) k (no_marks cap)
       ∙ ap f (get_d_up_to (no_marks cap) (marks_at cap x) 12 k (omega (arith, length-map f (rings_of cap x), length_up_to (marks_at cap x) 12))))
 
@@ -73,7 +64,7 @@ module _ (cap : ℕ) (x : Logged) (t : Twelve cap x) where
 
   pub log_again : log_of (rings_of cap x) ≡ x
   unfolding log_of
-  log_again = λ i. record { log = record { rings = rings_again i; counts = counts_again i }; spans = spans_again i }
+  log_again = λ i. record { log = record { marks = marks_again i }; spans = spans_again i }
 
 -- so logs with the same rings are the same
 pub same_rings : (cap : ℕ) (x y : Logged) → Twelve cap x → Twelve cap y → ((k : ℕ) → k < 12 → marks_at cap x k ≡ marks_at cap y k) → x ≡ y

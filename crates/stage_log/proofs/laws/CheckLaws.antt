@@ -13,7 +13,7 @@ use Rattle.stage_log.specs.declared.Log.{Log}
 use Rattle.stage_log.specs.View.{Logged, fresh_log, marks_at, marked_at}
 use Rattle.stage_log.specs.Ready.{Fits, Bounded}
 use Rattle.stage_log.specs.Check.{all_to, ring_fits, ring_of, count_of, log_fits, end_fits, ends_fit}
-use Rattle.stage_log.proofs.laws.LogLaws.{part_inside, marked_twelve, marked_same, marked_other, fresh_marks}
+use Rattle.stage_log.proofs.laws.LogLaws.{part_inside, marked_twelve, marked_same, marked_other, fresh_marks_at}
 
 -- ---- all below a number
 
@@ -132,8 +132,8 @@ pub fresh_bounded : (cap : ℕ) → 0 < cap → Bounded cap 0 (record { log = fr
 unfolding fresh_log
 fresh_bounded cap h =
     record {
-      twelve = record { rings = refl; counts = refl; store = length-replicate (cap * store_width) 0 };
-      sound = λ k l. rw (fresh_marks cap k l) (empty_sound 2 cap h);
-      dropped = λ k l. rw (fresh_marks cap k l) (omega arith);
-      count = λ k l. rw (fresh_marks cap k l) (omega arith);
+      twelve = record { marks = refl; store = length-replicate (cap * store_width) 0 };
+      sound = λ k l. rw (fresh_marks_at cap k l) (empty_sound 2 cap h);
+      dropped = λ k l. rw (fresh_marks_at cap k l) (omega arith);
+      count = λ k l. rw (fresh_marks_at cap k l) (omega arith);
     }

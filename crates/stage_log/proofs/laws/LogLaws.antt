@@ -13,7 +13,7 @@ use Rattle.rules.specs.Log.{Span, write, mark, no_marks, Sound, store_width}
 use Rattle.rules.specs.Lists.{All}
 use Rattle.rules.proofs.laws.RingLaws.{entry_written, entry_kept, length_write, write_split}
 use Rattle.rules.proofs.laws.MarkLaws.{mark_sound}
-use Rattle.stage_log.specs.View.{ring_in, bare, Logged, fresh_ring, fresh_log, part_of, with_part, marks_at, with_marks, marked_at, joined, log_of}
+use Rattle.stage_log.specs.View.{marks_in, bare_marks, Logged, fresh_marks, fresh_log, part_of, with_part, marks_at, with_marks, marked_at, joined, log_of}
 use Rattle.stage_log.specs.Ready.{Twelve}
 
 -- ---- a part of the store
@@ -50,26 +50,23 @@ module _ (cap : ℕ) (x : Logged) (k : ℕ) (m : rules.Marks) (t : Twelve cap x)
   unfolding with_marks
   with_twelve =
       record {
-        rings = length-set x.log.rings k (bare m.ring) ∙ t.rings;
-        counts = length-set x.log.counts k m.samples ∙ t.counts;
+        marks = length-set x.log.marks k (bare_marks m) ∙ t.marks;
         store = part_length (cap * 2) x.spans m.ring.words k long n h ∙ t.store;
       }
 
   pub with_same : marks_at cap (with_marks cap x k m) k ≡ m
   unfolding with_marks marks_at
   with_same =
-      let r = get_or-set_same x.log.rings k (bare m.ring) fresh_ring (omega (arith, t.rings)) in
-      let c = get_or-set_same x.log.counts k m.samples 0 (omega (arith, t.counts)) in
+      let r = get_or-set_same x.log.marks k (bare_marks m) fresh_marks (omega (arith, t.marks)) in
       let w = part_same (cap * 2) x.spans m.ring.words k long n h in
-      λ i. record { samples = c i; ring = ring_in (r i) (w i) }
+      λ i. marks_in (r i) (w i)
 
   pub with_other : (j : ℕ) → (j ≡ k → ⊥) → marks_at cap (with_marks cap x k m) j ≡ marks_at cap x j
   unfolding with_marks marks_at
   with_other j d =
-      let r = get_or-set_other x.log.rings k j (bare m.ring) fresh_ring d in
-      let c = get_or-set_other x.log.counts k j m.samples 0 d in
+      let r = get_or-set_other x.log.marks k j (bare_marks m) fresh_marks d in
       let w = part_other (cap * 2) x.spans m.ring.words k long n h j d in
-      λ i. record { samples = c i; ring = ring_in (r i) (w i) }
+      λ i. marks_in (r i) (w i)
 
 module _ (cap : ℕ) (x : Logged) (k : ℕ) (s : Span) (t : Twelve cap x) (sound : Sound 2 cap (marks_at cap x k).ring) (h : k < 12) where
   wide : length (mark cap (marks_at cap x k) s).ring.words ≡ cap * 2
@@ -126,10 +123,9 @@ module _ (cap : ℕ) where
   pub list_marks : (ms : List rules.Marks) (k : ℕ) → AllParts cap ms → k < length ms → marks_at cap (log_of ms) k ≡ get_or ms k (no_marks cap)
   unfolding marks_at log_of
   list_marks ms k a h =
-      let r = get_or-map (λ (m : rules.Marks). bare m.ring) ms k (no_marks cap) in
-      let c = get_or-map (λ (m : rules.Marks). m.samples) ms k (no_marks cap) in
+      let r = get_or-map (λ (m : rules.Marks). bare_marks m) ms k (no_marks cap) in
       let w = joined_part ms k a h in
-      λ i. record { samples = c i; ring = ring_in (r i) (w i) }
+      λ i. marks_in (r i) (w i)
 
 joined_zeros : (cap n : ℕ) → joined (replicate n (no_marks cap)) ≡ replicate (n * (2 * cap)) 0
 unfolding joined
@@ -150,8 +146,8 @@ fresh_parts : (cap n : ℕ) → AllParts cap (replicate n (no_marks cap))
 fresh_parts cap zero = tt
 fresh_parts cap (suc n) = (length-replicate (2 * cap) 0 ∙ (let q : 2 * cap ≡ cap * 2 = omega arith in q), fresh_parts cap n)
 
-pub fresh_marks : (cap k : ℕ) → k < 12 → marks_at cap (record { log = fresh_log; spans = replicate (cap * store_width) 0 }) k ≡ no_marks cap
-fresh_marks cap k h =
+pub fresh_marks_at : (cap k : ℕ) → k < 12 → marks_at cap (record { log = fresh_log; spans = replicate (cap * store_width) 0 }) k ≡ no_marks cap
+fresh_marks_at cap k h =
     let twelve = length-replicate 12 (no_marks cap) in
     ap (λ (x : Logged). marks_at cap x k) (sym (list_fresh cap))
     ∙ list_marks cap (replicate 12 (no_marks cap)) k (fresh_parts cap 12) (omega arith)

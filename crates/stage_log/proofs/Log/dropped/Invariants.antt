@@ -8,5 +8,5 @@ use Rattle.stage_log.proofs.Log.dropped.Given as goal
 abbrev pub each : Log → ℕ → ℕ
 each l k = (ring_of l k).dropped
 
-abbrev pub invariant-loop-ring : goal.invariant-loop-ring
-invariant-loop-ring l = (l.ring-index ≤ 12) × (l.sum ≡ min (sum_to (each l.fn.self) l.ring-index) (2 ^ 64 - 1))
+abbrev pub invariant-loop-marks : goal.invariant-loop-marks
+invariant-loop-marks l = (l.marks-index ≤ 12) × (l.sum ≡ min (sum_to (each l.fn.self) l.marks-index) (2 ^ 64 - 1))

@@ -9,5 +9,5 @@ use Rattle.stage_log.proofs.Log.fits.Given as goal
 abbrev pub test : ℕ → Log → ℕ → Bool
 test cap l j = ring_fits cap (ring_of l j) (count_of l j)
 
-abbrev pub invariant-loop-k : goal.invariant-loop-k
-invariant-loop-k l = (l.k ≤ 12) × (all_to (test l.capacity l.fn.self) l.k ≡ true)
+abbrev pub invariant-loop-marks : goal.invariant-loop-marks
+invariant-loop-marks l = (l.marks-index ≤ 12) × (all_to (test l.capacity l.fn.self) l.marks-index ≡ true)

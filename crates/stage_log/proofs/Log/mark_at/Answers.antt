@@ -35,5 +35,5 @@ returns c =
     let a = c.args in
     let size = a.capacity * 2 in
     let part = add-sub_cancel_left (a.which * size) size in
-    rw part (ap (with_marks a.capacity (record { log = a.self; spans = a.spans.now }) a.which)
+    rw part (ap (with_marks a.capacity (record { log = a.self.now; spans = a.spans.now }) a.which)
     (rw part at c.mark.ensures))

@@ -47,7 +47,7 @@ pub returns-else-joins_newest : goal.returns-else-joins_newest
 returns-else-joins_newest c =
     let a = c.args in
     by_test a.capacity (marks_in a.self.now a.words.now) (span_in a.span)
-    (ring_in c.enter_span-self.result c.enter_span-self.new.words)
+    (ring_in c.enter.new.self c.enter.new.words)
     (omega (arith, c.if-span-eq0.false))
     false (sym c.joins_newest.ensures ∙ c.if-joins_newest.false)
-    c.enter_span-self.ensures
+    c.enter.ensures
