@@ -185,24 +185,23 @@ pub fn take_in(window: &mut [f32; WINDOW], sorted: &mut [f32; WINDOW], i: u64, x
 
 // ---- the flag
 
-// The sum of the first n powers, in their order.
-fn sum(sorted: &[f32; WINDOW], n: usize) -> f64
-    requires { n ≤ window_size }
-    ensures { result ≡ foldl (add binary64) zero_f (take n sorted.now) }
+// The sum of the powers, in their order.
+fn sum(powers: &[f32]) -> f64
+    ensures { result ≡ foldl (add binary64) zero_f powers.now }
 {
     let mut s = 0.0;
-    for p in &sorted[..n] {
+    for p in powers {
         s = s + ieee::widen(*p);
     }
     s
 }
 
-// Their mean.
-fn reference(sorted: &[f32; WINDOW], n: usize) -> f64
-    requires { n ≤ window_size }
-    ensures { result ≡ mean (take n sorted.now) }
+// Their mean. So few can be counted by an f64.
+fn reference(powers: &[f32]) -> f64
+    requires { length powers.now ≤ window_size }
+    ensures { result ≡ mean powers.now }
 {
-    sum(sorted, n) / (n as f64)
+    sum(powers) / (powers.len() as f64)
 }
 
 fn stands_out(r: f64, p: f32) -> bool
@@ -241,6 +240,6 @@ pub fn is_flagged(sorted: &[f32; WINDOW], k: usize, p: f32, rising: bool) -> boo
     if is_quiet(sorted, k, rising, p) {
         return false;
     }
-    let r = reference(sorted, k);
+    let r = reference(&sorted[..k]);
     stands_out(r, p)
 }
