@@ -217,10 +217,7 @@ pub fn revert_iq(samples: &mut [u64], rho: Complex64) -> Result<(), Refusal>
     if !iq::accepted(rho) {
         return Err(Refusal::BadCoefficient);
     }
-    let place = amplitude_limit::first_beyond(samples);
-    if place < samples.len() {
-        return Err(Refusal::OutOfRange(place));
-    }
+    amplitude_limit::check(samples)?;
     uncorrect_all(rho, samples);
     Ok(())
 }
