@@ -120,8 +120,8 @@ fn print_count(rt: &impl Print, op: Operation, number: u64, count: u64) -> io::R
 }
 
 // The lines of an operation.
-fn print(rt: &impl Print, op: Operation, counts: &[u64]) -> io::Result<()> {
-    for (number, count) in counts.iter().enumerate() {
+fn print(rt: &impl Print, op: Operation, counts: &[u64; COUNTS]) -> io::Result<()> {
+    for (number, count) in counts.iter().skip(first(op)).take(128).enumerate() {
         print_count(rt, op, number as u64, *count)?;
     }
     Ok(())
@@ -130,9 +130,9 @@ fn print(rt: &impl Print, op: Operation, counts: &[u64]) -> io::Result<()> {
 pub fn show(rt: &impl Print) -> io::Result<()> {
     let mut counts = [0u64; COUNTS];
     run(&mut counts);
-    print(rt, Operation::Making, &counts[..128])?;
-    print(rt, Operation::Call, &counts[128..256])?;
-    print(rt, Operation::Hop, &counts[256..CHANGED])?;
+    print(rt, Operation::Making, &counts)?;
+    print(rt, Operation::Call, &counts)?;
+    print(rt, Operation::Hop, &counts)?;
     let changed = counts[CHANGED];
     println!(rt; "refused, and not all as it was: {changed}")
 }
