@@ -5,9 +5,10 @@
 ghost use Rattle.std.specs.Prelude.{◌≡◌, ◌^◌, ◌<◌};
 ghost use Rattle.rules.specs.Refusals.{within_limit, first_beyond_from};
 ghost use Rattle.rules.specs.Lists.{all_of};
-ghost use Rattle.amplitude_limit.specs.Limit.{limited, under, halves_clear};
+ghost use Rattle.amplitude_limit.specs.Limit.{limited, under, halves_clear, checked};
 
 use complex::Complex32;
+use refusal::Refusal;
 
 // The pattern of the greatest f32 within 1e18.
 const MAX_PATTERN: u64 = 0x5d5e_0b6b;
@@ -81,4 +82,15 @@ pub fn first_beyond(samples: &[u64]) -> usize
         return samples.len();
     }
     scan(samples)
+}
+
+// Refused at the first sample that is not within the limit.
+pub fn check(samples: &[u64]) -> Result<(), Refusal>
+    ensures { result ≡ checked samples.now }
+{
+    let place = first_beyond(samples);
+    if place < samples.len() {
+        return Err(Refusal::OutOfRange(place));
+    }
+    Ok(())
 }

@@ -59,11 +59,8 @@ iq_at w re im =
 abbrev pub run_at : ℕ → ℕ → ℕ → ℕ → Option Run
 run_at w start len paused = cond (eqb w 0) None (Some (record { start = start; len = len; paused = flag_of paused }))
 
-abbrev pub left_at : ℕ → ℕ → Option ℕ
-left_at w x = cond (eqb w 0) None (Some x)
-
-abbrev pub begun_at : ℕ → ℕ → Option ℕ
-begun_at w f = cond (eqb w 0) None (Some f)
+abbrev pub option_at : ℕ → ℕ → Option ℕ
+option_at w x = cond (eqb w 0) None (Some x)
 
 -- ---- the numbers of each part
 
@@ -87,7 +84,7 @@ abbrev pub mending_in : List ℕ → Mending
 mending_in ws =
     record {
       run = run_at (word ws place.run) (word ws (place.run + 1)) (word ws (place.run + 2)) (word ws (place.run + 3));
-      left = left_at (word ws place.left) (word ws (place.left + 1));
+      left = option_at (word ws place.left) (word ws (place.left + 1));
     }
 
 abbrev pub block_in : List ℕ → Block
@@ -105,7 +102,7 @@ blocker_in ws =
     }
 
 abbrev pub monitor_in : List ℕ → ImageMonitor
-monitor_in ws = record { first = begun_at (word ws place.begun) (word ws (place.begun + 1)); end = word ws place.end }
+monitor_in ws = record { first = option_at (word ws place.begun) (word ws (place.begun + 1)); end = word ws place.end }
 
 abbrev pub counts_in : List ℕ → Counts
 counts_in ws =

@@ -54,19 +54,12 @@ run_parts (Some r) = (1, r.start, r.len, flag_word r.paused)
 abbrev pub run_words : Option Run → List ℕ
 run_words o = let p = run_parts o in p.0 ∷ p.1 ∷ p.2 ∷ p.3 ∷ []
 
-abbrev pub left_parts : Option ℕ → ℕ × ℕ
-left_parts None = (0, 0)
-left_parts (Some x) = (1, x)
+abbrev pub option_parts : Option ℕ → ℕ × ℕ
+option_parts None = (0, 0)
+option_parts (Some x) = (1, x)
 
-abbrev pub left_words : Option ℕ → List ℕ
-left_words l = let p = left_parts l in p.0 ∷ p.1 ∷ []
-
-abbrev pub begun_parts : Option ℕ → ℕ × ℕ
-begun_parts None = (0, 0)
-begun_parts (Some f) = (1, f)
-
-abbrev pub begun_words : Option ℕ → List ℕ
-begun_words b = let p = begun_parts b in p.0 ∷ p.1 ∷ []
+abbrev pub option_words : Option ℕ → List ℕ
+option_words o = let p = option_parts o in p.0 ∷ p.1 ∷ []
 
 -- ---- the numbers of each part
 
@@ -78,7 +71,7 @@ abbrev pub gate_settings_words : GateSettings → List ℕ
 gate_settings_words s = flag_word s.apply ∷ number_of s.edition ∷ s.blocklen ∷ []
 
 abbrev pub mending_words : Mending → List ℕ
-mending_words m = run_words m.run ++ left_words m.left
+mending_words m = run_words m.run ++ option_words m.left
 
 abbrev pub block_words : Block → List ℕ
 block_words b = b.number ∷ b.flagged ∷ flag_word b.paused ∷ []
@@ -90,7 +83,7 @@ abbrev pub blocker_words : DcBlocker → List ℕ
 blocker_words b = to_bits binary64 b.a ∷ b.n ∷ to_bits binary64 b.dc.re ∷ to_bits binary64 b.dc.im ∷ []
 
 abbrev pub monitor_words : ImageMonitor → List ℕ
-monitor_words m = begun_words m.first ++ (m.end ∷ [])
+monitor_words m = option_words m.first ++ (m.end ∷ [])
 
 abbrev pub counts_words : Counts → List ℕ
 counts_words c = c.seen ∷ c.released ∷ c.held ∷ c.clamped ∷ []

@@ -6,10 +6,10 @@ ghost use Rattle.rules.specs.Lists.{All};
 ghost use Rattle.impulse_window.specs.Rising.{Held};
 ghost use Rattle.rules.specs.Impulse.{window_size, lookahead_size};
 ghost use Rattle.chain_words.specs.Places as place;
-ghost use Rattle.chain_words.specs.Words.{flag_word, power_word, mode_word, iq_words, run_words, left_words, begun_words, settings_words, gate_settings_words};
+ghost use Rattle.chain_words.specs.Words.{flag_word, power_word, mode_word, iq_words, run_words, option_words, settings_words, gate_settings_words};
 ghost use Rattle.chain_words.specs.Words.{mending_words, block_words, gate_words, blocker_words, monitor_words, counts_words, ring_words, notes_words};
 ghost use Rattle.chain_words.specs.Words.{powers_words, arrays_words, rings_words, samples_words, log_words, stage_words, counter_words, words_of};
-ghost use Rattle.chain_words.specs.States.{flag_of, power_of, mode_at, complex_at, iq_at, run_at, left_at, begun_at, settings_in, gate_settings_in, mending_in};
+ghost use Rattle.chain_words.specs.States.{flag_of, power_of, mode_at, complex_at, iq_at, run_at, settings_in, gate_settings_in, mending_in, option_at};
 ghost use Rattle.chain_words.specs.States.{block_in, gate_in, blocker_in, monitor_in, counts_in, part, powers_in, suppressor_in, ring_in, log_in, notes_in};
 ghost use Rattle.chain_words.specs.States.{state_of};
 ghost use Rattle.chain_words.specs.Typed.{Double, Doubles, IqTyped};
@@ -203,39 +203,21 @@ fn run_at(w: u64, start: u64, len: u64, paused: u64) -> Option<Run>
     }
 }
 
-fn left_words(left: Option<u64>) -> [u64; 2]
-    ensures { result ≡ left_words left }
+fn option_words(option: Option<u64>) -> [u64; 2]
+    ensures { result ≡ option_words option }
 {
-    match left {
+    match option {
         Some(x) => [1, x],
         None => [0, 0],
     }
 }
 
-fn left_at(w: u64, x: u64) -> Option<u64>
-    ensures { result ≡ left_at w x }
+fn option_at(w: u64, x: u64) -> Option<u64>
+    ensures { result ≡ option_at w x }
 {
     match w {
         0 => None,
         _ => Some(x),
-    }
-}
-
-fn begun_words(first: Option<u64>) -> [u64; 2]
-    ensures { result ≡ begun_words first }
-{
-    match first {
-        Some(f) => [1, f],
-        None => [0, 0],
-    }
-}
-
-fn begun_at(w: u64, f: u64) -> Option<u64>
-    ensures { result ≡ begun_at w f }
-{
-    match w {
-        0 => None,
-        _ => Some(f),
     }
 }
 
@@ -292,7 +274,7 @@ fn mending_words(m: Mending) -> [u64; 6]
     ensures { result ≡ mending_words m }
 {
     let run = run_words(m.run);
-    let left = left_words(m.left);
+    let left = option_words(m.left);
     [run[0], run[1], run[2], run[3], left[0], left[1]]
 }
 
@@ -301,7 +283,7 @@ fn read_mending(words: &[u64; STATE_WORDS]) -> Mending
 {
     Mending {
         run: run_at(words[RUN], words[RUN + 1], words[RUN + 2], words[RUN + 3]),
-        left: left_at(words[LEFT], words[LEFT + 1]),
+        left: option_at(words[LEFT], words[LEFT + 1]),
     }
 }
 
@@ -367,7 +349,7 @@ fn read_blocker(words: &[u64; STATE_WORDS]) -> DcBlocker
 fn monitor_words(m: ImageMonitor) -> [u64; 3]
     ensures { result ≡ monitor_words m }
 {
-    let begun = begun_words(m.first);
+    let begun = option_words(m.first);
     [begun[0], begun[1], m.end]
 }
 
@@ -375,7 +357,7 @@ fn read_monitor(words: &[u64; STATE_WORDS]) -> ImageMonitor
     ensures { result ≡ monitor_in words.now }
 {
     ImageMonitor {
-        first: begun_at(words[BEGUN], words[BEGUN + 1]),
+        first: option_at(words[BEGUN], words[BEGUN + 1]),
         end: words[END],
     }
 }

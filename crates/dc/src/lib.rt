@@ -241,10 +241,7 @@ pub fn revert_dc(y: &[u64], fs: f64, out: &mut [u64]) -> Result<(), Refusal>
     if out.len() != y.len() {
         return Err(Refusal::BadLength);
     }
-    let place = amplitude_limit::first_beyond(y);
-    if place < y.len() {
-        return Err(Refusal::OutOfRange(place));
-    }
+    amplitude_limit::check(y)?;
     restore(y, fs, out);
     Ok(())
 }

@@ -2,7 +2,7 @@
 // that the sorted list is the window sorted.
 #![tactic(auto)]
 
-ghost use Rattle.std.specs.Prelude.{◌≡◌, true, ◌++◌, ◌≤◌, min, eqb, get_or, take, drop};
+ghost use Rattle.std.specs.Prelude.{◌≡◌, true, ◌≤◌, min, eqb, length, get_or};
 ghost use Rattle.std.specs.Float.{binary64};
 ghost use Rattle.std.specs.Float.Ieee.{lt, eq, to_bits};
 ghost use Rattle.rules.specs.Constants.{zero_f};
@@ -34,30 +34,30 @@ fn power_fits(p: f32) -> bool
     ieee::widen(p) <= 1.0e36
 }
 
-// Whether the first n powers fit, with no branch between them.
-fn first_powers_fit(window: &[f32; ImpulseSuppressor::WINDOW], n: usize) -> bool
-    requires { n ≤ window_size }
-    ensures { result ≡ powers_fit n window.now }
+// Whether all of these powers fit, with no branch between them.
+fn all_fit(powers: &[f32]) -> bool
+    ensures { result ≡ powers_fit (length powers.now) powers.now }
 {
     let mut fit = true;
-    for p in &window[..n] {
+    for p in powers {
         fit = fit & power_fits(*p);
     }
     fit
 }
 
-// The same: nearly always all of them fit, and a loop of a fixed length is the faster one.
+// Whether the first n powers fit: nearly always all of them fit, and a loop of a fixed length is the faster one.
 fn powers_fit(window: &[f32; ImpulseSuppressor::WINDOW], n: usize) -> bool
     requires { n ≤ window_size }
     ensures { result ≡ powers_fit n window.now }
 {
-    if first_powers_fit(window, ImpulseSuppressor::WINDOW) {
+    if all_fit(window) {
         return true;
     }
-    first_powers_fit(window, n)
+    all_fit(&window[..n])
 }
 
-// Whether the first n samples are within the limit.
+// Whether the first n samples are within the limit: the first that is not, among all of them, says so for
+// any n.
 fn samples_fit(pending: &[u64; ImpulseSuppressor::LOOKAHEAD], n: usize) -> bool
     requires { n ≤ lookahead_size }
     ensures { result ≡ samples_fit n pending.now }
@@ -81,31 +81,23 @@ pub fn arrays_fit(
 
 // ---- the sorted list
 
-// The first n powers of the window, widened, over the first of these words.
-fn copy_powers(
-    window: &[f32; ImpulseSuppressor::WINDOW],
-    n: usize,
-    wide: &mut [f64; ImpulseSuppressor::WINDOW],
-)
-    requires { n ≤ window_size }
-    ensures { wide.new ≡ take n window.now ++ drop n wide.old }
+// The powers, widened.
+fn copy_powers(powers: &[f32], wide: &mut [f64])
+    requires { length wide.old ≡ length powers.now }
+    ensures { wide.new ≡ powers.now }
 {
-    for k in 0..n {
-        wide[k] = ieee::widen(window[k]);
+    for (k, w) in wide.iter_mut().enumerate() {
+        *w = ieee::widen(powers[k]);
     }
 }
 
-// Whether the first n powers are those, bit by bit.
-fn same_powers(
-    n: usize,
-    sorted: &[f32; ImpulseSuppressor::WINDOW],
-    wide: &[f64; ImpulseSuppressor::WINDOW],
-) -> bool
-    requires { n ≤ window_size }
-    ensures { result ≡ all_to (λ k. eqb (to_bits binary64 (get_or sorted.now k zero_f)) (to_bits binary64 (get_or wide.now k zero_f))) n }
+// Whether the powers are those, bit by bit.
+fn same_powers(sorted: &[f32], wide: &[f64]) -> bool
+    requires { length wide.now ≡ length sorted.now }
+    ensures { result ≡ all_to (λ k. eqb (to_bits binary64 (get_or sorted.now k zero_f)) (to_bits binary64 (get_or wide.now k zero_f))) (length sorted.now) }
 {
-    for k in 0..n {
-        let given = ieee::to_bits64(ieee::widen(sorted[k]));
+    for (k, p) in sorted.iter().enumerate() {
+        let given = ieee::to_bits64(ieee::widen(*p));
         if given != ieee::to_bits64(wide[k]) {
             return false;
         }
@@ -123,9 +115,10 @@ fn sorts_to(
     ensures { result ≡ sorted_fits n window.now sorted.now }
 {
     let mut wide = [0.0f64; ImpulseSuppressor::WINDOW];
-    copy_powers(window, n, &mut wide);
-    iq_median::sort_words(&mut wide[..n]);
-    same_powers(n, sorted, &wide)
+    let powers = &mut wide[..n];
+    copy_powers(&window[..n], powers);
+    iq_median::sort_words(powers);
+    same_powers(&sorted[..n], powers)
 }
 
 // ---- a full window, without sorting it

@@ -1,7 +1,7 @@
 // The window's powers in ascending order, in a lent array with one gap, and their trimmed mean.
 #![tactic(auto)]
 
-ghost use Rattle.std.specs.Prelude.{◌≡◌, true, false, ◌+◌, ◌-◌, ◌%◌, ◌≤◌, ◌<◌, length, get_or, set, take, drop};
+ghost use Rattle.std.specs.Prelude.{ℕ, ◌≡◌, true, false, ◌+◌, ◌-◌, ◌%◌, ◌≤◌, ◌<◌, length, get_or, set, take, drop};
 ghost use mathlib.Core.List.{◌++◌, foldl};
 ghost use Rattle.std.specs.Float.{binary64, nan};
 ghost use Rattle.std.specs.Float.Ieee.{lt, le, add, mul, div};
@@ -120,23 +120,28 @@ fn moved(old: f32, a: f32, b: f32) -> f32
     if a < old { a } else { b }
 }
 
-// What comes in the place of b, which stands between a and c.
-fn between(old: f32, p: f32, a: f32, b: f32, c: f32) -> f32
-    ensures { result ≡ least (moved old b c) (most (moved old a b) p) }
+// Each power but the last as it is moved.
+fn all_moved(sorted: &[f32; WINDOW], old: f32) -> [f32; LAST]
+    ensures { (k : ℕ) → k < window_size - 1 → get_or result k nan ≡ moved old (get_or sorted.now k nan) (get_or sorted.now (k + 1) nan) }
 {
-    least(moved(old, b, c), most(moved(old, a, b), p))
+    let mut out = [0.0f32; LAST];
+    for k in 0..LAST {
+        out[k] = moved(old, sorted[k], sorted[k + 1]);
+    }
+    out
 }
 
-// The powers without the old one and with p.
+// The powers without the old one and with p. Two loops in place of one let several powers be worked out at once.
 fn blended(sorted: &[f32; WINDOW], old: f32, p: f32) -> [f32; WINDOW]
     ensures { result ≡ blended old p sorted.now }
 {
+    let left = all_moved(sorted, old);
     let mut out = [0.0f32; WINDOW];
-    out[0] = least(moved(old, sorted[0], sorted[1]), p);
+    out[0] = least(left[0], p);
     for k in 0..LAST_BUT_ONE {
-        out[k + 1] = between(old, p, sorted[k], sorted[k + 1], sorted[k + 2]);
+        out[k + 1] = least(left[k + 1], most(left[k], p));
     }
-    out[LAST] = most(moved(old, sorted[LAST_BUT_ONE], sorted[LAST]), p);
+    out[LAST] = most(left[LAST_BUT_ONE], p);
     out
 }
 
@@ -185,24 +190,23 @@ pub fn take_in(window: &mut [f32; WINDOW], sorted: &mut [f32; WINDOW], i: u64, x
 
 // ---- the flag
 
-// The sum of the first n powers, in their order.
-fn sum(sorted: &[f32; WINDOW], n: usize) -> f64
-    requires { n ≤ window_size }
-    ensures { result ≡ foldl (add binary64) zero_f (take n sorted.now) }
+// The sum of the powers, in their order.
+fn sum(powers: &[f32]) -> f64
+    ensures { result ≡ foldl (add binary64) zero_f powers.now }
 {
     let mut s = 0.0;
-    for p in &sorted[..n] {
+    for p in powers {
         s = s + ieee::widen(*p);
     }
     s
 }
 
-// Their mean.
-fn reference(sorted: &[f32; WINDOW], n: usize) -> f64
-    requires { n ≤ window_size }
-    ensures { result ≡ mean (take n sorted.now) }
+// Their mean. So few can be counted by an f64.
+fn reference(powers: &[f32]) -> f64
+    requires { length powers.now ≤ window_size }
+    ensures { result ≡ mean powers.now }
 {
-    sum(sorted, n) / (n as f64)
+    sum(powers) / (powers.len() as f64)
 }
 
 fn stands_out(r: f64, p: f32) -> bool
@@ -241,6 +245,6 @@ pub fn is_flagged(sorted: &[f32; WINDOW], k: usize, p: f32, rising: bool) -> boo
     if is_quiet(sorted, k, rising, p) {
         return false;
     }
-    let r = reference(sorted, k);
+    let r = reference(&sorted[..k]);
     stands_out(r, p)
 }

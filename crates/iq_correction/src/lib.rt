@@ -112,8 +112,9 @@ fn try_sample(rho: Complex64, w: u64) -> Tried
     }
 }
 
-// A group's corrections with no branch between them, and whether all are right. Of what is written through
-// a `zip` with `iter_mut` a proof would know the length alone.
+// A group's corrections with no branch between them, and whether all are right. Tried with a `zip` over
+// `iter_mut`: the invariant names the words that came, but not those written, and after the loop only the
+// length of `out` is known.
 fn try_group(rho: Complex64, part: &[u64], out: &mut [u64; 16]) -> bool
     requires small { Small (view64 rho) }
     requires whole { length part.now ≡ 16 }
@@ -155,8 +156,9 @@ fn correct_group(rho: Complex64, part: &mut [u64])
     correct_each(rho, part);
 }
 
-// The samples corrected in groups of 16, as far as there are 16: how many are. Of what is written through
-// `chunks_exact_mut` a proof would know the length alone.
+// The samples corrected in groups of 16, as far as there are 16: how many are. Tried with
+// `chunks_exact_mut`: the invariant names the groups that came, but not what was written to them, and after
+// the loop only the length of `samples` is known.
 fn correct_groups(rho: Complex64, samples: &mut [u64]) -> usize
     requires { Small (view64 rho) }
     ensures { Mapping (corrected (view64 rho)) samples.old samples.new result }
@@ -215,10 +217,7 @@ pub fn revert_iq(samples: &mut [u64], rho: Complex64) -> Result<(), Refusal>
     if !iq::accepted(rho) {
         return Err(Refusal::BadCoefficient);
     }
-    let place = amplitude_limit::first_beyond(samples);
-    if place < samples.len() {
-        return Err(Refusal::OutOfRange(place));
-    }
+    amplitude_limit::check(samples)?;
     uncorrect_all(rho, samples);
     Ok(())
 }

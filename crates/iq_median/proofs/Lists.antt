@@ -2,43 +2,19 @@
 use mathlib.Core.Path.{◌≡◌, refl, sym, ap, ◌∙◌, subst}
 use mathlib.Core.Bool.{Bool, true, false, cond}
 use mathlib.Core.List.{List, [], ◌∷◌, ◌++◌, append_assoc, append-nil}
-use Prim.Native.Nat.{ℕ, suc, ◌+◌, ◌-◌, ◌*◌, ◌/◌, ◌≤◌, ◌<◌}
+use Prim.Native.Nat.{ℕ, suc, ◌+◌, ◌-◌, ◌/◌, ◌≤◌, ◌<◌}
 use native.Mathlib.Omega.{arith}
 use native.Mathlib.Numerals.{add-one}
 use lib.ListN.{length, get_or, take, drop, set, length-set, length-append, length-drop, drop_of_length-le, get_or-append}
-use lib.Seq.{take_all, take-suc, drop-cons, take-append-le, take_at, drop_at, get_or-append-add, set_split, take-suc-set, drop-set-lt, get_or-take, take-take}
+use lib.Seq.{take_all, take-suc, drop-cons, take-append-le, drop_at, set_split, take-suc-set, drop-set-lt, get_or-take, take-take}
 use lib.Seq.{length-take-le}
-use Rattle.std.proofs.lemmas.List.{take-append-drop, drop-take}
 use lib.Ieee.{Float, nan, binary64, lt, add, mul}
-use borrow.Rule.Slice.PartMut.{mid_of, post_of, put_mid}
 use Rattle.rules.specs.Constants.{zero_f, one_half}
-use Rattle.rules.specs.Monitor.{floor_of, channel_width}
+use Rattle.rules.specs.Monitor.{floor_of}
 use Rattle.rules.specs.Sort.{insert, sort}
 use Rattle.rules.proofs.laws.ListLaws.{read_any}
 use Rattle.rules.proofs.laws.SortLaws.{all_append}
 use Rattle.rules.specs.Lists.{All}
-
--- ---- `copy_powers`: behind the powers stand 2 n words, and then the powers again
-two_takes : {A : Type 0} (n m : ℕ) (l : List A) → take n l ++ take m (drop n l) ≡ take (n + m) l
-two_takes n m l =
-    ap (λ (x : List _). x ++ take m (drop n l)) (sym (take-take n (n + m) l (omega arith)))
-    ∙ ap (λ (x : List _). take n (take (n + m) l) ++ x) (sym (drop-take n m l))
-    ∙ take-append-drop n (take (n + m) l)
-
-pub copied : {A : Type 0} (n : ℕ) (ws front back part : List A) → length ws ≡ channel_width * n → front ≡ take n ws → back ≡ drop n ws → part ≡ front
-    → front ++ put_mid (2 * n) (length back - 2 * n) back part ≡ take (3 * n) ws ++ take n ws
-copied {A = A} n ws front back part len f b p =
-    let size : length back ≡ 3 * n = ap length b ∙ length-drop n ws ∙ omega arith in
-    let none : post_of (2 * n) (length back - 2 * n) back ≡ [] =
-    drop_of_length-le (drop (2 * n) back) {i = length back - 2 * n} (let d = length-drop (2 * n) back in omega arith) in
-    ap (λ (x : List A). front ++ (take (2 * n) back ++ (part ++ x))) none
-    ∙ ap (λ (x : List A). front ++ (take (2 * n) back ++ x)) (append-nil part ∙ p ∙ f)
-    ∙ sym (append_assoc front (take (2 * n) back) (take n ws))
-    ∙ ap (λ (x : List A). x ++ take n ws)
-    (ap (λ (x : List A). x ++ take (2 * n) back) f
-    ∙ ap (λ (x : List A). take n ws ++ take (2 * n) x) b
-    ∙ two_takes n (2 * n) ws
-    ∙ ap (λ (i : ℕ). take i ws) (let e : n + 2 * n ≡ 3 * n = omega arith in e))
 
 -- ---- `sink`: what is behind i is as it was, and a is to be inserted there
 abbrev pub Sinking : List Float → ℕ → Float → List Float → ℕ → Type 0
@@ -159,59 +135,13 @@ sorting_next l₀ l l' k K e s =
 pub sorting_all : (l₀ l : List Float) (k : ℕ) → k ≤ 0 → Sorting l₀ l k → l ≡ sort lt l₀
 sorting_all l₀ l k h s = let z : k ≡ 0 = omega arith in s.1 ∙ ap (λ (i : ℕ). take i l₀ ++ sort lt (drop i l₀)) z
 
--- ---- the copied powers, lent: they are the powers, and what they become stands behind the rest
-module _ (n : ℕ) (ws copied : List Float) (len : length ws ≡ channel_width * n) (e : copied ≡ take (3 * n) ws ++ take n ws) where
-  others_length : length (take (3 * n) ws) ≡ 3 * n
-  others_length = length-take-le (3 * n) ws (omega arith)
-
-  powers_length : length (take n ws) ≡ n
-  powers_length = length-take-le n ws (omega arith)
-
-  lent : length copied - 3 * n ≡ n
-  lent = let c = ap length e ∙ length-append (take (3 * n) ws) (take n ws) in let a = others_length in let b = powers_length in omega arith
-
-  back : drop (3 * n) copied ≡ take n ws
-  back = ap (drop (3 * n)) e ∙ drop_at (take (3 * n) ws) (take n ws) (3 * n) others_length
-
-  pub lent_powers : mid_of (3 * n) (length copied - 3 * n) copied ≡ take n ws
-  lent_powers = ap (λ (i : ℕ). take i (drop (3 * n) copied)) lent ∙ ap (take n) back ∙ take_all n (take n ws) (let b = powers_length in omega arith)
-
-  pub put_back : (part : List Float) → put_mid (3 * n) (length copied - 3 * n) copied part ≡ take (3 * n) ws ++ part
-  put_back part =
-      let rest : post_of (3 * n) (length copied - 3 * n) copied ≡ [] = ap (λ (i : ℕ). drop i (drop (3 * n) copied)) lent ∙ ap (drop n) back
-      ∙ drop_of_length-le (take n ws) {i = n} (let b = powers_length in omega arith) in
-      ap (λ (l : List Float). l ++ (part ++ post_of (3 * n) (length copied - 3 * n) copied))
-      (ap (take (3 * n)) e ∙ take_at (take (3 * n) ws) (take n ws) (3 * n) others_length)
-      ∙ ap (λ (l : List Float). take (3 * n) ws ++ (part ++ l)) rest
-      ∙ ap (λ (l : List Float). take (3 * n) ws ++ l) (append-nil part)
-
 -- ---- `sorted_floor`
-pub sorted_in_place : (n : ℕ) (ws copied sorted : List Float) → length ws ≡ channel_width * n → copied ≡ take (3 * n) ws ++ take n ws
-    → sorted ≡ sort lt (mid_of (3 * n) (length copied - 3 * n) copied)
-    → put_mid (3 * n) (length copied - 3 * n) copied sorted ≡ take (3 * n) ws ++ sort lt (take n ws)
-sorted_in_place n ws copied sorted len e s = put_back n ws copied len e sorted
-    ∙ ap (λ (l : List Float). take (3 * n) ws ++ l) (s ∙ ap (sort lt) (lent_powers n ws copied len e))
-
-pub floor_read : (n : ℕ) (ws final : List Float) → 0 < n → length ws ≡ channel_width * n → final ≡ take (3 * n) ws ++ sort lt (take n ws)
-    → mul binary64 (add binary64 (get_or final (3 * n + (n - 1) / 2) nan) (get_or final (3 * n + n / 2) nan)) one_half ≡ floor_of (take n ws)
+pub floor_read : (ps sorted : List Float) → 0 < length ps → sorted ≡ sort lt ps
+    → mul binary64 (add binary64 (get_or sorted ((length sorted - 1) / 2) nan) (get_or sorted (length sorted / 2) nan)) one_half ≡ floor_of ps
 unfolding floor_of
-floor_read n ws final h len e =
-    ap (λ (x : Float). mul binary64 (add binary64 x (get_or final (3 * n + n / 2) nan)) one_half) (place ((n - 1) / 2) (omega arith))
-    ∙ ap (λ (x : Float). mul binary64 (add binary64 (get_or s ((n - 1) / 2) zero_f) x) one_half) (place (n / 2) (omega arith))
-    ∙ ap (λ (m : ℕ). mul binary64 (add binary64 (get_or s ((m - 1) / 2) zero_f) (get_or s (m / 2) zero_f)) one_half) (sym count)
-  where
-    s : List Float
-    s = sort lt (take n ws)
-
-    count : length (take n ws) ≡ n
-    count = length-take-le n ws (omega arith)
-
-    place : (i : ℕ) → i < n → get_or final (3 * n + i) nan ≡ get_or s i zero_f
-    place i k =
-        ap (λ (l : List Float). get_or l (3 * n + i) nan) e
-        ∙ ap (λ (m : ℕ). get_or (take (3 * n) ws ++ s) (m + i) nan) (sym (length-take-le (3 * n) ws (omega arith)))
-        ∙ get_or-append-add (take (3 * n) ws) s i nan
-        ∙ read_any s i nan zero_f (let l = length_sort (take n ws) in let m = count in omega arith)
+floor_read ps sorted h e =
+    let n = length_sort ps in
+    rw (e, n, read_any (sort lt ps) ((length ps - 1) / 2) nan zero_f (omega arith), read_any (sort lt ps) (length ps / 2) nan zero_f (omega arith)) refl
 
 -- a fact of every word, one word on
 pub all_at : (P : Float → Type 0) (l : List Float) (k : ℕ) → k < length l → P (get_or l k nan) → All P (take k l) → All P (take (k + 1) l)

@@ -2,29 +2,27 @@
 use mathlib.Core.Path.{◌≡◌, refl, sym, ap, ◌∙◌, subst}
 use mathlib.Core.Bool.{Bool, true, false, cond, not, ◌&&◌}
 use mathlib.Core.List.{List, [], ◌∷◌, ◌++◌, append-nil}
-use Prim.Native.Nat.{ℕ, zero, suc, ◌+◌, ◌-◌, ◌*◌, ◌/◌, ◌≤◌, ◌<◌}
+use Prim.Native.Nat.{ℕ, zero, suc, ◌+◌, ◌-◌, ◌/◌, ◌≤◌, ◌<◌}
 use native.Mathlib.Nat.{add-zero}
 use native.Mathlib.Omega.{arith}
 use native.Mathlib.Numerals.{add-one}
 use lib.Dec.{T, ltb}
 use borrow.Author.Tests.{ltb-true, ltb-false}
 use lib.ListN.{length, get_or, take, drop, set, length-set, length-append, length-drop, drop_of_length-le, get_or-append}
-use lib.Seq.{take_all, take-append-le, take-take, drop_at, get_or-drop, drop-cons, append_snoc, take-suc-set, take-set-le, drop-set-lt, length-take-le}
+use lib.Seq.{take_all, take-append-le, drop-cons, append_snoc, take-suc-set, take-set-le, drop-set-lt, length-take-le}
 use lib.Seq.{get_or-append-add}
 use lib.Ieee.{Float, nan, binary64, lt, add, mul, fits}
-use borrow.Rule.Slice.PartMut.{mid_of, put_mid}
 use mir.Val.{bool_byte}
 use Rattle.ieee.specs.Plain.{sign_clear, Plain}
 use Rattle.ieee.proofs.laws.Order.{plain_irrefl}
 use Rattle.rules.specs.Constants.{zero_f, one_half}
-use Rattle.rules.specs.Monitor.{floor_of, channel_width}
+use Rattle.rules.specs.Monitor.{floor_of}
 use Rattle.rules.specs.Sort.{insert, sort}
 use borrow.Author.Tests.{not-true}
 use Rattle.rules.proofs.laws.SortLaws.{Ordered, below, not_below, is_below, is_not_below, sort_length, sort_good, all_as, all_get_d, plain_order}
 use Rattle.rules.specs.Lists.{All}
 use Rattle.iq_median.specs.declared.Search.{Search}
 use Rattle.rules.proofs.laws.ListLaws.{read_any, bit}
-use Rattle.iq_median.proofs.Lists.{lent_powers, put_back}
 use Rattle.rules.specs.Lists.{all_of}
 use Rattle.iq_median.specs.Select.{passing, below_of, above_of, sorted_in, Window, Turning, Narrowed, Selected, lower_of, least_above}
 
@@ -557,58 +555,23 @@ module _ (l : List Float) (k : ℕ) (p : Float) (above : ℕ) (g : All (Plain bi
       ∙ from_above (plain_order binary64) p own l g nan (length l - above) passed_rest 0
       ∙ ap (λ (i : ℕ). get_or (sort lt l) i nan) (let z : length l - above + 0 ≡ k + 1 = omega arith in z)
 
--- ---- the floor, of words that were copied and searched
+-- ---- the floor, of powers that were searched
 
-module _ (n : ℕ) (ws copied m : List Float) (s : Search) (len : length ws ≡ channel_width * n) (pos : 0 < n) (e : copied ≡ take (3 * n) ws ++ take n ws)
-    (g : Selected (mid_of (3 * n) (length copied - 3 * n) copied) ((n - 1) / 2) m s) where
-  final_is : put_mid (3 * n) (length copied - 3 * n) copied m ≡ take (3 * n) ws ++ m
-  final_is = put_back n ws copied len e m
-
-  front : length (take (3 * n) ws) ≡ 3 * n
-  front = length-take-le (3 * n) ws (omega arith)
-
-  pub powers_kept : take n (put_mid (3 * n) (length copied - 3 * n) copied m) ≡ take n ws
-  powers_kept = ap (take n) final_is ∙ take-append-le n (take (3 * n) ws) m (let f = front in omega arith) ∙ take-take n (3 * n) ws (omega arith)
-
-  pub final_length : length m ≡ length (mid_of (3 * n) (length copied - 3 * n) copied)
-      → length (put_mid (3 * n) (length copied - 3 * n) copied m) ≡ channel_width * n
-  final_length h =
-      let a = ap length final_is ∙ length-append (take (3 * n) ws) m in
-      let b = h ∙ ap length (lent_powers n ws copied len e) ∙ length-take-le n ws (omega arith) in
-      let f = front in
-      omega arith
-
-  rest_is : drop (3 * n) (put_mid (3 * n) (length copied - 3 * n) copied m) ≡ m
-  rest_is = ap (drop (3 * n)) final_is ∙ drop_at (take (3 * n) ws) m (3 * n) front
-
-  pub searched : Selected (take n (put_mid (3 * n) (length copied - 3 * n) copied m)) ((n - 1) / 2)
-      (drop (3 * n) (put_mid (3 * n) (length copied - 3 * n) copied m)) s
-  searched =
-      subst (λ (l : List Float). Selected l ((n - 1) / 2) (drop (3 * n) (put_mid (3 * n) (length copied - 3 * n) copied m)) s) (sym powers_kept)
-      (subst (λ (l : List Float). Selected (take n ws) ((n - 1) / 2) l s) (sym rest_is)
-      (subst (λ (l : List Float). Selected l ((n - 1) / 2) m s) (lent_powers n ws copied len e) g))
-
-  pub lower_power : get_or (put_mid (3 * n) (length copied - 3 * n) copied m) (3 * n + s.place) nan
-      ≡ get_or (sort lt (take n (put_mid (3 * n) (length copied - 3 * n) copied m))) ((n - 1) / 2) nan
+module _ (ps m : List Float) (s : Search) (pos : 0 < length ps) (g : Selected ps ((length ps - 1) / 2) m s) where
+  pub lower_power : get_or m s.place nan ≡ get_or (sort lt ps) ((length ps - 1) / 2) nan
   lower_power =
-      let l = put_mid (3 * n) (length copied - 3 * n) copied m in
-      sym (get_or-drop (3 * n) l s.place nan)
-      ∙ ap (λ (i : ℕ). get_or (drop (3 * n) l) i nan) (sym (add-zero s.place))
-      ∙ searched.same 0 (let h = searched.inside in omega arith)
-      ∙ ap (λ (i : ℕ). get_or (sort lt (take n l)) i nan) (add-zero ((n - 1) / 2))
+      ap (λ (i : ℕ). get_or m i nan) (sym (add-zero s.place))
+      ∙ g.same 0 (let h = g.inside in omega arith)
+      ∙ ap (λ (i : ℕ). get_or (sort lt ps) i nan) (add-zero ((length ps - 1) / 2))
 
-  pub floor_found : (q : Float) → q ≡ get_or (sort lt (take n (put_mid (3 * n) (length copied - 3 * n) copied m))) (n / 2) nan
-      → mul binary64 (add binary64 (get_or (put_mid (3 * n) (length copied - 3 * n) copied m) (3 * n + s.place) nan) q) one_half ≡ floor_of (take n ws)
+  pub floor_found : (q : Float) → q ≡ get_or (sort lt ps) (length ps / 2) nan → mul binary64 (add binary64 (get_or m s.place nan) q) one_half ≡ floor_of ps
   unfolding floor_of
   floor_found q f =
-      let l = sort lt (take n ws) in
-      let c : length (take n ws) ≡ n = length-take-le n ws (omega arith) in
-      let k = sort_length lt (take n ws) in
-      let x = lower_power ∙ ap (λ (t : List Float). get_or (sort lt t) ((n - 1) / 2) nan) powers_kept ∙ read_any l ((n - 1) / 2) nan zero_f (omega arith) in
-      let y = f ∙ ap (λ (t : List Float). get_or (sort lt t) (n / 2) nan) powers_kept ∙ read_any l (n / 2) nan zero_f (omega arith) in
-      ap (λ (a : Float). mul binary64 (add binary64 a q) one_half) x
-      ∙ ap (λ (a : Float). mul binary64 (add binary64 (get_or l ((n - 1) / 2) zero_f) a) one_half) y
-      ∙ ap (λ (i : ℕ). mul binary64 (add binary64 (get_or l ((i - 1) / 2) zero_f) (get_or l (i / 2) zero_f)) one_half) (sym c)
+      let l = sort lt ps in
+      let k = sort_length lt ps in
+      let x = lower_power ∙ read_any l ((length ps - 1) / 2) nan zero_f (omega arith) in
+      let y = f ∙ read_any l (length ps / 2) nan zero_f (omega arith) in
+      λ i. mul binary64 (add binary64 (x i) (y i)) one_half
 
 -- what the test of the powers says
 pub all_are_plain : (l : List Float) → all_of sign_clear l ≡ true → All (λ x. T (fits binary64 x)) l → All (Plain binary64) l

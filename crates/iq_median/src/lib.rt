@@ -54,30 +54,14 @@ pub fn sort_words(part: &mut [f64])
     }
 }
 
-// The powers, over the sorting words.
-fn copy_powers(words: &mut [f64], n: usize)
-    requires store { length words.old ≡ channel_width * n }
-    requires few { n ≤ size_limit }
-    ensures { words.new ≡ take (3 * n) words.old ++ take n words.old }
+// Half the sum of the two in the middle, from all of the powers sorted, which are put in order.
+fn sorted_floor(powers: &mut [f64]) -> f64
+    requires { 0 < length powers.old }
+    ensures { result ≡ floor_of powers.old }
 {
-    let (powers, rest) = words.split_at_mut(n);
-    let from = 2 * n;
-    rest[from..].copy_from_slice(powers);
-}
-
-// Half the sum of the two powers in the middle, from all of them sorted.
-fn sorted_floor(words: &mut [f64], n: usize) -> f64
-    requires store { length words.old ≡ channel_width * n }
-    requires few { n ≤ size_limit }
-    requires some { 0 < n }
-    ensures { result ≡ floor_of (take n words.old) }
-{
-    copy_powers(words, n);
-    let from = 3 * n;
-    sort_words(&mut words[from..]);
-    let low = from + (n - 1) / 2;
-    let high = from + n / 2;
-    (words[low] + words[high]) * 0.5
+    sort_words(powers);
+    let n = powers.len();
+    (powers[(n - 1) / 2] + powers[n / 2]) * 0.5
 }
 
 // Whether x is no NaN and its sign bit is clear.
@@ -248,6 +232,7 @@ fn select(part: &mut [f64], place: usize) -> Search
         high: 0x7ff0_0000_0000_0000,
         left: 80,
     };
+    // each turn narrows the search by what it finds: how many it takes is not known before
     while 16 < s.count && 0 < s.left {
         s.turn(part);
     }
@@ -285,39 +270,34 @@ fn next_power(powers: &[f64], k: usize, p: f64) -> f64
 }
 
 // The power at the upper of the two places in the middle, where p is that at the lower.
-fn upper_power(words: &[f64], n: usize, s: &Search, p: f64) -> f64
-    requires sizes { (length words.now ≡ channel_width * n) × (n ≤ size_limit) × (0 < n) }
-    requires plain { All (Plain binary64) (take n words.now) }
-    requires found { Selected (take n words.now) ((n - 1) / 2) (drop (3 * n) words.now) s.now }
-    requires power { p ≡ get_or (sort lt (take n words.now)) ((n - 1) / 2) nan }
-    ensures { result ≡ get_or (sort lt (take n words.now)) (n / 2) nan }
+fn upper_power(powers: &[f64], spare: &[f64], s: &Search, p: f64) -> f64
+    requires some { 0 < length powers.now }
+    requires plain { All (Plain binary64) powers.now }
+    requires found { Selected powers.now ((length powers.now - 1) / 2) spare.now s.now }
+    requires power { p ≡ get_or (sort lt powers.now) ((length powers.now - 1) / 2) nan }
+    ensures { result ≡ get_or (sort lt powers.now) (length powers.now / 2) nan }
 {
-    let low = (n - 1) / 2;
-    if low == n / 2 {
+    let low = (powers.len() - 1) / 2;
+    if low == powers.len() / 2 {
         return p;
     }
     let next = s.place + 1;
     if next < s.count {
-        let at = 3 * n + next;
-        return words[at];
+        return spare[next];
     }
-    next_power(&words[..n], low, p)
+    next_power(powers, low, p)
 }
 
-// Half the sum of the two powers in the middle, from a selection.
-fn selected_floor(words: &mut [f64], n: usize) -> f64
-    requires store { length words.old ≡ channel_width * n }
-    requires few { n ≤ size_limit }
-    requires some { 0 < n }
-    requires plain { All (Plain binary64) (take n words.old) }
-    ensures { result ≡ floor_of (take n words.old) }
+// Half the sum of the two powers in the middle, from a selection among the same powers in the spare words.
+fn selected_floor(powers: &[f64], spare: &mut [f64]) -> f64
+    requires copied { spare.old ≡ powers.now }
+    requires some { 0 < length powers.now }
+    requires plain { All (Plain binary64) powers.now }
+    ensures { result ≡ floor_of powers.now }
 {
-    copy_powers(words, n);
-    let from = 3 * n;
-    let s = select(&mut words[from..], (n - 1) / 2);
-    let at = from + s.place;
-    let p = words[at];
-    let q = upper_power(words, n, &s, p);
+    let s = select(spare, (powers.len() - 1) / 2);
+    let p = spare[s.place];
+    let q = upper_power(powers, spare, &s, p);
     (p + q) * 0.5
 }
 
@@ -328,8 +308,12 @@ pub fn floor_power(words: &mut [f64], n: usize) -> f64
     requires some { 0 < n }
     ensures { result ≡ floor_of (take n words.old) }
 {
-    if all_plain(&words[..n]) {
-        return selected_floor(words, n);
+    let (powers, rest) = words.split_at_mut(n);
+    let from = 2 * n;
+    let spare = &mut rest[from..];
+    spare.copy_from_slice(powers);
+    if all_plain(powers) {
+        return selected_floor(powers, spare);
     }
-    sorted_floor(words, n)
+    sorted_floor(spare)
 }

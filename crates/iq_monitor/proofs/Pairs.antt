@@ -120,10 +120,6 @@ module _ (xs : List ℕ) where
       ∙ ap (λ (i : ℕ). run (added_channel xs x i) (n - k) (suc (k - 1))) d
       ∙ (λ i. run (run ws 1 (b i)) (c i) (b i))
 
-  pub length_paired : (ws : List Float) (k : ℕ) → length (paired ws k) ≡ length ws
-  unfolding paired
-  length_paired ws k = length_run (run ws 1 (k - 1)) (length xs + 1 - k) (k - 1) ∙ length_run ws 1 (k - 1)
-
   -- behind channel 0
   behind_first : (ws : List Float) (k : ℕ) → 0 < k → run (added_channel xs ws 0) 1 (k - 1) ≡ added_hop xs ws k
   unfolding added_hop

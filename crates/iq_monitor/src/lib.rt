@@ -394,10 +394,7 @@ impl ImageMonitor {
         if stage_log::TOTAL_LIMIT < start || start < self.end {
             return Err(Refusal::Early);
         }
-        let place = amplitude_limit::first_beyond(x);
-        if place < x.len() {
-            return Err(Refusal::OutOfRange(place));
-        }
+        amplitude_limit::check(x)?;
         Ok(self.accept(fs, x, start, words))
     }
 }

@@ -98,6 +98,7 @@ fn read_block(rt: &impl Input, bytes: &mut [u8]) -> io::Result<usize>
     ensures { IfOk result (λ size. IsPrefixLen size bytes.new) }
 {
     let mut size = 0;
+    // each read moves on by what it brought
     while size < bytes.len() {
         let more = rt.reader().read(&mut bytes[size..])?;
         if more == 0 {

@@ -16,21 +16,20 @@ pub struct Bench {
 // Which operation it was, the answer as two numbers, what was left, and whether that is as it must be.
 #[derive(Clone, Copy)]
 pub struct Tried {
-    pub op: u64,
+    pub op: Operation,
     pub number: u64,
     pub value: u64,
     pub bench: Bench,
     pub good: bool,
 }
 
-// The operations.
-pub const MAKING: u64 = 0;
-
-pub const CALL: u64 = 1;
-
-pub const HOP: u64 = 2;
-
-pub const UNDO: u64 = 3;
+#[derive(Clone, Copy, Debug, PartialEq, Eq)]
+pub enum Operation {
+    Making,
+    Call,
+    Hop,
+    Undo,
+}
 
 // ---- whether all is as it was
 
@@ -57,7 +56,7 @@ fn is_accepted(number: u64) -> bool {
 }
 
 // An operation with this answer: it must leave all as it was, where it was not accepted.
-pub fn ended(op: u64, told: Told, given: Bench, left: Bench) -> Tried {
+pub fn ended(op: Operation, told: Told, given: Bench, left: Bench) -> Tried {
     Tried {
         op,
         number: told.number,

@@ -235,11 +235,13 @@ fn read_all(rt: &impl Print, text: &[u8]) -> io::Result<()> {
     Ok(())
 }
 
-// Reads until the text is full or the input ends, and answers how many bytes there are.
+// Reads until the text is full or the input ends, and answers how many bytes there are. `test_ieee` has it
+// too: that crate stands on `ieee` alone, and a crate for it would have more lines than it has.
 fn read_full(input: &mut impl Read, text: &mut [u8]) -> io::Result<usize>
     ensures { IfOk result (λ n. n ≤ length text.new) }
 {
     let mut size = 0;
+    // each read moves on by what it brought
     while size < text.len() {
         let more = input.read(&mut text[size..])?;
         if more == 0 {

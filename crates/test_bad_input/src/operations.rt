@@ -1,6 +1,6 @@
 // Making, a call, a hop and repair undo.
 
-use crate::bench::{Bench, CALL, HOP, MAKING, Tried, UNDO, ended, same_behind};
+use crate::bench::{Bench, Operation, Tried, ended, same_behind};
 use chain_config::ConditioningConfig;
 use chain_words::STATE_WORDS;
 use impulse_pause::PauseEdition;
@@ -38,7 +38,7 @@ pub fn make(b: Bench, config: ConditioningConfig, lent: Lent) -> Tried {
         repairs,
         monitor,
     };
-    ended(MAKING, plain(number), b, left)
+    ended(Operation::Making, plain(number), b, left)
 }
 
 // Stores of zeros, and no state yet.
@@ -100,7 +100,7 @@ pub fn call(b: Bench, given: [u64; 64], length: usize, lent: Lent) -> Tried {
         repairs,
         monitor,
     };
-    let mut out = ended(CALL, told, b, left);
+    let mut out = ended(Operation::Call, told, b, left);
     out.good = out.good & same_behind(&given, &samples, kept_from(told));
     out
 }
@@ -120,7 +120,7 @@ pub fn hop(b: Bench, x: [u64; 64], count: usize, start: u64, lent: Lent) -> Trie
         repairs,
         monitor,
     };
-    ended(HOP, told_hop(answer), b, left)
+    ended(Operation::Hop, told_hop(answer), b, left)
 }
 
 // ---- repair undo
@@ -131,7 +131,7 @@ pub fn undo(b: Bench, given: [u64; 64], lent: Lent) -> Tried {
     let repairs = b.repairs;
     let mut samples = given;
     let told = test_operations::undo_repairs(&state, &repairs, lent.repairs, &mut samples, 0);
-    let mut out = ended(UNDO, told, b, b);
+    let mut out = ended(Operation::Undo, told, b, b);
     out.good = (told.number == ACCEPTED) | same_behind(&given, &samples, 0);
     out
 }

@@ -1,7 +1,9 @@
 // Random makings, calls and hops on fit chains and on spoilt ones: how many there were of each answer, and how many
 // refusals did not leave all as it was.
 
-use crate::bench::{Bench, Tried, say};
+ghost use Rattle.std.specs.Prelude.{◌≤◌};
+
+use crate::bench::{Bench, Operation, Tried, say};
 use crate::draw::{any_word, drawn};
 use crate::operations::asked;
 use crate::spoil::spoilt;
@@ -63,6 +65,13 @@ fn turn(b: Bench, seed: u64, f: u64) -> Tried {
 
 // ---- all turns
 
+// Where the counts of an operation begin. Undo is not counted.
+fn first(op: Operation) -> usize
+    ensures { result ≤ 384 }
+{
+    op as usize * 128
+}
+
 fn add(counts: &mut [u64; COUNTS], at: usize, n: u64) {
     let k = at % COUNTS;
     counts[k] = std::num::wrapping_add_u64(counts[k], n);
@@ -72,7 +81,7 @@ fn add(counts: &mut [u64; COUNTS], at: usize, n: u64) {
 fn next(b: Bench, seed: u64, counts: &mut [u64; COUNTS]) -> Bench {
     let f = drawn(seed, 170) % 16;
     let t = turn(b, seed, f);
-    add(counts, (t.op % 3 * 128 + t.number % 128) as usize, 1);
+    add(counts, first(t.op) + (t.number % 128) as usize, 1);
     add(counts, CHANGED, !t.good as u64);
     if f < 9 {
         return t.bench;
@@ -91,16 +100,17 @@ fn run(counts: &mut [u64; COUNTS]) {
 
 // ---- the counts
 
-fn print_operation(rt: &impl Print, op: u64) -> io::Result<()> {
+fn print_operation(rt: &impl Print, op: Operation) -> io::Result<()> {
     match op {
-        0 => rt.write_all(b"making "),
-        1 => rt.write_all(b"call "),
-        _ => rt.write_all(b"hop "),
+        Operation::Making => rt.write_all(b"making "),
+        Operation::Call => rt.write_all(b"call "),
+        Operation::Hop => rt.write_all(b"hop "),
+        Operation::Undo => rt.write_all(b"undo "),
     }
 }
 
 // A line for a number that was answered.
-fn print_count(rt: &impl Print, op: u64, number: u64, count: u64) -> io::Result<()> {
+fn print_count(rt: &impl Print, op: Operation, number: u64, count: u64) -> io::Result<()> {
     if count == 0 {
         return Ok(());
     }
@@ -109,9 +119,10 @@ fn print_count(rt: &impl Print, op: u64, number: u64, count: u64) -> io::Result<
     println!(rt; " {count}")
 }
 
-fn print(rt: &impl Print, counts: &[u64; COUNTS]) -> io::Result<()> {
-    for (k, count) in counts[..CHANGED].iter().enumerate() {
-        print_count(rt, k as u64 / 128, k as u64 % 128, *count)?;
+// The lines of an operation.
+fn print(rt: &impl Print, op: Operation, counts: &[u64; COUNTS]) -> io::Result<()> {
+    for (number, count) in counts.iter().skip(first(op)).take(128).enumerate() {
+        print_count(rt, op, number as u64, *count)?;
     }
     Ok(())
 }
@@ -119,7 +130,9 @@ fn print(rt: &impl Print, counts: &[u64; COUNTS]) -> io::Result<()> {
 pub fn show(rt: &impl Print) -> io::Result<()> {
     let mut counts = [0u64; COUNTS];
     run(&mut counts);
-    print(rt, &counts)?;
+    print(rt, Operation::Making, &counts)?;
+    print(rt, Operation::Call, &counts)?;
+    print(rt, Operation::Hop, &counts)?;
     let changed = counts[CHANGED];
     println!(rt; "refused, and not all as it was: {changed}")
 }

@@ -81,14 +81,7 @@ pub fn at_most(n: usize, most: usize) -> usize
 }
 
 // So many of the words, or all if there are fewer.
-pub fn part(words: &[u64], n: usize) -> usize
-    ensures { (result ≤ length words.now) × (result ≡ length (take result words.now)) }
-{
-    at_most(n, words.len())
-}
-
-// The same of floats.
-pub fn part_of_floats(words: &[f64], n: usize) -> usize
+pub fn part<T>(words: &[T], n: usize) -> usize
     ensures { (result ≤ length words.now) × (result ≡ length (take result words.now)) }
 {
     at_most(n, words.len())
@@ -113,7 +106,7 @@ pub fn make(
 ) -> u64 {
     let s = part(spans, lent.spans);
     let r = part(repairs, lent.repairs);
-    let m = part_of_floats(monitor, lent.monitor);
+    let m = part(monitor, lent.monitor);
     let made = chain_make::with_geometry(
         config,
         &mut spans[..s],
@@ -165,7 +158,7 @@ pub fn hop(
 ) -> Result<Heard, Refusal> {
     let n = part(x, channels);
     let s = part(spans, lent.spans);
-    let m = part_of_floats(monitor, lent.monitor);
+    let m = part(monitor, lent.monitor);
     let mut state = read_state(words);
     let answer = chain_hop::observe_hop(
         &mut state,

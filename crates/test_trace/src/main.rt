@@ -2,8 +2,6 @@
 // to standard output. Both are words; oracle/src/trace/mod.rs has their order.
 #![tactic(auto)]
 
-ghost use Rattle.std.specs.Prelude.{◌<◌, IfOk};
-
 mod call;
 mod hop;
 mod making;
@@ -30,7 +28,6 @@ pub const MONITOR_WORDS: usize = 8196;
 // The words in front of an operation.
 #[derive(Clone, Copy)]
 pub struct Head {
-    pub there: bool,
     pub op: u64,
     pub how: u64,
     pub a: u64,
@@ -40,11 +37,13 @@ pub struct Head {
     pub len: u64,
 }
 
-fn read_head(rt: &impl Input) -> io::Result<Head> {
+// None where the input ends.
+fn read_head(rt: &impl Input) -> io::Result<Option<Head>> {
     let mut w = [0u64; 8];
-    let there = read_words(rt, &mut w)?;
-    Ok(Head {
-        there,
+    if !read_words(rt, &mut w)? {
+        return Ok(None);
+    }
+    Ok(Some(Head {
         op: w[0],
         how: w[1],
         a: w[2],
@@ -52,7 +51,7 @@ fn read_head(rt: &impl Input) -> io::Result<Head> {
         c: w[4],
         d: w[5],
         len: w[7],
-    })
+    }))
 }
 
 // ---- a word of a store
@@ -93,9 +92,6 @@ fn write(
 
 // Reads the words behind an operation's front; whether they were there.
 fn read_input(rt: &impl Input, head: Head, input: &mut [u64]) -> io::Result<bool> {
-    if !head.there {
-        return Ok(false);
-    }
     let n = part(input, head.len as usize);
     if (n as u64) < head.len {
         return Ok(false);
@@ -132,26 +128,24 @@ fn answer(
     }
 }
 
-// One operation, and how many more may follow: none at the end of the input.
+// One operation; whether it was there, with its words.
 fn turn(
     rt: &(impl Input + Print),
-    left: u64,
     state: &mut [u64; STATE_WORDS],
     spans: &mut [u64; SPAN_WORDS],
     repairs: &mut [u64; REPAIR_WORDS],
     monitor: &mut [f64; MONITOR_WORDS],
-) -> io::Result<u64>
-    requires { 0 < left }
-    ensures { IfOk result (λ r. r < left) }
-{
+) -> io::Result<bool> {
     let mut input = [0u64; INPUT_WORDS];
-    let head = read_head(rt)?;
+    let Some(head) = read_head(rt)? else {
+        return Ok(false);
+    };
     if !read_input(rt, head, &mut input)? {
-        return Ok(0);
+        return Ok(false);
     }
     let n = part(&input, head.len as usize);
     answer(rt, state, head, &mut input[..n], spans, repairs, monitor)?;
-    Ok(left - 1)
+    Ok(true)
 }
 
 fn main(rt: HostRuntime) -> io::Result<()> {
@@ -159,16 +153,10 @@ fn main(rt: HostRuntime) -> io::Result<()> {
     let mut spans = [0u64; SPAN_WORDS];
     let mut repairs = [0u64; REPAIR_WORDS];
     let mut monitor = [0.0f64; MONITOR_WORDS];
-    let mut left: u64 = 0xffff_ffff_ffff_ffff;
-    while 0 < left {
-        left = turn(
-            &rt,
-            left,
-            &mut state,
-            &mut spans,
-            &mut repairs,
-            &mut monitor,
-        )?;
+    for _ in 0..u64::MAX {
+        if !turn(&rt, &mut state, &mut spans, &mut repairs, &mut monitor)? {
+            break;
+        }
     }
     Ok(())
 }

@@ -1,5 +1,5 @@
 -- A size at most L is a number from -L to L; parts under a limit; what place a scan finds. Assumes nothing.
-use Rattle.std.specs.Prelude.{◌≡◌, refl, Bool, true, false, ◌&&◌, cond, List, [], ◌∷◌, ℕ, zero, suc, ◌+◌, ◌/◌, ◌%◌, ◌^◌, ◌<◌, ◌≤◌, T, leb, length, get_or, Float}
+use Rattle.std.specs.Prelude.{◌≡◌, refl, Bool, true, false, ◌&&◌, cond, List, [], ◌∷◌, ℕ, zero, suc, ◌+◌, ◌/◌, ◌%◌, ◌^◌, ◌<◌, ◌≤◌, T, ltb, leb, length, get_or, Float, Ok, Err}
 use Rattle.std.proofs.Common.{sym, ◌∙◌, subst, suc-le-suc, add-zero, add_comm, le_of_suc-le-suc, add-one, arith, leb→le}
 use Rattle.std.specs.Float.Ieee.{le, neg}
 use Rattle.std.specs.Float.Ieee.Fits.{and_l, and_r}
@@ -7,7 +7,9 @@ use Rattle.rules.specs.Constants.{part_limit}
 use Rattle.rules.proofs.laws.SizeLaws.{part_between}
 use Rattle.rules.specs.Lists.{All}
 use Rattle.rules.specs.Refusals.{within_limit, first_beyond_from}
-use Rattle.amplitude_limit.specs.Limit.{limited, under}
+use Rattle.refusal.specs.declared.Refusal.{Refusal}
+use Rattle.refusal.specs.declared.Refusal.TheVariants as why
+use Rattle.amplitude_limit.specs.Limit.{limited, under, checked}
 
 pub limited_is : (x : Float) → limited x ≡ (le (neg part_limit) x && le x part_limit)
 unfolding limited
@@ -64,3 +66,24 @@ first_place (w ∷ ws) = go (within_limit w) refl (first_place ws)
         subst (FirstBeyond (w ∷ ws)) (sym (from_shift 1 ws ∙ add_comm 1 (first_beyond_from 0 ws) ∙ add-one (first_beyond_from 0 ws)))
         (record { most = suc-le-suc r.most; before = earlier (first_beyond_from 0 ws) r e; here = λ h. r.here (le_of_suc-le-suc h) })
     go false e r = record { most = omega arith; before = λ i h. absurd (omega arith); here = λ h. e }
+
+-- ---- what the check says
+
+pub checked_err : (ws : List ℕ) (e : Refusal) → Err e ≡ checked ws
+    → (ltb (first_beyond_from 0 ws) (length ws) ≡ true) × (e ≡ why.OutOfRange (first_beyond_from 0 ws))
+unfolding checked
+checked_err ws e h = go (ltb (first_beyond_from 0 ws) (length ws)) refl h
+  where
+    go : (b : Bool) → ltb (first_beyond_from 0 ws) (length ws) ≡ b → Err e ≡ cond b (Err (why.OutOfRange (first_beyond_from 0 ws))) (Ok (tt {0}))
+        → (ltb (first_beyond_from 0 ws) (length ws) ≡ true) × (e ≡ why.OutOfRange (first_beyond_from 0 ws))
+    go true t k = (t, grind arith)
+    go false t k = absurd (grind arith)
+
+pub checked_ok : (ws : List ℕ) → Ok (tt {0}) ≡ checked ws → ltb (first_beyond_from 0 ws) (length ws) ≡ false
+unfolding checked
+checked_ok ws h = go (ltb (first_beyond_from 0 ws) (length ws)) refl h
+  where
+    go : (b : Bool) → ltb (first_beyond_from 0 ws) (length ws) ≡ b → Ok (tt {0}) ≡ cond b (Err (why.OutOfRange (first_beyond_from 0 ws))) (Ok (tt {0}))
+        → ltb (first_beyond_from 0 ws) (length ws) ≡ false
+    go true t k = absurd (grind arith)
+    go false t k = t

@@ -1,7 +1,7 @@
 -- A record of a store by its words, and the held records one after another. Assumes nothing.
-use Rattle.std.specs.Prelude.{◌≡◌, refl, Bool, true, false, cond, ◌&&◌, List, [], ◌∷◌, ◌++◌, ℕ, zero, suc, ◌+◌, ◌*◌, ◌-◌, ◌%◌, ◌≤◌, ◌<◌, ltb, leb, length, set, drop}
-use Rattle.std.proofs.Common.{ap, sym, ◌∙◌, add-one, mod-lt, arith, lit<, get_or-take, get_or-drop, lt-ltb, le-ltb, le-leb, ltb-true, leb-true}
-use Rattle.std.proofs.lemmas.Bool.{false≢true, lt-leb}
+use Rattle.std.specs.Prelude.{◌≡◌, refl, Bool, true, false, ◌&&◌, List, [], ◌∷◌, ◌++◌, ℕ, zero, suc, ◌+◌, ◌*◌, ◌%◌, ◌≤◌, ◌<◌, ltb, leb, length, drop}
+use Rattle.std.proofs.Common.{ap, sym, ◌∙◌, add-one, mod-lt, arith, lit<, get_or-take, get_or-drop, lt-ltb, le-leb, ltb-true, leb-true}
+use Rattle.std.proofs.lemmas.Bool.{false≢true}
 use Rattle.rules.specs.Impulse.{longest_run}
 use Rattle.rules.specs.Lists.{at, up_to, All}
 use Rattle.rules.specs.Log.{Ring, Sound, repair_width}
@@ -108,21 +108,6 @@ held_fit cap r = ap records_fit (held_are cap r) ∙ fit_up_to (held_at cap r) r
 
 pub each_fits : (cap : ℕ) (r : Ring) (i : ℕ) → records_fit (held_records cap r) ≡ true → i < r.count → record_fits (held_at cap r i) ≡ true
 each_fits cap r i e h = all_at (λ j. record_fits (held_at cap r j)) r.count i (sym (held_fit cap r) ∙ e) h
-
--- ---- one original
-
-module _ (first k original : ℕ) (ys : List ℕ) where
-  by_tests : (a b : Bool) → leb first k ≡ a → ltb (k - first) (length ys) ≡ b → cond (a && b) (set ys (k - first) original) ys ≡ returned first ys k original
-  by_tests a b p q = λ i. cond (sym p i && sym q i) (set ys (k - first) original) ys
-
-  pub returned_before : k < first → ys ≡ returned first ys k original
-  returned_before h = by_tests false (ltb (k - first) (length ys)) (lt-leb first k h) refl
-
-  pub returned_in : first ≤ k → k - first < length ys → set ys (k - first) original ≡ returned first ys k original
-  returned_in h l = by_tests true true (le-leb first k h) (lt-ltb (k - first) (length ys) l)
-
-  pub returned_past : first ≤ k → length ys ≤ k - first → ys ≡ returned first ys k original
-  returned_past h l = by_tests true false (le-leb first k h) (le-ltb (k - first) (length ys) l)
 
 -- one original more, by the words read
 pub undone_step : (first : ℕ) (ws : List ℕ) (place t : ℕ) (xs ys zs : List ℕ) → t < longest_run → ys ≡ undone first (record_in ws place) t xs

@@ -18,8 +18,8 @@ use Rattle.iq.specs.declared.Iq.{Iq}
 use Rattle.iq.specs.declared.Iq.TheVariants as iq
 use Rattle.chain_state.specs.declared.InputConditioner.{InputConditioner}
 use Rattle.rules.specs.Impulse.{window_size, lookahead_size}
-use Rattle.chain_words.specs.Words.{flag_word, power_word, mode_word, iq_parts, run_parts, left_parts, begun_parts, powers_words, rings_words, samples_words, words_of}
-use Rattle.chain_words.specs.States.{flag_of, power_of, mode_at, complex_at, iq_at, run_at, left_at, begun_at, marks_in, state_of}
+use Rattle.chain_words.specs.Words.{flag_word, power_word, mode_word, iq_parts, run_parts, powers_words, rings_words, samples_words, words_of, option_parts}
+use Rattle.chain_words.specs.States.{flag_of, power_of, mode_at, complex_at, iq_at, run_at, marks_in, state_of, option_at}
 use Rattle.chain_words.specs.Typed.{Double, Doubles, IqTyped, Typed}
 use Rattle.chain_words.proofs.laws.Rings.{rings_words_length, marks_again}
 
@@ -61,13 +61,9 @@ run_again : (o : Option Run) → (let p = run_parts o in run_at p.0 p.1 p.2 p.3)
 run_again (Some r) = λ i. Some (record { start = r.start; len = r.len; paused = flag_again r.paused i })
 run_again None = refl
 
-left_again : (l : Option ℕ) → (let p = left_parts l in left_at p.0 p.1) ≡ l
-left_again (Some x) = refl
-left_again None = refl
-
-begun_again : (b : Option ℕ) → (let p = begun_parts b in begun_at p.0 p.1) ≡ b
-begun_again (Some f) = refl
-begun_again None = refl
+option_again : (o : Option ℕ) → (let p = option_parts o in option_at p.0 p.1) ≡ o
+option_again (Some x) = refl
+option_again None = refl
 
 -- ---- lists
 
@@ -172,7 +168,7 @@ module _ (s : InputConditioner) (t : Typed s) where
                     settings =
                         record { apply = flag_again g.settings.apply i; edition = edition_again g.settings.edition i; blocklen = g.settings.blocklen };
                     received = g.received;
-                    mending = record { run = run_again g.mending.run i; left = left_again g.mending.left i };
+                    mending = record { run = run_again g.mending.run i; left = option_again g.mending.left i };
                     block = record { number = g.block.number; flagged = g.block.flagged; paused = flag_again g.block.paused i };
                   };
               window = (ap (map power_of) window_there ∙ powers_again s.suppressor.window t.window) i;
@@ -180,7 +176,7 @@ module _ (s : InputConditioner) (t : Typed s) where
               pending = pending_there i;
             };
         blocker = record { a = double_again b.a t.a i; n = b.n; dc = complex_again b.dc t.dc i };
-        monitor = record { first = begun_again s.monitor.first i; end = s.monitor.end };
+        monitor = record { first = option_again s.monitor.first i; end = s.monitor.end };
         notes =
             record {
               log = record { marks = marks_there i };

@@ -2,4 +2,4 @@
 use Rattle.chain_words.proofs.mending_words.Goals as goal
 
 pub returns : goal.returns
-returns c = rw (c.left_words-left.ensures, c.run_words-run.ensures)
+returns c = rw (c.option_words-left.ensures, c.run_words-run.ensures)

@@ -2,4 +2,4 @@
 use Rattle.chain_words.proofs.monitor_words.Goals as goal
 
 pub returns : goal.returns
-returns c = rw c.begun_words-begun.ensures
+returns c = rw c.option_words-begun.ensures

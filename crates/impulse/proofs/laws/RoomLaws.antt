@@ -1,17 +1,13 @@
--- A push leaves the gate room for the next one, and the ordered array its length. Assumes nothing.
-use Rattle.std.specs.Prelude.{◌≡◌, refl, Bool, true, false, cond, List, ◌++◌, ℕ, ◌+◌, ◌-◌, ◌/◌, ◌%◌, ◌^◌, ◌≤◌, ◌<◌, ltb, eqb, length, get_or, take, drop, Float, Option, Some, None}
-use Rattle.std.proofs.Common.{ap, sym, subst, arith, length-append, length-take, length-drop, length-take-le, ltb-true}
+-- A push leaves the gate room for the next one. Assumes nothing.
+use Rattle.std.specs.Prelude.{◌≡◌, refl, Bool, true, false, cond, List, ℕ, ◌+◌, ◌-◌, ◌/◌, ◌%◌, ◌^◌, ◌≤◌, ◌<◌, ltb, eqb, get_or, Float, Option, Some, None}
+use Rattle.std.proofs.Common.{ap, sym, subst, arith}
 use Rattle.std.specs.Float.{nan}
-use Rattle.std.specs.Float.Ieee.{lt}
-use Rattle.rules.specs.Sort.{insert, remove}
-use Rattle.rules.proofs.laws.SortLaws.{insert_length, remove_length}
 use Rattle.rules.specs.Impulse.{Setting, standard, width}
 use Rattle.impulse.specs.declared.Run.{Run}
 use Rattle.impulse.specs.declared.GateSettings.{GateSettings}
 use Rattle.impulse.specs.declared.Mending.{Mending}
 use Rattle.impulse.specs.declared.Gate.{Gate}
 use Rattle.impulse.specs.declared.ImpulseSuppressor.{ImpulseSuppressor}
-use Rattle.impulse_window.specs.Ordered.{ordered}
 use Rattle.impulse.specs.Machine.{setting_of, arrived, with_block, next_block, entered, grown, going, Judgement, decided, judge, window_with, sorted_with}
 use Rattle.impulse.specs.Machine.{pending_with, verdict, push, flagged_by}
 use Rattle.impulse.specs.Room.{run_end, Room}
@@ -34,19 +30,6 @@ entered_keeps g j = go (eqb (j / g.settings.blocklen) g.block.number)
 
 pub entered_setting : (g : Gate) (j : ℕ) → setting_of (entered g j) ≡ setting_of g
 entered_setting g j = ap (λ (x : GateSettings). standard x.blocklen x.apply) (entered_keeps g j).settings
-
--- ---- the ordered array
-
-pub ordered_length : (w i : ℕ) (old p : Float) (l : List Float) → 0 < w → length l ≡ w → length (ordered w i old p l) ≡ w
-unfolding ordered
-ordered_length w i old p l z h = go (ltb i w) refl
-  where
-    go : (b : Bool) → ltb i w ≡ b → length (cond b (insert lt p (take i l) ++ drop (i + 1) l) (insert lt p (take (w - 1) (remove lt old l)))) ≡ w
-    go true e =
-        let k = ltb-true i w e in
-        let a = length-append (insert lt p (take i l)) (drop (i + 1) l) in
-        omega (arith, insert_length lt p (take i l), length-take-le i l (omega arith), length-drop (i + 1) l)
-    go false e = omega (arith, insert_length lt p (take (w - 1) (remove lt old l)), length-take (w - 1) (remove lt old l), remove_length lt old l)
 
 -- ---- room
 

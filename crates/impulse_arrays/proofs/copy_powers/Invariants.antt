@@ -1,6 +1,7 @@
--- `impulse_arrays::copy_powers` copies one power a turn. Assumes nothing.
-use Rattle.impulse_arrays.proofs.Powers.{Copied}
+-- `impulse_arrays::copy_powers`: what stands before place k is copied. Assumes nothing.
+use Rattle.std.proofs.Common.{◌≡◌, ℕ, ◌<◌, get_or}
+use lib.Ieee.{nan}
 use Rattle.impulse_arrays.proofs.copy_powers.Given as goal
 
 abbrev pub invariant-loop-k : goal.invariant-loop-k
-invariant-loop-k l = Copied l.window l.n l.initial.wide l.wide l.k
+invariant-loop-k l = (j : ℕ) → j < l.k → get_or l.wide j nan ≡ get_or l.powers j nan

@@ -4,7 +4,7 @@ use mathlib.Core.List.{List}
 use Prim.Native.Nat.{ℕ, ◌<◌}
 use native.Mathlib.Numerals.{add-one}
 use native.Mathlib.Omega.{arith}
-use lib.ListN.{get_or}
+use lib.ListN.{length, get_or}
 use lib.Ieee.{Float, nan, binary64, to_bits}
 use borrow.Author.Tests.{eq-eqb, ne_eqb}
 use Rattle.rules.specs.Constants.{zero_f}
@@ -31,10 +31,10 @@ module _ (c : After-to_bits64) where
   k = c.loop-k.k
 
   abbrev n : ℕ
-  n = c.args.n
+  n = length c.args.sorted.now
 
   here : k < n
-  here = c.loop-k-test.true
+  here = omega arith
 
   left : c.to_bits64-given.result ≡ to_bits binary64 (get_or xs k zero_f)
   left =
@@ -57,5 +57,5 @@ loop-k-preserved c =
 pub returns : goal.returns
 returns c =
     let l = c.loop-k in
-    let e : l.k ≡ c.args.n = omega arith in
+    let e : l.k ≡ length c.args.sorted.now = omega arith in
     sym (rw e at l.invariant)

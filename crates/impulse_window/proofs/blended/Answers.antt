@@ -41,7 +41,7 @@ loop-k-init c =
     let a = c.args in
     let m = blended a.old a.p a.sorted.now in
     let n = blended_length a.old a.p a.sorted.now in
-    let first = c.least.ensures ∙ ap (λ (x : Float). cond (lt x a.p) x a.p) c.moved.ensures
+    let first = c.least.ensures ∙ ap (λ (x : Float). cond (lt x a.p) x a.p) (c.all_moved-left.ensures 0 (omega arith))
     ∙ sym (blended_first a.old a.p a.sorted.now nan (omega arith)) in
     (refl, filled (c.least.result ∷ []) m 0 c.least.result nan (omega arith) (omega arith) refl first)
 
@@ -51,10 +51,14 @@ loop-k-preserved c =
     let i = c.loop-k in
     let m = blended a.old a.p a.sorted.now in
     let n = blended_length a.old a.p a.sorted.now in
-    let s = length-set i.out (i.k + 1) c.between.result in
-    let t = i.invariant.0 in (
+    let v = c.least-in-loop-k.result in
+    let s = length-set i.out (i.k + 1) v in
+    let t = i.invariant.0 in
+    let lower = c.most.ensures ∙ ap (λ (x : Float). most x a.p) (c.all_moved-left.ensures i.k (omega arith)) in
+    let upper : get_or c.all_moved-left.result (i.k + 1) nan ≡ moved a.old (get_or a.sorted.now (i.k + 1) nan) (get_or a.sorted.now (i.k + 2) nan) =
+    let two : i.k + 1 + 1 ≡ i.k + 2 = omega arith in c.all_moved-left.ensures (i.k + 1) (omega arith) ∙ ap (λ (n : ℕ). moved a.old (get_or a.sorted.now (i.k + 1) nan) (get_or a.sorted.now n nan)) two in (
       omega arith,
-      next a.old a.p a.sorted.now i.out i.k c.between.result (omega arith) (omega arith) i.invariant.1 c.between.ensures,
+      next a.old a.p a.sorted.now i.out i.k v (omega arith) (omega arith) i.invariant.1 (c.least-in-loop-k.ensures ∙ (λ j. least (upper j) (lower j))),
     )
 
 pub returns : goal.returns
@@ -62,5 +66,5 @@ returns c =
     let a = c.args in
     let i = c.loop-k in
     let e : i.k ≡ window_size - 2 = omega arith in
-    let v = c.most.ensures ∙ ap (λ (x : Float). cond (lt x a.p) a.p x) c.moved-2.ensures in
-    whole a.old a.p a.sorted.now i.out c.most.result (search rules) i.invariant.0 (rw e at i.invariant.1) v
+    let v = c.most-2.ensures ∙ ap (λ (x : Float). cond (lt x a.p) a.p x) (c.all_moved-left.ensures (window_size - 2) (omega arith)) in
+    whole a.old a.p a.sorted.now i.out c.most-2.result (search rules) i.invariant.0 (rw e at i.invariant.1) v

@@ -3,7 +3,7 @@ use Prim.Native.Nat.{ℕ, ◌≤◌, ◌^◌}
 use native.Mathlib.Omega.{arith}
 use lib.Dec.{T, le→leb}
 use lib.IntN.{pos}
-use lib.Seq.{length-take-le}
+use lib.ListN.{length}
 use lib.Ieee.{binary64, in_float}
 use Rattle.rules.specs.Impulse.{window_size}
 use Rattle.impulse_window.specs.Ordered.{mean}
@@ -14,11 +14,8 @@ unfolding in_float
 small n h = le→leb n (2 ^ 53) (omega arith)
 
 pub int_to_float-result : goal.int_to_float-result
-int_to_float-result c = small c.args.n (omega arith)
+int_to_float-result c = small (length c.args.powers.now) c.requires
 
 pub returns : goal.returns
 unfolding mean
-returns c =
-    let a = c.args in
-    let n = length-take-le a.n a.sorted.now (omega arith) in
-    rw (c.sum.ensures, n)
+returns c = rw c.sum.ensures

@@ -7,4 +7,4 @@ use Rattle.rules.specs.Constants.{zero_f}
 use Rattle.impulse_window.proofs.sum.Given as goal
 
 abbrev pub invariant-loop-p : goal.invariant-loop-p
-invariant-loop-p l = l.s ≡ foldl (add binary64) zero_f (take l.p-index l.sorted)
+invariant-loop-p l = l.s ≡ foldl (add binary64) zero_f (take l.p-index l.powers)

@@ -1,7 +1,10 @@
 -- `iq_correction::revert_iq` refuses in the order 10, 7, and else undoes all samples. Assumes nothing.
-use Rattle.std.proofs.Common.{true, false, ltb, [], ◌∷◌, length, sym, refl, ap, ◌∙◌, le-ltb, lt-ltb}
+use Rattle.std.proofs.Common.{true, false, sym, refl, ap, ◌∙◌}
+use Rattle.std.proofs.lemmas.Result.{err_from_is_err_and}
 use Rattle.complex.specs.View.{view64}
+use Rattle.refusal.specs.Words.{words_of}
 use Rattle.amplitude_limit.specs.Limit.{returned}
+use Rattle.amplitude_limit.proofs.laws.LimitLaws.{checked_err, checked_ok}
 use Rattle.iq_correction.proofs.laws.UndoLaws.{undo_by}
 use Rattle.iq_correction.proofs.revert_iq.Goals as goal
 
@@ -12,29 +15,18 @@ returns-then-not-accepted c =
     let u = undo_by (view64 a.rho) a.samples.now false _ (sym c.accepted.ensures ∙ c.if-not-accepted.true) refl in
     record { answer = u.0; written = u.1 }
 
-pub returns-then-place-samples : goal.returns-then-place-samples
+pub returns-in_err-check : goal.returns-in_err-check
 unfolding returned
-returns-then-place-samples c =
+returns-in_err-check c =
     let a = c.args in
-    let k = c.first_beyond-place.ensures in
-    let u = undo_by (view64 a.rho) a.samples.now true true
-    (sym c.accepted.ensures ∙ c.if-not-accepted.false)
-    (ap (λ n. ltb n (length a.samples.now)) (sym k) ∙ lt-ltb _ _ c.if-place-samples.true) in
-    record {
-      answer = ap (λ n. 7 ∷ n ∷ []) k ∙ u.0;
-      written = u.1;
-    }
+    let p = err_from_is_err_and c.from_residual.result c.from_residual.ensures.1 in
+    let e = checked_err a.samples.now _ c.in_err-check.ensures in
+    let u = undo_by (view64 a.rho) a.samples.now true true (sym c.accepted.ensures ∙ c.if-not-accepted.false) e.0 in
+    record { answer = rw (p.1, p.2) (ap words_of e.1 ∙ u.0); written = u.1 }
 
 pub returns : goal.returns
 unfolding returned
 returns c =
     let a = c.args in
-    let k = c.first_beyond-place.ensures in
-    let u = undo_by (view64 a.rho) a.samples.now true false
-    (sym c.accepted.ensures
-    ∙ c.if-not-accepted.false)
-    (ap (λ n. ltb n (length a.samples.now)) (sym k) ∙ le-ltb _ _ c.if-place-samples.false) in
-    record {
-      answer = u.0;
-      written = c.uncorrect_all.ensures ∙ u.1;
-    }
+    let u = undo_by (view64 a.rho) a.samples.now true false (sym c.accepted.ensures ∙ c.if-not-accepted.false) (checked_ok _ c.in_ok-check.ensures) in
+    record { answer = u.0; written = c.uncorrect_all.ensures ∙ u.1 }

@@ -1,44 +1,23 @@
 -- A header's bytes by the answers of their tests; a configuration stands in the code's types as in the rules'. Assumes nothing.
-use Rattle.std.specs.Prelude.{◌≡◌, refl, Option, Some, None, Bool, true, false, ◌&&◌, List, ℕ, zero, suc, leb, eqb, length}
+use Rattle.std.specs.Prelude.{◌≡◌, refl, Option, Some, None, Bool, ◌&&◌, List, ℕ, zero, suc, leb, length}
 use Rattle.std.proofs.Math.Path.{ap}
 use Rattle.std.proofs.Math.Bool.{cond}
 use Rattle.rules.specs.Iq as rules
 use Rattle.rules.specs.Iq.{with}
-use Rattle.rules.specs.Mode.{apply}
 use Rattle.stage_mode.specs.declared.StageMode.{StageMode}
 use Rattle.stage_mode.specs.declared.StageMode.TheVariants as mode
-use Rattle.rules.specs.Pauses.{first, second}
 use Rattle.impulse_pause.specs.declared.PauseEdition.{PauseEdition}
 use Rattle.impulse_pause.specs.declared.PauseEdition.TheVariants as edition
-use Rattle.impulse_pause.specs.View.{edition_of, numbered}
+use Rattle.impulse_pause.specs.View.{edition_of}
 use Rattle.iq.specs.declared.IqCalibration.{IqCalibration}
 use Rattle.iq.specs.View.{calibrated_of}
 use Rattle.stage_mode.specs.View.{mode_of}
 use Rattle.chain_config.specs.declared.ConditioningConfig.{ConditioningConfig}
 use Rattle.chain_config.specs.Config.{config_of}
-use Rattle.replay_format.specs.Format.{header_size, mark_fits, version_in, version_fits, edition_by, modes_fit, header_fits, mode_by, calibration_by, config_in}
+use Rattle.replay_format.specs.Format.{header_size, mark_fits, version_in, version_fits, modes_fit, header_fits, calibration_by, config_in}
 use Rattle.replay_format.specs.Header.{refused, config, header_said, mode_from, edition_from, calibration_from, config_from}
 
--- ---- tests
-
--- where the others pass, the last decides
-pub last_test : (a b : Bool) → a ≡ true → b ≡ (a && b)
-last_test a b e = rw e
-
 -- ---- a byte
-
-pub mode_apply : (b : ℕ) → (b ≡ 0 → ⊥) → (b ≡ 1 → ⊥) → apply ≡ mode_by b
-mode_apply zero h g = absurd (h refl)
-mode_apply (suc zero) h g = absurd (g refl)
-mode_apply (suc (suc b)) h g = refl
-
--- the edition of a number, in the code's type and in the rules'
-pub edition_by_lem : (version : ℕ) → edition_of (numbered version) ≡ edition_by version
-edition_by_lem version = go (eqb version 2)
-  where
-    go : (b : Bool) → edition_of (cond b edition.Second edition.First) ≡ cond b second first
-    go true = refl
-    go false = refl
 
 pub present : (b : ℕ) (c : rules.Calibration) → (b ≡ 0 → ⊥) → with c ≡ calibration_by b c
 present zero c h = absurd (h refl)

@@ -49,11 +49,6 @@ pub written_none : (text : List ℕ) (place : ℕ) → Written text place [] tex
 unfolding put
 written_none text place = record { store = refl; stop = omega arith }
 
--- the same bytes by another name
-pub written_as : {text : List ℕ} {place : ℕ} {cs bs : List ℕ} {after : List ℕ} {end : ℕ} → cs ≡ bs → Written text place cs after end
-    → Written text place bs after end
-written_as {text} {place} {cs} {bs} {after} {end} e w = subst (λ (l : List ℕ). Written text place l after end) e w
-
 module _ {text : List ℕ} {place : ℕ} {cs : List ℕ} {middle : List ℕ} {stop : ℕ} {bs : List ℕ} {after : List ℕ} {end : ℕ} where
   pub written_then : Written text place cs middle stop → Written middle stop bs after end → Written text place (cs ++ bs) after end
   written_then u v =
@@ -68,11 +63,6 @@ module _ {text : List ℕ} {place : ℕ} {cs : List ℕ} {middle : List ℕ} {st
             ∙ sym (put_append text place cs bs);
         stop = omega (arith, u.stop, v.stop, l, length-append cs bs);
       }
-
--- and nothing behind it
-pub written_last : {text : List ℕ} {place : ℕ} {cs : List ℕ} {after : List ℕ} {end : ℕ} → Written text place cs after end
-    → Written text place (cs ++ []) after end
-written_last {text} {place} {cs} w = written_as (sym (append-nil cs)) w
 
 -- ---- the same of texts in stores
 

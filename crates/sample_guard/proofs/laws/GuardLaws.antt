@@ -127,9 +127,6 @@ pub record Guarding (xs₀ xs : List ℕ) (n k : ℕ) : Type 0 where
   pub count : n + unusable (drop k xs) ≡ unusable xs₀
   pub few : n ≤ k
 
-pub guarding_start : (xs : List ℕ) → Guarding xs xs 0 0
-guarding_start xs = record { within = omega arith; long = refl; words = refl; count = omega arith; few = omega arith }
-
 guarded_here : (xs : List ℕ) (k : ℕ) → k < length xs → guarded (drop k xs) ≡ cond (usable (at xs k)) (at xs k) 0 ∷ guarded (drop (suc k) xs)
 unfolding guarded
 guarded_here xs k h = ap (map (λ w. cond (usable w) w 0)) (drop-cons xs k 0 h)

@@ -1,16 +1,15 @@
 -- `ImageMonitor::observe` is `observed`, test by test. Assumes nothing.
 use mathlib.Core.Path.{◌≡◌, refl, sym, ap, ◌∙◌}
-use Prim.Native.Nat.{ℕ}
 use mathlib.Core.Bool.{true, false}
 use lib.ListN.{length}
-use lib.Dec.{ltb}
 use native.Mathlib.Omega.{arith}
-use borrow.Author.Tests.{lt-ltb, le-ltb}
+use borrow.Author.Tests.{lt-ltb, le-ltb, ltb-false}
+use Rattle.std.proofs.lemmas.Result.{err_from_is_err_and}
 use Rattle.std.specs.Prelude.{Err}
 use Rattle.rules.specs.Refusals.{bad_start, any_beyond, first_beyond_from}
-use Rattle.refusal.specs.declared.Refusal.TheVariants as why
-use Rattle.amplitude_limit.proofs.laws.LimitLaws.{first_place}
-use Rattle.iq_monitor.specs.Observe.{leaving, is_none}
+use Rattle.refusal.specs.declared.Refusal.{Refusal}
+use Rattle.amplitude_limit.proofs.laws.LimitLaws.{first_place, checked_err, checked_ok}
+use Rattle.iq_monitor.specs.Observe.{leaving, is_none, observed}
 use Rattle.iq_monitor.proofs.laws.ObserveLaws.{observed_by, said_seen, wrong_length, right_length, start_above, start_within}
 use Rattle.iq_monitor.proofs.ImageMonitor.observe.Goals as goal
 use Rattle.iq_monitor.proofs.ImageMonitor.observe.Goals.{then-x-n-via-then-x-n, then-x-n-via-else-x-n+then-n-lt8}
@@ -40,22 +39,25 @@ returns-then-start-gt-TOTAL_LIMIT c =
     let e = sym (observed_by m a.fs a.n a.x.now a.start a.words.now false true (any_beyond a.x.now).holds some early refl) in
     record { seen = e; said = said_seen m a.fs a.n a.x.now a.start a.words.now _ e }
 
-pub returns-then-place-x : goal.returns-then-place-x
-returns-then-place-x c =
+pub returns-in_err-check : goal.returns-in_err-check
+returns-in_err-check c =
     let a = c.args in
     let m = a.self.now in
-    let place = c.first_beyond-place in
+    let p = err_from_is_err_and c.from_residual.result c.from_residual.ensures.1 in
     let some = right_length false a.n a.x.now c.if-x-n.false (le-ltb a.n 8 c.if-n-lt8.false) in
     let next = start_within false m.end a.start c.if-start-gt-TOTAL_LIMIT.false (le-ltb a.start m.end c.if-start-self.false) in
-    let beyond = ap (λ (k : ℕ). ltb k (length a.x.now)) (sym place.ensures) ∙ lt-ltb place.result (length a.x.now) c.if-place-x.true in
-    let e = ap (λ (k : ℕ). leaving m a.words.now (Err (why.OutOfRange k))) place.ensures
-    ∙ sym (observed_by m a.fs a.n a.x.now a.start a.words.now false false true some next beyond) in
+    let beyond = checked_err a.x.now _ c.in_err-check.ensures in
+    let e : leaving m a.words.now c.from_residual.result ≡ observed m a.fs a.n a.x.now a.start a.words.now =
+    rw (p.1, p.2)
+    (ap (λ (r : Refusal). leaving m a.words.now (Err r)) beyond.1
+    ∙ sym (observed_by m a.fs a.n a.x.now a.start a.words.now false false true some next beyond.0)) in
     record { seen = e; said = said_seen m a.fs a.n a.x.now a.start a.words.now _ e }
 
 pub accept-requires : goal.accept-requires
 accept-requires c =
     let most = (first_place c.args.x.now).most in
-    let within : first_beyond_from 0 c.args.x.now ≡ length c.args.x.now = omega (arith, c.first_beyond-place.ensures, c.if-place-x.false) in
+    let all = ltb-false (first_beyond_from 0 c.args.x.now) (length c.args.x.now) (checked_ok _ c.in_ok-check.ensures) in
+    let within : first_beyond_from 0 c.args.x.now ≡ length c.args.x.now = omega arith in
     let n = c.if-x-n.false in
     record {
       lent = (omega (arith, c.requires.lent.0), omega (arith, c.requires.lent.1));
@@ -68,9 +70,8 @@ pub returns : goal.returns
 returns c =
     let a = c.args in
     let m = a.self.now in
-    let place = c.first_beyond-place in
     let some = right_length false a.n a.x.now c.if-x-n.false (le-ltb a.n 8 c.if-n-lt8.false) in
     let next = start_within false m.end a.start c.if-start-gt-TOTAL_LIMIT.false (le-ltb a.start m.end c.if-start-self.false) in
-    let all = ap (λ (k : ℕ). ltb k (length a.x.now)) (sym place.ensures) ∙ le-ltb place.result (length a.x.now) c.if-place-x.false in
+    let all = checked_ok _ c.in_ok-check.ensures in
     let e = c.accept.ensures ∙ sym (observed_by m a.fs a.n a.x.now a.start a.words.now false false false some next all) in
     record { seen = e; said = said_seen m a.fs a.n a.x.now a.start a.words.now _ e }
