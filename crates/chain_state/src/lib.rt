@@ -162,10 +162,7 @@ fn coefficient_fits(iq: Iq) -> bool
 fn begun_fits(first: Option<u64>, end: u64) -> bool
     ensures { result ≡ begun_fits first end }
 {
-    match first {
-        None => true,
-        Some(f) => f <= end,
-    }
+    first.is_none_or(|f| f <= end)
 }
 
 #[tactic(auto, unfolding(crate::specs::Fits::monitor_fits))]

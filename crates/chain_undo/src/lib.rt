@@ -26,7 +26,7 @@ fn record_fits(repairs: &[u64], place: usize) -> bool
     0 < len && len <= ImpulseSuppressor::MAX_RUN as u64 && start <= stage_log::TOTAL_LIMIT
 }
 
-// Whether every held record does.
+// Whether every held record does. The records are counted, here and below: they go round the ring.
 fn records_fit(ring: Ring, repairs: &[u64], capacity: usize) -> bool
     requires { Sound repair_width capacity (ring_in ring repairs.now) }
     ensures { result ≡ records_fit (held_records capacity (ring_in ring repairs.now)) }

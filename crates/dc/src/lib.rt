@@ -224,6 +224,7 @@ fn restore(y: &[u64], fs: f64, out: &mut [u64])
     ensures { out.new ≡ restored_all (corner fs) first_level y.now }
 {
     let mut blocker = DcBlocker::fresh(fs);
+    // by number: over `zip` with `iter_mut` a proof knows no element
     for (k, o) in out.iter_mut().enumerate() {
         *o = blocker.restore_sample(y[k]);
     }

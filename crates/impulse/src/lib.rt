@@ -25,8 +25,7 @@ pub struct Run {
     pub paused: bool,
 }
 
-// What making settled. The edition stands beside the other small field: behind the block length it would
-// cost one more copy wherever a gate moves.
+// What making settled.
 #[derive(Clone, Copy)]
 pub struct GateSettings {
     pub apply: bool,

@@ -86,6 +86,7 @@ fn copy_powers(powers: &[f32], wide: &mut [f64])
     requires { length wide.old ≡ length powers.now }
     ensures { wide.new ≡ powers.now }
 {
+    // by number: over `zip` with `iter_mut` a proof knows no element
     for (k, w) in wide.iter_mut().enumerate() {
         *w = ieee::widen(powers[k]);
     }

@@ -34,7 +34,8 @@ fn beside(sorted: &[f32; WINDOW], gap: usize, k: usize) -> f32
     if k < gap { sorted[k] } else { sorted[k + 1] }
 }
 
-// Where p goes among the first n powers, the gap left out: before the first that is not below it.
+// Where p goes among the first n powers, the gap left out: before the first that is not below it. The places
+// are counted, because an array with a gap is no slice.
 fn rank(sorted: &[f32; WINDOW], n: usize, gap: usize, p: f32) -> usize
     requires { (n < window_size) × (gap < window_size) }
     ensures { result ≡ rank lt p (take n (without sorted.now gap)) }
@@ -89,7 +90,8 @@ fn at_most(a: f32, b: f32) -> bool
     a <= b
 }
 
-// Whether they do. None is a NaN then. There is no branch in the loop, here and in `blended`.
+// Whether they do. None is a NaN then. There is no branch in the loop, here and in `blended`. The neighbours are
+// read by number: `windows(2)` would hand on a slice for each, whose length is one more fact.
 fn ascends(sorted: &[f32; WINDOW]) -> bool
     ensures result { result ≡ climbs le zero_f sorted.now }
     ensures values { All Held sorted.now }

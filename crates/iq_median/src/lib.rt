@@ -37,7 +37,7 @@ fn sink(part: &mut [f64], k: usize)
 {
     let a = part[k];
     let mut i = k;
-    // the walk finds the place where it stops: how many turns that takes is not known before
+    // one walk finds the place and moves what stands before it; a search and then a move would be two
     while i + 1 < part.len() && part[i + 1] < a {
         part[i] = part[i + 1];
         i += 1;
@@ -74,7 +74,7 @@ fn is_plain(x: f64) -> bool
     f64::to_bits(x) < 0x8000_0000_0000_0000
 }
 
-// Whether all are: then their order is total.
+// Whether all are: then their order is total. Those that are not are counted, with no branch in the loop.
 pub fn all_plain(part: &[f64]) -> bool
     ensures { (result ≡ all_of sign_clear part.now) × All (λ x. T (fits binary64 x)) part.now }
 {
@@ -105,6 +105,7 @@ fn keep<F: Fn(f64) -> bool>(part: &mut [f64], keeps: F) -> usize
     ensures kept { (t : Float → Bool) → ((x : Float) (b : Bool) → F.post keeps x b → b ≡ t x) → take result part.new ≡ passing t part.old }
 {
     let mut kept: usize = 0;
+    // by number: a word is written behind the one that is read
     for k in 0..part.len() {
         let x = part[k];
         part[kept] = x;

@@ -298,10 +298,7 @@ const WORD_LIMIT: f64 = 1.0e60;
 fn word_fits(x: f64) -> bool
     ensures { result ≡ sum_fits x }
 {
-    if -WORD_LIMIT <= x {
-        return x <= WORD_LIMIT;
-    }
-    false
+    -WORD_LIMIT <= x && x <= WORD_LIMIT
 }
 
 // Whether all words are. It counts those that are not, and does not stop at the first: at every hop all

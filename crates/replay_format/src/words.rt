@@ -9,7 +9,8 @@ use refusal::Refusal;
 // The bytes of a sample.
 pub const SAMPLE_SIZE: usize = 8;
 
-// The word of the eight bytes from k on, the low byte first.
+// The word of the eight bytes from k on, the low byte first. They are named one by one, so that an edit can read one
+// twice (`byte_twice`).
 pub fn word_at(bytes: &[u8], k: usize) -> u64
     requires { k + 8 ≤ length bytes.now }
     ensures { result ≡ word_at bytes.now k }
@@ -31,6 +32,7 @@ pub fn read_words(bytes: &[u8], words: &mut [u64])
     requires { sample_size * length words.old ≤ length bytes.now }
     ensures { words.new ≡ take (length words.old) (words_in bytes.now) }
 {
+    // by number: over `zip` with `iter_mut` a proof knows no element
     for (k, word) in words.iter_mut().enumerate() {
         *word = word_at(bytes, SAMPLE_SIZE * k);
     }

@@ -16,5 +16,5 @@ by_first x t e = sym (size-le x 1401298464324817 (pos 149) ∙ ap (λ (s : Bool)
 pub returns-then-x : goal.returns-then-x
 returns-then-x c = by_first c.args.x true c.if-x.true
 
-pub returns : goal.returns
-returns c = by_first c.args.x false c.if-x.false
+pub returns-else-x : goal.returns-else-x
+returns-else-x c = c.if-x.false ∙ by_first c.args.x false c.if-x.false
