@@ -79,7 +79,7 @@ fn correct(iq: Iq, samples: &mut [u64], ready: usize)
     iq_correction::process(iq, &mut samples[..ready]);
 }
 
-// An applying DC stage marks what is released.
+// An applying DC stage marks what is released. Log, store and capacity are what `Log::mark` takes, here and below.
 fn mark_dc(log: &mut Log, mode: StageMode, spans: &mut [u64], capacity: usize, span: Span)
     requires bounded { Bounded capacity (2 ^ 54) (record { log = log.old; spans = spans.old }) }
     requires start_bound { (span.start ≤ 2 ^ 52) × (span.len ≤ total_limit) }

@@ -125,6 +125,7 @@ fn power_of(w: u64) -> f32
     ieee::from_bits32((w % 0x1_0000_0000) as u32)
 }
 
+// No `From`, here and below: the number is that of a state's words, and not the mode's own.
 pub fn mode_word(mode: StageMode) -> u64
     ensures { result ≡ mode_word mode }
 {
@@ -403,7 +404,7 @@ fn notes_words(n: Notes) -> [u64; 4]
     [ring[0], ring[1], ring[2], n.longruns]
 }
 
-// ---- reading the arrays and the log
+// ---- reading the arrays and the log: by number, since each stands at its place among the words, here and below
 
 fn read_powers(words: &[u64; STATE_WORDS], at: usize) -> [f32; ImpulseSuppressor::WINDOW]
     requires { at + window_size ≤ place.state_words }

@@ -19,7 +19,8 @@ use refusal::Refusal;
 
 const TAU: f64 = 6.283185307179586;
 
-// The level `dc` with its `n` updates, and the weight `a` that the corner gives.
+// The level `dc` with its `n` updates, and the weight `a` that the corner gives. Room for one more update is asked by
+// the functions that need it: as an invariant it would be asked of all who make a blocker.
 #[derive(Clone, Copy)]
 pub struct DcBlocker {
     pub a: f64,

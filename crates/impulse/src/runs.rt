@@ -78,6 +78,7 @@ pub fn mend(
     requires { (n ≤ longest_run) × (start + n ≤ 2 ^ 52) }
     ensures { pending.new ≡ write_run lookahead_size pending.old left right start n n }
 {
+    // by number: a run goes round the array
     for t in 0..n {
         pending[place(start + t)] = mended_word(left, right, t, n);
     }

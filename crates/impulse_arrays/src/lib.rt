@@ -86,7 +86,7 @@ fn copy_powers(powers: &[f32], wide: &mut [f64])
     requires { length wide.old ≡ length powers.now }
     ensures { wide.new ≡ powers.now }
 {
-    // by number: over `zip` with `iter_mut` a proof knows no element
+    // by number, here and below: over `zip` with `iter_mut` a proof knows no element
     for (k, w) in wide.iter_mut().enumerate() {
         *w = ieee::widen(powers[k]);
     }
@@ -147,6 +147,7 @@ fn strictly_ascends(sorted: &[f32; ImpulseSuppressor::WINDOW]) -> bool
     ensures values { All Held sorted.now }
 {
     let mut rising = below(0.0, sorted[0]);
+    // by number, as `impulse_window::ascends`
     for k in 0..ImpulseSuppressor::WINDOW - 1 {
         rising = rising & below(sorted[k], sorted[k + 1]);
     }

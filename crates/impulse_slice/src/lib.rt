@@ -14,6 +14,9 @@ use stage_log::{Mark, Notes, Repair, Span, Stage};
 
 // ---- telling the log
 
+// The notes and the two stores with their capacities go together here. They stay parameters: a struct of them would
+// hold the stores' loans, and what a loan in a field leaves takes more words to say than their names.
+
 // A judged sample of a paused block is uncertain.
 fn note_doubt(notes: &mut Notes, doubt: bool, j: u64, spans: &mut [u64], span_capacity: usize)
     requires bounded { Bounded span_capacity (2 ^ 60) (record { log = notes.old.log; spans = spans.old }) }

@@ -52,6 +52,7 @@ fn modes_fit(bytes: &[u8; HEADER_SIZE]) -> bool
     bytes[5] <= 2 && bytes[6] <= 2 && bytes[7] <= 2 && bytes[8] <= 1
 }
 
+// The number is the header's, and not the mode's own.
 fn mode_by(byte: u8) -> StageMode
     ensures { mode_of result ≡ mode_by byte }
 {

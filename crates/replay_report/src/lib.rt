@@ -47,7 +47,7 @@ fn put_counts(text: &mut Text, log: &Log)
 
 // ---- the spans
 
-// The spans of a ring, the oldest first.
+// The spans of a ring, the oldest first. The log is asked for each by its number.
 fn put_spans_of(text: &mut Text, state: &InputConditioner, spans: &[u64], stage: Stage, kind: Mark)
     ensures { Added text.old (shown_lines state.now spans.now (stage_of stage) (mark_of kind)) text.new }
 {

@@ -344,7 +344,7 @@ impl Log {
         true
     }
 
-    // Whether every ring's newest span ends in range.
+    // Whether every ring's newest span ends in range. The number of a ring says which part of the store is its own.
     pub fn ends_fit(self, spans: &[u64], capacity: usize) -> bool
         requires { (log_fits capacity self ≡ true) × (length spans.now ≡ capacity * store_width) }
         ensures { result ≡ ends_fit capacity (record { log = self; spans = spans.now }) }

@@ -127,23 +127,26 @@ fn show_chain(rt: &impl Print, b: Bench) -> io::Result<()> {
 // number, and the chain that it gives.
 #[derive(Clone, Copy)]
 struct Reading {
-    part: u64,
+    part: Part,
     place: u64,
     decimal: u64,
     hexadecimal: u64,
     bench: Bench,
 }
 
-// The parts of a line; behind them are its words.
-const LETTER: u64 = 0;
-
-const CAUSE: u64 = 1;
+// The parts of a line.
+#[derive(Clone, Copy, Debug, PartialEq, Eq)]
+enum Part {
+    Letter,
+    Cause,
+    Words,
+}
 
 // A place where no word stands.
 const NOWHERE: u64 = 263;
 
 // The part of a line, and no word yet.
-fn in_part(part: u64, bench: Bench) -> Reading {
+fn in_part(part: Part, bench: Bench) -> Reading {
     Reading {
         part,
         place: NOWHERE,
@@ -193,7 +196,7 @@ fn with_place(r: Reading) -> Reading {
 fn end_line(rt: &impl Print, r: Reading) -> io::Result<Reading> {
     let bench = given(r);
     show_chain(rt, bench)?;
-    Ok(in_part(LETTER, bench))
+    Ok(in_part(Part::Letter, bench))
 }
 
 fn read_word(rt: &impl Print, r: Reading, c: u8) -> io::Result<Reading> {
@@ -210,25 +213,32 @@ fn say_byte(rt: &impl Print, c: u8) -> io::Result<()> {
     rt.write_all(&text)
 }
 
-fn read(rt: &impl Print, r: Reading, c: u8) -> io::Result<Reading> {
-    let part = r.part;
-    if c == b'|' {
-        return Ok(in_part(part % 2 + 1, r.bench));
-    }
+// The part behind a bar: the words behind the cause, and else the cause.
+fn behind(part: Part) -> Part {
     match part {
-        LETTER => Ok(in_part(LETTER, chain(c))),
-        CAUSE => {
+        Part::Letter | Part::Words => Part::Cause,
+        Part::Cause => Part::Words,
+    }
+}
+
+fn read(rt: &impl Print, r: Reading, c: u8) -> io::Result<Reading> {
+    if c == b'|' {
+        return Ok(in_part(behind(r.part), r.bench));
+    }
+    match r.part {
+        Part::Letter => Ok(in_part(Part::Letter, chain(c))),
+        Part::Cause => {
             say_byte(rt, c)?;
             Ok(r)
         }
-        _ => read_word(rt, r, c),
+        Part::Words => read_word(rt, r, c),
     }
 }
 
 // ---- all lines
 
 fn read_all(rt: &impl Print, text: &[u8]) -> io::Result<()> {
-    let mut r = in_part(LETTER, chain(b'a'));
+    let mut r = in_part(Part::Letter, chain(b'a'));
     for c in text {
         r = read(rt, r, *c)?;
     }

@@ -103,7 +103,7 @@ pub fn stores(
     show_first(rt, &monitor, c, head.how)
 }
 
-// ---- a span
+// ---- a span: its ring by the numbers that the C library takes, whose own functions no program can call
 
 fn stage(w: u64) -> Stage {
     match w {

@@ -3,7 +3,7 @@
 // the same state when it is read.
 #![tactic(auto)]
 
-ghost use Rattle.std.specs.Prelude.{◌≡◌, length};
+ghost use Rattle.std.specs.Prelude.{◌≡◌};
 ghost use Rattle.rules.specs.Log.{repair_width, store_width};
 ghost use Rattle.rules.specs.Monitor.{channel_width};
 ghost use Rattle.iq_monitor.specs.Observe.{report_from};
@@ -280,11 +280,6 @@ fn log_numbers(l: &ConditioningLog) -> [u64; LOG_NUMBERS]
     ]
 }
 
-// How many words are lent, which their type says.
-fn sized(out: [u64; LOG_WORDS])
-    ensures { length out ≡ log.word_count }
-{}
-
 // The log of a state, in every word of `out`: the samples seen, released and held; the dropped spans;
 // the repair ring's head, count and dropped; the runs that were too long; the DC level, a tag and two
 // words, and on how many samples its update was clamped; what IQ settled, a tag and two words; of each of
@@ -293,7 +288,6 @@ fn sized(out: [u64; LOG_WORDS])
 pub extern "C" fn vg_log(state: &[u64; chain_words::STATE_WORDS], out: &mut [u64; LOG_WORDS])
     ensures { out.new ≡ log.after state.now }
 {
-    sized(*out);
     let l = chain_log::log(&chain_words::read_state(state));
     chain_words::put(&log_numbers(&l), out, 0);
     chain_words::put_log(l.notes.log, out, LOG_NUMBERS);

@@ -21,6 +21,6 @@ returns c =
     let end = rest.new.words in
     let log = words.log_words l.notes.log in
     let front = behind 0 number_count [] numbers.result (number_words l) out put.new.words refl numbers.ensures refl put.ensures.front in
-    let long : length end ≤ word_count = omega (arith, rest.ensures.sized, put.ensures.sized, c.sized.ensures) in
+    let long : length end ≤ word_count = omega (arith, rest.ensures.sized, put.ensures.sized) in
     let all : end ≡ log_words l = sym (take_all word_count end long) ∙ rest.ensures.front ∙ ap (λ (x : List ℕ). x ++ log) front in
     all ∙ ap log_words (c.log-l.ensures.log ∙ ap log_of c.read_state.ensures)
