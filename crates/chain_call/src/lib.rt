@@ -56,7 +56,8 @@ fn suppress(
     )
 }
 
-// The DC stage over the first `ready` samples: on how many its update was clamped.
+// The DC stage over the first `ready` samples: on how many its update was clamped. The slice comes whole, here and below,
+// so that the contract says that the rest of it stays.
 fn remove_dc(mode: StageMode, blocker: &mut DcBlocker, samples: &mut [u64], ready: usize) -> u64
     requires ready_in_bounds { ready ≤ length samples.old }
     requires ready_bound { blocker.old.n + ready < 2 ^ 64 }

@@ -26,7 +26,7 @@ fn record_fits(repairs: &[u64], place: usize) -> bool
     0 < len && len <= ImpulseSuppressor::MAX_RUN as u64 && start <= stage_log::TOTAL_LIMIT
 }
 
-// Whether every held record does. The records are counted, here and below: they go round the ring.
+// Whether every held record does. The records are counted, here and in `undo_records`: they go round the ring.
 fn records_fit(ring: Ring, repairs: &[u64], capacity: usize) -> bool
     requires { Sound repair_width capacity (ring_in ring repairs.now) }
     ensures { result ≡ records_fit (held_records capacity (ring_in ring repairs.now)) }
@@ -58,6 +58,7 @@ fn undo_record(samples: &mut [u64], first: u64, repairs: &[u64], place: usize)
     ensures { samples.new ≡ undone first (record_in repairs.now place) (at (record_in repairs.now place) 1) samples.old }
 {
     let start = repairs[place];
+    // by number: it says which sample an original is of
     for t in 0..repairs[place + 1] {
         put_back(samples, first, start + t, repairs[place + 2 + t as usize]);
     }

@@ -1,4 +1,5 @@
-// A run in the circular array of pending samples: its originals, and its samples mended.
+// A run in the circular array of pending samples: its originals, and its samples mended. A run goes as its first
+// sample and its length, as a repair holds them.
 
 ghost use Rattle.std.specs.Prelude.{◌≡◌, ◌+◌, ◌%◌, ◌^◌, ◌≤◌, ◌<◌, get_or, set};
 ghost use Rattle.complex.specs.View.{view32, make32};

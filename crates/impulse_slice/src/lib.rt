@@ -210,6 +210,7 @@ pub fn run(
     ensures written { samples.new ≡ over (handed (setting_of suppressor.old.gate) suppressor.old (drop held samples.old)) samples.old }
 {
     let mut out: usize = 0;
+    // by number: what is released is written in front of what is read
     for k in held..samples.len() {
         out = take(
             samples,

@@ -238,7 +238,7 @@ fn is_quiet(sorted: &[f32; WINDOW], k: usize, rising: bool, p: f32) -> bool
 }
 
 // A sample of power p stands out from the mean of the first k powers. `rising`: it is known that the
-// powers ascend from 0 on.
+// powers ascend from 0 on. The list comes whole, because that speaks of all of it.
 pub fn is_flagged(sorted: &[f32; WINDOW], k: usize, p: f32, rising: bool) -> bool
     requires kept { k < window_size }
     requires rising { rising ≡ true → Rising 0 sorted.now }

@@ -55,7 +55,8 @@ fn correct_each(rho: Complex64, samples: &mut [u64])
     }
 }
 
-// A coefficient within 2 gives a number of every finite sample.
+// A coefficient within 2 gives a number of every finite sample. It is tested once for a slice; a type for it would be
+// made there and read in one place.
 fn is_small(rho: Complex64) -> bool
     ensures { result ≡ (ranged (neg two) two rho.re && ranged (neg two) two rho.im) }
 {

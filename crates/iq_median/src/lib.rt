@@ -49,6 +49,7 @@ fn sink(part: &mut [f64], k: usize)
 pub fn sort_words(part: &mut [f64])
     ensures { part.new ≡ sort lt part.old }
 {
+    // from the end: each word sinks into those behind it
     for k in (0..part.len()).rev() {
         sink(part, k);
     }
@@ -74,7 +75,8 @@ fn is_plain(x: f64) -> bool
     f64::to_bits(x) < 0x8000_0000_0000_0000
 }
 
-// Whether all are: then their order is total. Those that are not are counted, with no branch in the loop.
+// Whether all are: then their order is total. Those that are not are counted, with no branch in the loop. The monitor's
+// test of its words is another: it asks no order, and of the powers alone this is asked.
 pub fn all_plain(part: &[f64]) -> bool
     ensures { (result ≡ all_of sign_clear part.now) × All (λ x. T (fits binary64 x)) part.now }
 {
@@ -247,6 +249,7 @@ fn least_above(part: &[f64], p: f64) -> f64
     ensures { result ≡ least_above p part.now }
 {
     let mut least: f64 = 0.0 / 0.0;
+    // by number, from the end: the definition compares each word with the least of those behind it
     for k in (0..part.len()).rev() {
         let x = part[k];
         if p < x && !(least < x) {

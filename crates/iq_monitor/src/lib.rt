@@ -143,6 +143,7 @@ fn add_hop(words: &mut [f64], x: &[u64])
 {
     add_channel(words, x, 0);
     let half = (x.len() + 1) / 2;
+    // by number: a channel and its mirror are two places
     for k in 1..half {
         add_pair(words, x, k);
     }
@@ -170,6 +171,7 @@ fn strongest_among(powers: &[f64], first: usize, from: usize, end: usize) -> usi
     ensures { (channel_at result ≡ strongest (length powers.now) (power_at powers.now) end) × (result < length powers.now) }
 {
     let mut best = first;
+    // by number, which the answer is
     for k in from..end {
         best = stronger(powers, best, k);
     }

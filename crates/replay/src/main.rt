@@ -211,6 +211,7 @@ fn replay(rt: &impl Input, text: &mut [u8]) -> io::Result<usize>
     Ok(write_played(played, &stores.spans, text))
 }
 
+// The text stands in front of its store.
 fn print(rt: &(impl Print + Eprint), text: &[u8], size: usize)
     requires { size ≤ length text.now }
 {

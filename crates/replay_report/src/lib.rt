@@ -1,4 +1,4 @@
-// The report of a state, put into a lent store of bytes.
+// The report of a state, put into a lent store of bytes. A stage and a mark together name a ring.
 #![tactic(auto)]
 
 ghost use Rattle.std.specs.Prelude.{◌≡◌, min, length};

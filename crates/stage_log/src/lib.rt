@@ -199,7 +199,8 @@ impl Ring {
     }
 }
 
-// Whether the newest span ends at start.
+// Whether the newest span ends at start. Ring, words and capacity go together here and below: the words are a part of
+// the lent store, which a struct would have to hold.
 fn joins_newest(ring: Ring, words: &[u64], capacity: usize, start: u64) -> bool
     requires { Open 2 capacity (ring_in ring words.now) }
     ensures { result ≡ joins capacity (ring_in ring words.now) start }

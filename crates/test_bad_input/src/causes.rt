@@ -71,9 +71,10 @@ fn say_call(rt: &impl Print, number: u64, ready: u64) -> io::Result<()> {
     say(rt, number)
 }
 
-fn say_hop(rt: &impl Print, number: u64) -> io::Result<()> {
+// The answer, or these words where it was accepted.
+fn say_or(rt: &impl Print, number: u64, accepted: &[u8]) -> io::Result<()> {
     if number == ACCEPTED {
-        return rt.write_all(b"no report");
+        return rt.write_all(accepted);
     }
     say(rt, number)
 }
@@ -90,22 +91,15 @@ fn show_call(rt: &impl Print, b: Bench) -> io::Result<()> {
 fn show_hop(rt: &impl Print, b: Bench) -> io::Result<()> {
     let t = hop(b, [ONE; 64], 8, 100, asked());
     rt.write_all(b", hop ")?;
-    say_hop(rt, t.number)?;
+    say_or(rt, t.number, b"no report")?;
     say_changed(rt, t)
-}
-
-fn say_undo(rt: &impl Print, number: u64) -> io::Result<()> {
-    if number == ACCEPTED {
-        return rt.write_all(b"restored");
-    }
-    say(rt, number)
 }
 
 // Over 64 samples (1, 0).
 fn show_undo(rt: &impl Print, b: Bench) -> io::Result<()> {
     let t = undo(b, [ONE; 64], asked());
     rt.write_all(b", undo ")?;
-    say_undo(rt, t.number)?;
+    say_or(rt, t.number, b"restored")?;
     say_changed(rt, t)
 }
 

@@ -65,7 +65,7 @@ fn turn(b: Bench, seed: u64, f: u64) -> Tried {
 
 // ---- all turns
 
-// Where the counts of an operation begin. Undo is not counted.
+// Where the counts of an operation begin. No turn undoes, so undo has none.
 fn first(op: Operation) -> usize
     ensures { result ≤ 384 }
 {

@@ -153,6 +153,7 @@ fn main(rt: HostRuntime) -> io::Result<()> {
     let mut spans = [0u64; SPAN_WORDS];
     let mut repairs = [0u64; REPAIR_WORDS];
     let mut monitor = [0.0f64; MONITOR_WORDS];
+    // the input ends long before
     for _ in 0..u64::MAX {
         if !turn(&rt, &mut state, &mut spans, &mut repairs, &mut monitor)? {
             break;
