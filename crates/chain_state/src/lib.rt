@@ -148,6 +148,7 @@ fn blocker_fits(b: DcBlocker) -> bool
         && amplitude_limit::is_limited(b.dc.im)
 }
 
+// By the cases, as its definition.
 fn coefficient_fits(iq: Iq) -> bool
     ensures { result ≡ coefficient_fits (settled_of iq) }
 {

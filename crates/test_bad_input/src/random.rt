@@ -100,6 +100,7 @@ fn run(counts: &mut [u64; COUNTS]) {
 
 // ---- the counts
 
+// Printed here alone, in the words of this table.
 fn print_operation(rt: &impl Print, op: Operation) -> io::Result<()> {
     match op {
         Operation::Making => rt.write_all(b"making "),
