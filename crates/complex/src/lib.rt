@@ -162,6 +162,7 @@ impl Complex64 {
     }
 
     // Each part rounded to f32, and the word of that.
+    #[inline(always)]
     pub fn rounded(self) -> Single
         ensures { result ≡ single_of (view64 self) }
     {

@@ -205,6 +205,8 @@ pub fn rounded(x: f64) -> Single
     round_any(x)
 }
 
+// A function of its own, so that `rounded_both` is small and stands in the loops that call it.
+#[inline(never)]
 fn round_each(x: f64, y: f64) -> Singles
     ensures { RoundedBoth x y result }
 {
@@ -216,6 +218,7 @@ fn round_each(x: f64, y: f64) -> Singles
 
 // x and y, each rounded to f32. What `round_each` gives is copied: so the usual way through needs
 // no memory.
+#[inline(always)]
 pub fn rounded_both(x: f64, y: f64) -> Singles
     ensures { RoundedBoth x y result }
 {
