@@ -188,9 +188,10 @@ fn write_played(played: Result<Option<Playing>, Refusal>, spans: &[u64], text: &
     }
 }
 
-// Reads and plays the recording, and puts what is to be printed into the text. Where a read fails, the text
-// stays.
+// Reads and plays the recording, and puts what is to be printed into the text, which holds every report
+// (`report_whole`). Where a read fails, the text stays.
 fn replay(rt: &impl Input, text: &mut [u8]) -> io::Result<usize>
+    requires whole { 262144 ≤ length text.old }
     ensures length { IfOk result (λ size. size ≤ length text.old) }
     ensures failed { OnErr result (text.new ≡ text.old) }
 {
