@@ -305,6 +305,16 @@ fn selected_floor(powers: &[f64], spare: &mut [f64]) -> f64
     (p + q) * 0.5
 }
 
+// The powers, over the spare words. By a loop: `copy_from_slice` calls `memmove`, which the C library does not need otherwise.
+fn copy_powers(powers: &[f64], spare: &mut [f64])
+    requires { length spare.old ≡ length powers.now }
+    ensures { spare.new ≡ powers.now }
+{
+    for (k, w) in spare.iter_mut().enumerate() {
+        *w = powers[k];
+    }
+}
+
 // The order of powers is total unless there is a NaN or a set sign bit.
 pub fn floor_power(words: &mut [f64], n: usize) -> f64
     requires store { length words.old ≡ channel_width * n }
@@ -315,7 +325,7 @@ pub fn floor_power(words: &mut [f64], n: usize) -> f64
     let (powers, rest) = words.split_at_mut(n);
     let from = 2 * n;
     let spare = &mut rest[from..];
-    spare.copy_from_slice(powers);
+    copy_powers(powers, spare);
     if all_plain(powers) {
         return selected_floor(powers, spare);
     }
