@@ -1,5 +1,5 @@
 // What the stages marked: twelve rings of spans in one lent store, and a ring of repairs in another. A
-// ring's numbers go by value; its words are a part of the store that is lent on.
+// ring's numbers are changed in place; its words are a part of the store that is lent on.
 #![tactic(auto)]
 
 ghost use Rattle.std.specs.Prelude.{◌≡◌, true, List, [], ◌∷◌, ℕ, ◌+◌, ◌-◌, ◌*◌, ◌%◌, ◌<◌, ◌^◌, length, get_or};
