@@ -305,7 +305,8 @@ fn selected_floor(powers: &[f64], spare: &mut [f64]) -> f64
     (p + q) * 0.5
 }
 
-// The powers, over the spare words. By a loop: `copy_from_slice` calls `memmove`, which the C library does not need otherwise.
+// The powers, over the spare words. By a loop: `copy_from_slice` makes it a call of `memmove` here, and the C library is to
+// need `memcpy` and `memset` alone. By number: over `zip` with `iter_mut` a proof knows no element.
 fn copy_powers(powers: &[f64], spare: &mut [f64])
     requires { length spare.old ≡ length powers.now }
     ensures { spare.new ≡ powers.now }
